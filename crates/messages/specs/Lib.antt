@@ -1,0 +1,6 @@
+-- What the contracts of `messages` cite. Assumes nothing: these are definitions.
+pub mod Words
+pub mod Reading
+pub mod Message
+pub mod ReadMessage
+pub mod Spelling

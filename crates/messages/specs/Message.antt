@@ -1,0 +1,56 @@
+-- Messages (document 01, "The script and its messages"): what they are, their items, what a name is, and substitution.
+-- Assumes nothing: these are definitions.
+use Prim.Native.Nat.{ℕ}
+use mathlib.Core.Bool.{Bool, true, false, cond}
+use mathlib.Core.List.{List, [], _∷_, _++_}
+use mathlib.Core.Option.{Option, none, some}
+use lib.Dec.{eqb}
+
+-- NAME, VAR with the index of its REC, IN, EXIT and OPEN of a message, EMPTY, PATH of two
+pub data Message : Type 0 where
+  name : ℕ → Message
+  variable : ℕ → Message
+  enter exit opens : Message → Message
+  empty : Message
+  path : Message → Message → Message
+
+-- "A message's leaves are what remains when its PATHs are opened; the inside of A, B, C isn't opened. Leaves apart from
+-- EMPTY are its items."
+unfoldable pub items : Message → List Message
+items (name n) = name n ∷ []
+items (variable v) = variable v ∷ []
+items (enter m) = enter m ∷ []
+items (exit m) = exit m ∷ []
+items (opens m) = opens m ∷ []
+items empty = []
+items (path m k) = items m ++ items k
+
+-- "A message is a name only if it is one NAME word". Everything that asks for a name asks it here.
+unfoldable pub nameOf : Message → Option ℕ
+nameOf (name n) = some n
+nameOf (variable v) = none
+nameOf (enter m) = none
+nameOf (exit m) = none
+nameOf (opens m) = none
+nameOf empty = none
+nameOf (path m k) = none
+
+-- "each of its VARs becomes the whole message": r for each variable v
+unfoldable pub substitute : (v : ℕ) → Message → Message → Message
+substitute v r (name n) = name n
+substitute v r (variable u) = cond (eqb u v) r (variable u)
+substitute v r (enter m) = enter (substitute v r m)
+substitute v r (exit m) = exit (substitute v r m)
+substitute v r (opens m) = opens (substitute v r m)
+substitute v r empty = empty
+substitute v r (path m k) = path (substitute v r m) (substitute v r k)
+
+-- "(where it is itself an item of an action, the message's items)": an action's items with r for each variable v
+unfoldable pub substituteItems : (v : ℕ) → Message → List Message → List Message
+substituteItems v r [] = []
+substituteItems v r (m ∷ ms) = items (substitute v r m) ++ substituteItems v r ms
+
+-- To unfold this is to unfold every definition of this module: for a proof by computation.
+unfoldable pub computing : Unit {0}
+unfolding items nameOf substitute substituteItems
+computing = tt

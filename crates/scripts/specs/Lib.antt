@@ -1,0 +1,6 @@
+-- What the contracts of `scripts` cite. Assumes nothing: these are definitions.
+pub mod Tree
+pub mod Script
+pub mod Table
+pub mod Measures
+pub mod Examples
