@@ -2,5 +2,6 @@
 pub mod Tree
 pub mod Script
 pub mod Table
+pub mod Represents
 pub mod Measures
 pub mod Examples

@@ -1,0 +1,217 @@
+-- The part table holds the tree that the words are read as. First the table alone, by the numbers of the parts; then
+-- what reading gives: the parts are numbered in word order, and their messages are those that the words spell.
+-- Assumes nothing.
+use Prim.Native.Nat.{ℕ, zero, suc, _+_, _-_, _≤_, _<_}
+use mathlib.Core.Bool.{Bool, true, false, cond, _||_}
+use mathlib.Core.List.{List, [], _∷_, _++_, append-assoc, append-nil}
+use mathlib.Core.Path.{_≡_, refl, sym, ap, ap₂, _∙_, subst}
+use mathlib.Core.Logic.{_⊎_, inl, inr, ⊎-elim}
+use native.Mathlib.Omega.{arith}
+use lib.ListN.{length, getD, set, drop, replicate, length-set, length-replicate, getD-replicate}
+use lib.Seq.{getD-set-same, getD-set-other}
+use lib.Dec.{eqb, ltb}
+use borrow.Author.Tests.{eq-eqb, ne-eqb, lt-ltb, le-ltb}
+use Rattle.sets.specs.Sets.{members, insert, mask, Rising, Below}
+use Rattle.sets.proofs.Members.{members-rising, members-below, members-empty}
+use Rattle.sets.proofs.Lists.{members-mask, insert-rising}
+use Rattle.messages.specs.Message.{Message}
+use Rattle.scripts.specs.Tree.{Head, ambient, action, receipt, output, Body, close, part, tops, sum, parts, mapHeads, kindNumber}
+use Rattle.scripts.specs.Script.{Written, Script}
+use Rattle.scripts.specs.Table.{vacant, entered, startOf, startBy, tabulate}
+use Rattle.scripts.specs.Represents.{Numbered, Held, bodyIn, headAt, headIn, written, Tabled}
+use Rattle.scripts.specs.declared.Table.{Table}
+
+-- ---- a number above all others of a rising list is inserted at its end
+
+insert-last : (n : ℕ) (l : List ℕ) → Below n l → insert n l ≡ l ++ (n ∷ [])
+unfolding insert
+insert-last n [] b = refl
+insert-last n (x ∷ l) b =
+    rw (le-ltb n x (omega (arith, b .0)), ne-eqb n x (λ e. omega (arith, b .0))) (ap (λ (k : List ℕ). x ∷ k) (insert-last n l (b .1)))
+
+below-more : (n m : ℕ) (l : List ℕ) → n ≤ m → Below n l → Below m l
+below-more n m [] h b = tt
+below-more n m (x ∷ l) h b = (omega (arith, b .0), below-more n m l h (b .1))
+
+below-append : (n : ℕ) (l k : List ℕ) → Below n l → Below n k → Below n (l ++ k)
+below-append n [] k a b = b
+below-append n (x ∷ l) k a b = (a .0, below-append n l k (a .1) b)
+
+-- ---- trees with other heads
+
+module _ {G H : Type 0} (f : G → H) where
+  tops-map : (b : Body G) → tops (mapHeads f b) ≡ tops b
+  unfolding tops mapHeads
+  tops-map close = refl
+  tops-map (part i h b r) = ap (λ (l : List ℕ). i ∷ l) (tops-map r)
+
+  parts-map : (b : Body G) → parts (mapHeads f b) ≡ parts b
+  unfolding sum mapHeads
+  parts-map close = refl
+  parts-map (part i h b r) = rw (parts-map b, parts-map r)
+
+-- bodies and heads that agree at a tree's numbers hold the same tree
+module _ {G H : Type 0} (f : G → H) (k k′ : ℕ → List ℕ) (w w′ : ℕ → H) where
+  held-frame : (n : ℕ) (b : Body G) → Numbered n b
+      → ((j : ℕ) → n ≤ j → j < n + parts b → k j ≡ k′ j) → ((j : ℕ) → n ≤ j → j < n + parts b → w j ≡ w′ j)
+      → Held k w (mapHeads f b) → Held k′ w′ (mapHeads f b)
+  unfolding sum mapHeads
+  held-frame n close N K W h = tt
+  held-frame n (part i g b r) N K W h =
+      let e : i ≡ n = N .0 in
+      ( sym (K i (omega arith) (omega arith)) ∙ h .0
+      , sym (W i (omega arith) (omega arith)) ∙ h .1
+      , held-frame (n + 1) b (N .1) (λ j a z. K j (omega arith) (omega arith)) (λ j a z. W j (omega arith) (omega arith)) (h .2)
+      , held-frame (n + 1 + parts b) r (N .2) (λ j a z. K j (omega arith) (omega arith)) (λ j a z. W j (omega arith) (omega arith)) (h .3)
+      )
+
+-- ---- the table
+
+-- the arrays have their lengths, and no part from `count` on has a body yet
+record Room (t : Table) : Type 0 where
+  kinds-length : length (t .kinds) ≡ 64
+  starts-length : length (t .starts) ≡ 64
+  kids-length : length (t .kids) ≡ 65
+  fresh : (j : ℕ) → t .count ≤ j → j < 64 → bodyIn (t .kids) j ≡ []
+
+-- the parts n to m - 1 were written to t, with o as the owner of the first ones: what else u has is what t has
+record Wrote (o n m : ℕ) (t u : Table) : Type 0 where
+  counts : u .count ≡ m
+  room : Room u
+  kinds-kept : (j : ℕ) → j < n → getD (u .kinds) j 0 ≡ getD (t .kinds) j 0
+  starts-kept : (j : ℕ) → j < n → getD (u .starts) j 0 ≡ getD (t .starts) j 0
+  kids-kept : (j : ℕ) → (j ≡ o → ⊥) → (j < n) ⊎ (m ≤ j) → getD (u .kids) j 0 ≡ getD (t .kids) j 0
+
+-- an owner: a part with a smaller number, or 64 for the script's own body
+record Owner (o n : ℕ) : Type 0 where
+  inside : o < 65
+  smaller : (o < n) ⊎ (64 ≤ o)
+
+other : (o n j : ℕ) → Owner o n → n ≤ j → j < 64 → j ≡ o → ⊥
+other o n j w a b e = ⊎-elim (λ h. omega arith) (λ h. omega arith) (w .smaller)
+
+owner-more : (o n m : ℕ) → n ≤ m → Owner o n → Owner o m
+owner-more o n m h w = record { inside = w .inside; smaller = ⊎-elim (λ a. inl (omega arith)) (λ a. inr a) (w .smaller) }
+
+insert-members : (n m : ℕ) → n < 64 → Below n (members m) → members (mask (insert n (members m))) ≡ members m ++ (n ∷ [])
+insert-members n m l b =
+    members-mask (insert n (members m)) (insert-rising 0 n (members m) (omega arith) (members-rising m))
+    (rw (insert-last n (members m) b) (below-append 64 (members m) (n ∷ []) (members-below m) (l, tt)))
+    ∙ insert-last n (members m) b
+
+-- one part more
+module _ (o k s : ℕ) (t : Table) (R : Room t) (W : Owner o (t .count)) (l : t .count < 64) where
+  entered-is : entered o k s t ≡ record {
+    kinds = set (t .kinds) (t .count) k;
+    starts = set (t .starts) (t .count) s;
+    kids = set (t .kids) o (mask (insert (t .count) (members (getD (t .kids) o 0))));
+    count = t .count + 1;
+  }
+  unfolding entered
+  entered-is = rw (lt-ltb (t .count) 64 l)
+
+  entered-kind : getD (entered o k s t .kinds) (t .count) 0 ≡ k
+  entered-kind = rw entered-is (getD-set-same (t .kinds) (t .count) k 0 (omega (arith, R .kinds-length)))
+
+  entered-start : getD (entered o k s t .starts) (t .count) 0 ≡ s
+  entered-start = rw entered-is (getD-set-same (t .starts) (t .count) s 0 (omega (arith, R .starts-length)))
+
+  entered-own : Below (t .count) (bodyIn (t .kids) o) → bodyIn (entered o k s t .kids) o ≡ bodyIn (t .kids) o ++ (t .count ∷ [])
+  entered-own B =
+      rw entered-is
+      (ap members (getD-set-same (t .kids) o (mask (insert (t .count) (members (getD (t .kids) o 0)))) 0 (omega (arith, R .kids-length, W .inside)))
+      ∙ insert-members (t .count) (getD (t .kids) o 0) l B)
+
+  entered-kids : (j : ℕ) → (j ≡ o → ⊥) → getD (entered o k s t .kids) j 0 ≡ getD (t .kids) j 0
+  entered-kids j n = rw entered-is (getD-set-other (t .kids) o j _ 0 n)
+
+  entered-wrote : Wrote o (t .count) (t .count + 1) t (entered o k s t)
+  entered-wrote = record {
+    counts = rw entered-is;
+    room = record {
+      kinds-length = rw entered-is (length-set (t .kinds) (t .count) k ∙ R .kinds-length);
+      starts-length = rw entered-is (length-set (t .starts) (t .count) s ∙ R .starts-length);
+      kids-length = rw entered-is (length-set (t .kids) o _ ∙ R .kids-length);
+      fresh = λ j a b. ap members (entered-kids j (other o (t .count) j W (let c : entered o k s t .count ≡ t .count + 1 = rw entered-is in omega arith) b)) ∙ R .fresh j (let c : entered o k s t .count ≡ t .count + 1 = rw entered-is in omega arith) b;
+    };
+    kinds-kept = λ j a. rw entered-is (getD-set-other (t .kinds) (t .count) j k 0 (λ e. omega arith));
+    starts-kept = λ j a. rw entered-is (getD-set-other (t .starts) (t .count) j s 0 (λ e. omega arith));
+    kids-kept = λ j n a. entered-kids j n;
+  }
+
+-- the parts' heads are those that the words say at their places
+abbrev pub Placed : (script : List ℕ) → Script → Type 0
+Placed ws close = Unit {0}
+Placed ws (part i w b r) = (headAt ws (kindNumber (w .head)) (startOf w) ≡ w .head) × Placed ws b × Placed ws r
+
+-- what a table holds after a body's parts
+record Filled (ws : List ℕ) (o : ℕ) (b : Script) (t u : Table) : Type 0 where
+  wrote : Wrote o (t .count) (t .count + parts b) t u
+  own : bodyIn (u .kids) o ≡ bodyIn (t .kids) o ++ tops b
+  held : Held (bodyIn (u .kids)) (headIn ws (u .kinds) (u .starts)) (written b)
+
+module _ (ws : List ℕ) where
+  filled : (o : ℕ) (b : Script) (t : Table) → Numbered (t .count) b → Placed ws b → t .count + parts b ≤ 64
+      → Room t → Owner o (t .count) → Below (t .count) (bodyIn (t .kids) o) → Filled ws o b t (tabulate o b t)
+  unfolding tabulate sum tops mapHeads
+  filled o close t N P l R W B = record {
+    wrote = record { counts = omega arith; room = R; kinds-kept = λ j a. refl; starts-kept = λ j a. refl; kids-kept = λ j n a. refl };
+    own = sym (append-nil (bodyIn (t .kids) o));
+    held = tt;
+  }
+  filled o (part i w b r) t N P l R W B =
+      let e : i ≡ t .count = N .0 in
+      let t₁ = entered o (kindNumber (w .head)) (startOf w) t in
+      let E = entered-wrote o (kindNumber (w .head)) (startOf w) t R W (omega arith) in
+      let c₁ : t₁ .count ≡ t .count + 1 = E .counts in
+      let x : Owner i (t₁ .count) = record { inside = omega arith; smaller = inl (omega arith) } in
+      let n : bodyIn (t₁ .kids) i ≡ [] = ap members (entered-kids o (kindNumber (w .head)) (startOf w) t R W (omega arith) i (other o (t .count) i W (omega arith) (omega arith))) ∙ R .fresh i (omega arith) (omega arith) in
+      let F = filled i b t₁ (rw c₁ (N .1)) (P .1) (omega arith) (E .room) x (rw n tt) in
+      let t₂ = tabulate i b t₁ in
+      let c₂ : t₂ .count ≡ t .count + 1 + parts b = F .wrote .counts ∙ ap (λ (z : ℕ). z + parts b) c₁ in
+      let own₁ : bodyIn (t₁ .kids) o ≡ bodyIn (t .kids) o ++ (i ∷ []) = entered-own o (kindNumber (w .head)) (startOf w) t R W (omega arith) B ∙ rw e in
+      let own₂ : bodyIn (t₂ .kids) o ≡ bodyIn (t .kids) o ++ (i ∷ []) = ap members (F .wrote .kids-kept o (λ z. other o (t .count) i W (omega arith) (omega arith) (sym z)) (⊎-elim (λ a. inl (omega arith)) (λ a. inr (omega arith)) (W .smaller))) ∙ own₁ in
+      let G = filled o r t₂ (rw c₂ (N .2)) (P .2) (omega arith) (F .wrote .room) (owner-more o (t .count) (t₂ .count) (omega arith) W) (rw own₂ (below-append (t₂ .count) (bodyIn (t .kids) o) (i ∷ []) (below-more (t .count) (t₂ .count) (bodyIn (t .kids) o) (omega arith) B) (omega arith, tt))) in
+      let u = tabulate o r t₂ in
+      let i-kind : getD (u .kinds) i 0 ≡ kindNumber (w .head) = G .wrote .kinds-kept i (omega arith) ∙ F .wrote .kinds-kept i (omega arith) ∙ rw e (entered-kind o (kindNumber (w .head)) (startOf w) t R W (omega arith)) in
+      let i-start : getD (u .starts) i 0 ≡ startOf w = G .wrote .starts-kept i (omega arith) ∙ F .wrote .starts-kept i (omega arith) ∙ rw e (entered-start o (kindNumber (w .head)) (startOf w) t R W (omega arith)) in
+      let i-body : bodyIn (u .kids) i ≡ tops b = ap members (G .wrote .kids-kept i (other o (t .count) i W (omega arith) (omega arith)) (inl (omega arith))) ∙ F .own ∙ ap (λ (l : List ℕ). l ++ tops b) n in
+      record {
+        wrote = record {
+          counts = G .wrote .counts ∙ (let z : t₂ .count + parts r ≡ t .count + (1 + (parts b + parts r)) = omega arith in z);
+          room = G .wrote .room;
+          kinds-kept = λ j a. G .wrote .kinds-kept j (omega arith) ∙ F .wrote .kinds-kept j (omega arith) ∙ E .kinds-kept j a;
+          starts-kept = λ j a. G .wrote .starts-kept j (omega arith) ∙ F .wrote .starts-kept j (omega arith) ∙ E .starts-kept j a;
+          kids-kept = λ j d a.
+            G .wrote .kids-kept j d (⊎-elim (λ z. inl (omega arith)) (λ z. inr (omega arith)) a)
+            ∙ F .wrote .kids-kept j (λ y. ⊎-elim (λ z. omega arith) (λ z. omega arith) a) (⊎-elim (λ z. inl (omega arith)) (λ z. inr (omega arith)) a)
+            ∙ E .kids-kept j d (⊎-elim (λ z. inl z) (λ z. inr (omega arith)) a);
+        };
+        own = G .own ∙ ap (λ (l : List ℕ). l ++ tops r) own₂ ∙ append-assoc (bodyIn (t .kids) o) (i ∷ []) (tops r);
+        held =
+          ( i-body ∙ sym (tops-map (λ w. w .head) b)
+          , ap₂ (headAt ws) i-kind i-start ∙ P .0
+          , held-frame (λ w. w .head) (bodyIn (t₂ .kids)) (bodyIn (u .kids)) (headIn ws (t₂ .kinds) (t₂ .starts)) (headIn ws (u .kinds) (u .starts)) (t .count + 1) b (N .1)
+            (λ j a z. sym (ap members (G .wrote .kids-kept j (other o (t .count) j W (omega arith) (omega arith)) (inl (omega arith)))))
+            (λ j a z. sym (ap₂ (headAt ws) (G .wrote .kinds-kept j (omega arith)) (G .wrote .starts-kept j (omega arith))))
+            (F .held)
+          , G .held
+          );
+      }
+
+  -- the table of a script whose parts are numbered from 0 and stand where the words say
+  pub tabled : (b : Script) → Numbered 0 b → Placed ws b → parts b ≤ 64 → Tabled ws (tabulate 64 b vacant) b
+  tabled b N P l =
+      let none : (j : ℕ) → j < 65 → bodyIn (vacant .kids) j ≡ [] = λ j a. ap members (getD-replicate 65 j 0 0 a) ∙ members-empty in
+      let top : bodyIn (vacant .kids) 64 ≡ [] = none 64 (omega arith) in
+      let F = filled 64 b vacant N P (omega arith)
+        (record { kinds-length = length-replicate 64 0; starts-length = length-replicate 64 0; kids-length = length-replicate 65 0; fresh = λ j a z. none j (omega arith) })
+        (record { inside = omega arith; smaller = inr (omega arith) })
+        (rw top tt) in
+      record {
+        few = omega (arith, F .wrote .counts);
+        counted = F .wrote .counts ∙ (let z : 0 + parts b ≡ parts b = omega arith in z);
+        numbered = N;
+        top = F .own ∙ ap (λ (m : List ℕ). m ++ tops b) top;
+        held = F .held;
+      }
