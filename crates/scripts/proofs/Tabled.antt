@@ -189,7 +189,7 @@ module _ (ws : List ℕ) where
         };
         own = G .own ∙ ap (λ (l : List ℕ). l ++ tops r) own₂ ∙ append-assoc (bodyIn (t .kids) o) (i ∷ []) (tops r);
         held =
-          ( i-body ∙ sym (tops-map (λ w. w .head) b)
+          ( rw (tops-map (λ (w : Written). w .head) b) i-body
           , ap₂ (headAt ws) i-kind i-start ∙ P .0
           , held-frame (λ w. w .head) (bodyIn (t₂ .kids)) (bodyIn (u .kids)) (headIn ws (t₂ .kinds) (t₂ .starts)) (headIn ws (u .kinds) (u .starts)) (t .count + 1) b (N .1)
             (λ j a z. sym (ap members (G .wrote .kids-kept j (other o (t .count) j W (omega arith) (omega arith)) (inl (omega arith)))))
@@ -205,7 +205,7 @@ module _ (ws : List ℕ) where
       let none : (j : ℕ) → j < 65 → bodyIn (vacant .kids) j ≡ [] = λ j a. ap members (getD-replicate 65 j 0 0 a) ∙ members-empty in
       let top : bodyIn (vacant .kids) 64 ≡ [] = none 64 (omega arith) in
       let F = filled 64 b vacant N P (omega arith)
-        (record { kinds-length = length-replicate 64 0; starts-length = length-replicate 64 0; kids-length = length-replicate 65 0; fresh = λ j a z. none j (omega arith) })
+        (record { kinds-length = length-replicate {A = ℕ} 64 0; starts-length = length-replicate {A = ℕ} 64 0; kids-length = length-replicate {A = ℕ} 65 0; fresh = λ j a z. none j (omega arith) })
         (record { inside = omega arith; smaller = inr (omega arith) })
         (rw top tt) in
       record {
