@@ -1,2 +1,3 @@
 -- The laws of `messages` that its own proofs and the crates above cite.
 pub mod Readings
+pub mod Tails
