@@ -19,7 +19,7 @@ use Rattle.messages.specs.declared.Asked.the-variants.{Leaf, One, Two, N
 use Rattle.messages.specs.declared.Outcome.{Outcome}
 use Rattle.messages.specs.declared.Outcome.the-variants.{Read, Refused}
 use Rattle.messages.proofs.Readings.{refuse≢got, got-inj, bind-all, got-all, bind-cong, bind-got, bind-refuse, Advances, stands, advances-on, Next, next, next-advances, next-shorter, advances-shorter, next-end}
-use Rattle.messages.proofs.Tails.{no-element, first, part, part-drop}
+use Rattle.messages.proofs.Tails.{no-element, first, part, part-drop, length-part}
 
 -- What holds where a message was read: more fields may come.
 pub record MessageRead (around : List ℕ) (c : Cursor) (p : Message × Cursor) : Type 0 where
@@ -205,55 +205,89 @@ level-told nest true true true (No q) e = tt
 level-told nest true true true One e = leb-true nest 64 e
 level-told nest true true true Two e = leb-true nest 64 e
 
-module _ (s : List ℕ) (at nest : ℕ) (around : List ℕ) (a : Asked) (ea : a ≡ asked nest around (messageWord (getD s 0 0))) where
-  pub level : (b : Asked) → a ≡ b → Level nest b
-  unfolding asked
-  level b e = subst (Level nest) (sym ea ∙ e) (level-told nest (fits (messageWord (getD s 0 0))) (bound around (messageWord (getD s 0 0))) (leb nest 64) (follow (messageWord (getD s 0 0))) refl)
+-- where the questions 2, 3 and 4 were asked of the first word, and what they said
+pub record First : Type 0 where
+  pub words : List ℕ
+  pub at : ℕ
+  pub nest : ℕ
+  pub around : List ℕ
+  pub answer : Asked
+  pub answers : answer ≡ asked nest around (messageWord (getD words 0 0))
+  pub some : 0 < length words
 
-  module _ (number : ℕ) (h : 0 < length s) where
-    -- the cursor behind the first word
+module _ (x : First) where
+  pub level : (b : Asked) → x .answer ≡ b → Level (x .nest) b
+  unfolding asked
+  level b e =
+      let m : MessageWord = messageWord (getD (x .words) 0 0) in
+      subst (Level (x .nest)) (sym (x .answers) ∙ e) (level-told (x .nest) (fits m) (bound (x .around) m) (leb (x .nest) 64) (follow m) refl)
+
+  module _ (number : ℕ) where
+    -- the cursor at the first word, and the one behind it
+    abbrev here : Cursor
+    here = cursor (x .at) number (x .words)
+
     abbrev second : Cursor
-    second = cursor (suc at) number (drop 1 s)
+    second = cursor (suc (x .at)) number (drop 1 (x .words))
 
     abbrev reader : Cursor → Reading (Message × Cursor)
-    reader = readMessage (length (drop 1 s)) (suc nest) around
+    reader = readMessage (length (drop 1 (x .words))) (suc (x .nest)) (x .around)
 
-    arm : (b : Asked) → a ≡ b → counted b at reader second ≡ readOf s at nest around number
+    abbrev pub whole : Outcome
+    whole = readOf (x .words) (x .at) (x .nest) (x .around) number
+
+    -- the outcome of the message that begins at the index n of the words, one level further in
+    abbrev pub further : ℕ → Outcome
+    further n = readOf (part (x .words) (n - x .at)) n (x .nest + 1) (x .around) number
+
+    arm : (b : Asked) → x .answer ≡ b → counted b (x .at) reader second ≡ whole
     arm b e =
-        sym (ap (λ (l : List ℕ). readOf l at nest around number) (first s h)
-        ∙ step (length (drop 1 s)) nest around at number (getD s 0 0) (drop 1 s)
-        ∙ ap (λ (x : Asked). counted x at reader second) (sym ea ∙ e))
+        sym (ap (λ (l : List ℕ). readOf l (x .at) (x .nest) (x .around) number) (first (x .words) (x .some))
+        ∙ step (length (drop 1 (x .words))) (x .nest) (x .around) (x .at) number (getD (x .words) 0 0) (drop 1 (x .words))
+        ∙ ap (λ (a : Asked). counted a (x .at) reader second) (sym (x .answers) ∙ e))
 
     -- what was read inside is behind the first word
-    inside : (p : Message × Cursor) → reader second ≡ got p → MessageRead around (cursor at number s) p
+    inside : (p : Message × Cursor) → reader second ≡ got p → MessageRead (x .around) here p
     inside p e =
-        let m : MessageRead around second p = message-advances (length (drop 1 s)) (suc nest) around second p e in
-        read-behind around (cursor at number s) (getD s 0 0, second) p (record { words = first s h; index = refl; number = refl }) (behind around second p m)
+        read-behind (x .around) here (getD (x .words) 0 0, second) p (record { words = first (x .words) (x .some); index = refl; number = refl })
+        (behind (x .around) second p (message-advances (length (drop 1 (x .words))) (suc (x .nest)) (x .around) second p e))
 
-    pub no-read : (q : ℕ) → a ≡ No q → Refused q at ≡ readOf s at nest around number
+    pub no-read : (q : ℕ) → x .answer ≡ No q → Refused q (x .at) ≡ whole
     no-read q e = arm (No q) e
 
-    pub leaf-read : a ≡ Leaf → Read (at + 1) ≡ readOf s at nest around number
-    leaf-read e = rw (add-one at) (arm Leaf e)
+    pub leaf-read : x .answer ≡ Leaf → Read (x .at + 1) ≡ whole
+    leaf-read e = rw (add-one (x .at)) (arm Leaf e)
 
-    module _ (r : Outcome) (er : r ≡ readOf (part s 1) (at + 1) (nest + 1) around number) where
+    module _ (r : Outcome) (er : r ≡ readOf (part (x .words) 1) (x .at + 1) (x .nest + 1) (x .around) number) where
       read-second : r ≡ outcome (reader second)
-      read-second = rw (part-drop s 1, add-one at, add-one nest) at er
+      read-second = rw (part-drop (x .words) 1, add-one (x .at), add-one (x .nest)) at er
 
-      pub one-read : a ≡ One → r ≡ readOf s at nest around number
+      pub one-read : x .answer ≡ One → r ≡ whole
       one-read e = read-second ∙ arm One e
 
-      pub two-refused : a ≡ Two → (q i : ℕ) → r ≡ Refused q i → r ≡ readOf s at nest around number
+      pub two-refused : x .answer ≡ Two → (q i : ℕ) → r ≡ Refused q i → r ≡ whole
       two-refused e q i d = d ∙ sym (outcome-refused (reader second) _ q i (sym read-second ∙ d)) ∙ arm Two e
 
-      pub two-read : a ≡ Two → (n : ℕ) → r ≡ Read n → (r′ : Outcome) → r′ ≡ readOf (part s (n - at)) n (nest + 1) around number → r′ ≡ readOf s at nest around number
-      two-read e n d r′ er′ =
-          let (p, ep, en) = outcome-read (reader second) n (sym read-second ∙ d) in
-          let er″ : r′ ≡ readOf (drop (n - at) s) n (suc nest) around number = rw (part-drop s (n - at), add-one nest) at er′ in
-          er″ ∙ two-on p n en (inside p ep)
-          ∙ sym (ap (λ (x : Reading (Message × Cursor)). outcome x) (bind-got (reader second) (λ (p : Message × Cursor). reader (p .1)) p ep)) ∙ arm Two e
-        where
-          two-on : (p : Message × Cursor) (n : ℕ) → p .1 .index ≡ n → MessageRead around (cursor at number s) p → readOf (drop (n - at) s) n (suc nest) around number ≡ outcome (reader (p .1))
-          two-on p n en m =
-            let e : p .1 ≡ cursor n number (drop (n - at) s) = placed (p .1) n number _ en (m .number) (rw en at (m .advances .tail)) in
-            rw e (ap (λ (x : Reading (Message × Cursor)). outcome x) (message-fuel _ _ (suc nest) around (cursor n number (drop (n - at) s)) (omega arith) (omega (arith, length-drop 1 s, length-drop (n - at) s, m .ahead, en))))
+      module _ (n : ℕ) (d : r ≡ Read n) where
+        pub first-bounds : (x .at + 1 < n) × (n ≤ x .at + length (x .words))
+        first-bounds =
+            let b = read-bounds (part (x .words) 1) (x .at + 1) (x .nest + 1) (x .around) number r n er d in
+            let l = length-part (x .words) 1 in
+            let s = x .some in
+            (omega arith, omega arith)
+
+        -- the second message's reader stands where the first one's ended
+        two-on : (p : Message × Cursor) → p .1 .index ≡ n → MessageRead (x .around) here p → further n ≡ outcome (reader (p .1))
+        two-on p en m =
+            let e : p .1 ≡ cursor n number (drop (n - x .at) (x .words)) = placed (p .1) n number _ en (m .number) (rw en at (m .advances .tail)) in
+            rw (e, part-drop (x .words) (n - x .at), add-one (x .nest))
+            (ap (λ (y : Reading (Message × Cursor)). outcome y)
+            (message-fuel _ _ (suc (x .nest)) (x .around) (cursor n number (drop (n - x .at) (x .words))) (omega arith)
+            (omega (arith, length-drop 1 (x .words), length-drop (n - x .at) (x .words), first-bounds))))
+
+        pub two-read : x .answer ≡ Two → (r′ : Outcome) → r′ ≡ further n → r′ ≡ whole
+        two-read e r′ er′ =
+            let (p, ep, en) = outcome-read (reader second) n (sym read-second ∙ d) in
+            er′ ∙ two-on p en (inside p ep)
+            ∙ sym (ap (λ (y : Reading (Message × Cursor)). outcome y) (bind-got (reader second) (λ (p : Message × Cursor). reader (p .1)) p ep))
+            ∙ arm Two e
