@@ -1,8 +1,8 @@
 -- Laws of the reader of messages: where it stands when it has read one, that more fuel than words changes nothing, and
 -- the recurrence that the code meets. Assumes nothing.
 use Prim.Native.Nat.{ℕ, zero, suc, _+_, _-_, _≤_, _<_}
-use mathlib.Core.Bool.{Bool, true, false, cond}
-use mathlib.Core.List.{List, [], _∷_}
+use mathlib.Core.Bool.{Bool, true, false, cond, false≢true}
+use mathlib.Core.List.{List, _∷_}
 use mathlib.Core.Path.{_≡_, refl, sym, ap, _∙_, subst}
 use native.Mathlib.Omega.{arith}
 use native.Mathlib.Numerals.{add-one}
@@ -18,7 +18,7 @@ use Rattle.messages.specs.declared.Asked.{Asked}
 use Rattle.messages.specs.declared.Asked.the-variants.{Leaf, One, Two, No}
 use Rattle.messages.specs.declared.Outcome.{Outcome}
 use Rattle.messages.specs.declared.Outcome.the-variants.{Read, Refused}
-use Rattle.messages.proofs.Readings.{refuse≢got, got-inj, bind-all, got-all, bind-cong, bind-got, bind-refuse, Advances, stands, advances-on, Next, next, next-advances, next-shorter, advances-shorter, next-end}
+use Rattle.messages.proofs.Readings.{refuse≢got, bind-all, got-all, bind-cong, bind-got, bind-refuse, ask-inv, Advances, stands, advances-on, Next, next, next-advances, next-shorter, advances-shorter, next-end, placed, outcome-refused, outcome-read}
 use Rattle.messages.proofs.Tails.{no-element, first, part, part-drop, length-part}
 
 -- What holds where a message was read: more fields may come.
@@ -67,19 +67,35 @@ read-behind : (around : List ℕ) (c : Cursor) (q : ℕ × Cursor) (p : Message 
 read-behind around c q p n b = record {
   ahead = omega (arith, n .index, b .advances .ahead);
   advances = advances-on c (q .1) (p .1) (next-advances c q n) (b .advances);
-  number = b .number ∙ n .number
+  number = b .number ∙ n .number;
 }
+
+-- the questions that the first word of a message was asked, q being that word and the cursor behind it
+pub record Begins (nest : ℕ) (around : List ℕ) (c : Cursor) (q : ℕ × Cursor) : Type 0 where
+  pub next : Next c q
+  pub fit : fits (messageWord (q .0)) ≡ true
+  pub bounded : bound around (messageWord (q .0)) ≡ true
+  pub levelled : nest ≤ 64
+
+-- a claim about a message that was read, by what was read behind its first word
+pub message-all : (P : Message × Cursor → Type 0) (f nest : ℕ) (around : List ℕ) (c : Cursor) →
+    ((q : ℕ × Cursor) → Begins nest around c q → (p : Message × Cursor) → messageFrom (readMessage f (suc nest) around) (messageWord (q .0)) (q .1) ≡ got p → P p) →
+    (p : Message × Cursor) → readMessage (suc f) nest around c ≡ got p → P p
+unfolding readMessage
+message-all P f nest around c h =
+    bind-all P (nextWord 5 c) _
+    (λ q e₁. bind-all P (ask 2 (c .index) (fits (messageWord (q .0)))) _
+    (λ u e₂. bind-all P (ask 3 (c .index) (bound around (messageWord (q .0)))) _
+    (λ v e₃. bind-all P (ask 4 (c .index) (leb nest 64)) _
+    (λ w e₄. h q (record { next = next 5 c q e₁; fit = ask-inv 2 _ _ u e₂; bounded = ask-inv 3 _ _ v e₃; levelled = leb-true nest 64 (ask-inv 4 _ _ w e₄) })))))
 
 pub message-advances : (f nest : ℕ) (around : List ℕ) (c : Cursor) (p : Message × Cursor) → readMessage f nest around c ≡ got p → MessageRead around c p
 unfolding readMessage
 message-advances zero nest around c p e = refuse≢got e
 message-advances (suc f) nest around c p e =
-    bind-all (MessageRead around c) (nextWord 5 c) _
-    (λ q e₁. bind-all (MessageRead around c) (ask 2 (c .index) (fits (messageWord (q .0)))) _
-    (λ _ _. bind-all (MessageRead around c) (ask 3 (c .index) (bound around (messageWord (q .0)))) _
-    (λ _ _. bind-all (MessageRead around c) (ask 4 (c .index) (leb nest 64)) _
-    (λ _ _ r e₂. read-behind around c q r (next 5 c q e₁)
-    (from-behind around (readMessage f (suc nest) around) (message-advances f (suc nest) around) (messageWord (q .0)) (q .1) r e₂))))) p e
+    message-all (MessageRead around c) f nest around c
+    (λ q b r e₁. read-behind around c q r (b .next)
+    (from-behind around (readMessage f (suc nest) around) (message-advances f (suc nest) around) (messageWord (q .0)) (q .1) r e₁)) p e
 
 -- the readers r and s agree where at most n words are left
 abbrev Agree : ℕ → (r s : Cursor → Reading (Message × Cursor)) → Type 0
@@ -137,7 +153,7 @@ module _ (i : ℕ) (read : Cursor → Reading (Message × Cursor)) (c : Cursor) 
   from-counted Open e = forget opens (read c)
   from-counted Empty e = refl
   from-counted Path e = forget-two (read c)
-  from-counted Unfit e = absurd (let z : _≡_ {A = ℕ} 0 1 = cc in let w : ⊥ = omega arith in w)
+  from-counted Unfit e = absurd (false≢true e)
 
   questions : (t u v : Bool) (a : Asked) (x : Reading (Message × Cursor)) → (t ≡ true → outcome x ≡ counted a i read c) →
       outcome (ask 2 i t >>= λ _. ask 3 i u >>= λ _. ask 4 i v >>= λ _. x) ≡ counted (cond t (cond u (cond v a (No 4)) (No 3)) (No 2)) i read c
@@ -153,21 +169,7 @@ unfolding readMessage split asked
 step f nest around at number w ws =
     ap (λ (x : Reading (Message × Cursor)). outcome x) (bind-got (split 5 at number (w ∷ ws)) _ (w, cursor (suc at) number ws) refl)
     ∙ questions at (readMessage f (suc nest) around) (cursor (suc at) number ws) (fits (messageWord w)) (bound around (messageWord w)) (leb nest 64) (follow (messageWord w)) _
-      (from-counted at (readMessage f (suc nest) around) (cursor (suc at) number ws) (messageWord w))
-
--- a first reading that was refused, and one that was not
-outcome-refused : (x : Reading (Message × Cursor)) (k : Message × Cursor → Reading (Message × Cursor)) (q i : ℕ) → outcome x ≡ Refused q i → outcome (x >>= k) ≡ Refused q i
-unfolding _>>=_ outcome
-outcome-refused (refuse q′ i′) k q i e = e
-outcome-refused (got p) k q i e = absurd (let z : _≡_ {A = ℕ} 0 1 = cc in let w : ⊥ = omega arith in w)
-
-pub outcome-read : {A : Type 0} (x : Reading (A × Cursor)) (n : ℕ) → outcome x ≡ Read n → (p : A × Cursor) × (x ≡ got p) × (p .1 .index ≡ n)
-unfolding outcome
-outcome-read (refuse q i) n e = absurd (let z : _≡_ {A = ℕ} 0 1 = cc in let w : ⊥ = omega arith in w)
-outcome-read (got p) n e = (p, refl, cc)
-
-placed : (c : Cursor) (i n : ℕ) (l : List ℕ) → c .index ≡ i → c .number ≡ n → c .left ≡ l → c ≡ cursor i n l
-placed c i n l ei en el = rw (← ei, ← en, ← el)
+    (from-counted at (readMessage f (suc nest) around) (cursor (suc at) number ws) (messageWord w))
 
 -- the outcome for the words s, the first of which has the index `at`
 abbrev pub readOf : (s : List ℕ) (at nest : ℕ) (around : List ℕ) (number : ℕ) → Outcome

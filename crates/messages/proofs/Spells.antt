@@ -1,16 +1,16 @@
 -- A message that was read is the one that its words spell. Assumes nothing.
 use Prim.Native.Nat.{ℕ, zero, suc}
-use mathlib.Core.List.{List, [], _∷_}
-use mathlib.Core.Path.{_≡_, refl, sym, ap, _∙_}
-use lib.Dec.{leb}
+use mathlib.Core.List.{List, _∷_}
+use mathlib.Core.Path.{_≡_, refl, ap, _∙_}
 use lib.ListN.{drop}
-use Rattle.messages.specs.Reading.{Cursor, Reading, refuse, got, _>>=_, ask, nextWord}
+use Rattle.messages.specs.Reading.{Cursor, Reading, got, _>>=_}
 use Rattle.messages.specs.Message.{Message, name, variable, enter, exit, opens, empty, path}
-use Rattle.messages.specs.ReadMessage.{messageWord, fits, bound, messageFrom, readMessage}
+use Rattle.messages.specs.ReadMessage.{messageWord, messageFrom, readMessage}
 use Rattle.messages.specs.Spelling.{top, push, spelled, messageAt}
 use Rattle.messages.specs.declared.MessageWord.{MessageWord}
 use Rattle.messages.specs.declared.MessageWord.the-variants.{Name, Variable, Enter, Exit, Open, Empty, Path, Unfit}
-use Rattle.messages.proofs.Readings.{refuse≢got, bind-all, got-all, next}
+use Rattle.messages.proofs.Readings.{refuse≢got, bind-all, got-all}
+use Rattle.messages.proofs.Laws.{message-all}
 
 -- the row is the message that was read, and then what the words behind it spell
 abbrev Spells : List Message → Message × Cursor → Type 0
@@ -43,12 +43,9 @@ pub reads : (f nest : ℕ) (around : List ℕ) (c : Cursor) (p : Message × Curs
 unfolding readMessage spelled
 reads zero nest around c p e = refuse≢got e
 reads (suc f) nest around c p e =
-    bind-all (Spells (spelled (c .left))) (nextWord 5 c) _
-    (λ q e₁. bind-all (Spells (spelled (c .left))) (ask 2 (c .index) (fits (messageWord (q .0)))) _
-    (λ _ _. bind-all (Spells (spelled (c .left))) (ask 3 (c .index) (bound around (messageWord (q .0)))) _
-    (λ _ _. bind-all (Spells (spelled (c .left))) (ask 4 (c .index) (leb nest 64)) _
-    (λ _ _ r e₂. ap (λ (l : List ℕ). spelled l) (next 5 c q e₁ .words)
-    ∙ from-spells (readMessage f (suc nest) around) (reads f (suc nest) around) (messageWord (q .0)) (q .1) r e₂)))) p e
+    message-all (Spells (spelled (c .left))) f nest around c
+    (λ q b r e₁. ap (λ (l : List ℕ). spelled l) (b .next .words)
+    ∙ from-spells (readMessage f (suc nest) around) (reads f (suc nest) around) (messageWord (q .0)) (q .1) r e₁) p e
 
 pub read-message : (f nest : ℕ) (around : List ℕ) (c : Cursor) (p : Message × Cursor) → readMessage f nest around c ≡ got p → messageAt (c .left) ≡ p .0
 unfolding messageAt top

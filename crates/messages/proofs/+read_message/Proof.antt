@@ -1,7 +1,6 @@
 -- `messages::read_message` meets its contract. The measure is how many words are left.
 -- Assumes nothing.
 use Prim.Native.Nat.{ℕ, _+_, _-_, _<_, _≤_}
-use mathlib.Core.Path.{_≡_}
 use native.Mathlib.Omega.{arith}
 use lib.ListN.{length}
 use borrow.Author.Needs.{needs}
@@ -44,7 +43,7 @@ module _ (t : ℕ) where
     around = c .before .before .before .before .before .args .around .now;
     answer = c .ask-message .result;
     answers = c .ask-message .ensures;
-    some = omega arith
+    some = omega arith;
   }
 
   returns : lts.Need-returns (claims t) (read-message-at t) read-message.Post
