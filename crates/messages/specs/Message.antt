@@ -3,8 +3,9 @@
 use Prim.Native.Nat.{ℕ}
 use mathlib.Core.Bool.{Bool, true, false, cond}
 use mathlib.Core.List.{List, [], _∷_, _++_}
-use mathlib.Core.Option.{Option, none, some}
 use lib.Dec.{eqb}
+use Rattle.messages.specs.declared.Named.{Named}
+use Rattle.messages.specs.declared.Named.the-variants.{Called, Nameless}
 
 -- NAME, VAR with the index of its REC, IN, EXIT and OPEN of a message, EMPTY, PATH of two
 pub data Message : Type 0 where
@@ -26,14 +27,14 @@ items empty = []
 items (path m k) = items m ++ items k
 
 -- "A message is a name only if it is one NAME word". Everything that asks for a name asks it here.
-unfoldable pub nameOf : Message → Option ℕ
-nameOf (name n) = some n
-nameOf (variable v) = none
-nameOf (enter m) = none
-nameOf (exit m) = none
-nameOf (opens m) = none
-nameOf empty = none
-nameOf (path m k) = none
+unfoldable pub nameOf : Message → Named
+nameOf (name n) = Called n
+nameOf (variable v) = Nameless
+nameOf (enter m) = Nameless
+nameOf (exit m) = Nameless
+nameOf (opens m) = Nameless
+nameOf empty = Nameless
+nameOf (path m k) = Nameless
 
 -- "each of its VARs becomes the whole message": r for each variable v
 unfoldable pub substitute : (v : ℕ) → Message → Message → Message

@@ -6,6 +6,12 @@ ghost use Rattle.messages.specs.Words.{member};
 ghost use Rattle.messages.specs.Reading.{cursor, outcome};
 ghost use Rattle.messages.specs.ReadMessage.{messageWord, levelled, asked, readMessage};
 
+// What a message is asked for: the name that it is, or that it is none.
+pub enum Named {
+    Called(u32),
+    Nameless,
+}
+
 // What a word is where a message word is expected.
 pub enum MessageWord {
     Name(u32),
