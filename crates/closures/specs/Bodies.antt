@@ -1,0 +1,50 @@
+-- Looking parts up in a body and rewriting it, by part numbers. Each operation goes through the parts as the operation of
+-- the same kind on rising lists does (crate sets). Assumes nothing: these are definitions.
+use Prim.Native.Nat.{ℕ}
+use mathlib.Core.Bool.{Bool, true, false, cond}
+use mathlib.Core.List.{List, [], _∷_}
+use mathlib.Core.Option.{Option, none, some}
+use lib.Dec.{eqb}
+use Rattle.sets.specs.Sets.{elem}
+use Rattle.scripts.specs.Tree.{Body, close, part, tops}
+
+-- one look-up after another: where one finds nothing, all do
+infixl 10 _>>=_
+unfoldable pub _>>=_ : {A B : Type 0} → Option A → (A → Option B) → Option B
+none >>= k = none
+some a >>= k = k a
+
+-- the first, or where there is none the second
+unfoldable pub orElse : {A : Type 0} → Option A → Option A → Option A
+orElse none y = y
+orElse (some x) y = some x
+
+unfoldable pub check : Bool → Option (Unit {0})
+check true = some tt
+check false = none
+
+module _ {H : Type 0} where
+  -- the body's own part n, not one deeper: its head and the body inside it
+  unfoldable pub find : ℕ → Body H → Option (H × Body H)
+  find n close = none
+  find n (part i h b r) = cond (eqb n i) (some (h, b)) (find n r)
+
+  -- the body without its own part n
+  unfoldable pub drop : ℕ → Body H → Body H
+  drop n close = close
+  drop n (part i h b r) = cond (eqb n i) (drop n r) (part i h b (drop n r))
+
+  -- the body with the head and the inside of its own part n changed
+  unfoldable pub alter : ℕ → (H → H) → (Body H → Body H) → Body H → Body H
+  alter n f g close = close
+  alter n f g (part i h b r) = cond (eqb n i) (part i (f h) (g b) r) (part i h b (alter n f g r))
+
+  -- the part of this body that has part n directly in it
+  unfoldable pub holder : ℕ → Body H → Option ℕ
+  holder n close = none
+  holder n (part i h b r) = cond (elem n (tops b)) (some i) (holder n r)
+
+-- To unfold this is to unfold every definition of this module: for a proof by computation.
+unfoldable pub computing : Unit {0}
+unfolding _>>=_ orElse check find drop alter holder elem
+computing = tt

@@ -1,0 +1,4 @@
+-- What the contracts of `closures` cite. Assumes nothing: these are definitions.
+pub mod Bodies
+pub mod Moves
+pub mod PlainMachine

@@ -1,0 +1,68 @@
+-- The plain machine (document 01): "It keeps the tree of parts, each with its number, and the receipts made."
+-- Assumes nothing: these are definitions.
+use Prim.Native.Nat.{ℕ, _+_, _*_}
+use mathlib.Core.List.{List, [], _∷_}
+use mathlib.Core.Option.{Option, none, some}
+use lib.ListN.{length}
+use Rattle.messages.specs.Message.{Message, name, variable, enter, exit, opens, empty, path, nameOf, substitute, substituteItems}
+use Rattle.scripts.specs.Tree.{Head, ambient, action, receipt, output, Body, close, part, mapHeads, parts, PlainHead, Plain, settle}
+use Rattle.closures.specs.Moves.{View, Moved, moveHere, anywhere}
+use Rattle.closures.specs.declared.First.{First}
+use Rattle.closures.specs.declared.First.the-variants.{Nothing, Enter, Exit, Open, Other}
+
+-- what an item asks: "IN, EXIT or OPEN of a name m"
+unfoldable pub asks : Message → First
+asks (name n) = Other
+asks (variable v) = Other
+asks (enter m) = Enter (nameOf m)
+asks (exit m) = Exit (nameOf m)
+asks (opens m) = Open (nameOf m)
+asks empty = Other
+asks (path m k) = Other
+
+-- the first of an action's items
+unfoldable pub firstItem : List Message → First
+firstItem [] = Nothing
+firstItem (i ∷ is) = asks i
+
+unfoldable pub rest : List Message → List Message
+rest [] = []
+rest (i ∷ is) = is
+
+-- "each of its VARs becomes the whole message (where it is itself an item of an action, the message's items)"
+unfoldable pub substituteHead : (v : ℕ) → Message → PlainHead → PlainHead
+substituteHead v m (ambient n) = ambient (substitute v m n)
+substituteHead v m (action is) = action (substituteItems v m is)
+substituteHead v m (receipt u) = receipt u
+substituteHead v m (output n) = output (substitute v m n)
+
+unfoldable pub substituteBody : (v : ℕ) → Message → Plain → Plain
+substituteBody v m b = mapHeads (substituteHead v m) b
+
+abbrev pub plain : View (List Message)
+plain = record { named = nameOf; first = firstItem; spent = rest; delivered = substituteBody }
+
+abbrev pub settled : Moved {A = List Message} → Moved {A = List Message}
+settled m = record { body = settle (m .body); news = m .news }
+
+unfoldable pub settledBy : Option (Moved {A = List Message}) → Option (Moved {A = List Message})
+settledBy none = none
+settledBy (some m) = some (settled m)
+
+-- the tree after the move (a, t), where the machine can make it
+unfoldable pub move : (actor target : ℕ) → Plain → Option (Moved {A = List Message})
+move a t b = settledBy (anywhere plain (moveHere plain a t) b)
+
+-- the machine: the tree of parts, and the receipts made
+pub record Machine : Type 0 where
+  pub tree : Plain
+  pub receipts : ℕ
+
+-- "Weight is the parts in the tree plus twice the receipts made."
+unfoldable pub weightOf : Machine → ℕ
+weightOf m = parts (m .tree) + 2 * m .receipts
+
+-- To unfold this is to unfold every definition of this module: for a proof by computation.
+unfoldable pub computing : Unit {0}
+unfolding asks firstItem rest substituteHead substituteBody settledBy move weightOf
+computing = tt
