@@ -56,6 +56,11 @@ toOpen (Exit n) = Nameless
 toOpen (Open n) = n
 toOpen Other = Nameless
 
+-- what a move comes to: the new body, and the variable and message of the receipt that it made, if it made one
+pub record Moved (A : Type 0) : Type 0 where
+  pub body : Body (Head A)
+  pub news : List (ℕ × Message)
+
 module _ {A : Type 0} where
   -- a receipt's variable, an output's message
   unfoldable pub variableOf : Head A → Option ℕ
@@ -70,36 +75,31 @@ module _ {A : Type 0} where
   messageOf (receipt v) = none
   messageOf (output m) = some m
 
-  -- what a move comes to: the new body, and the variable and message of the receipt that it made, if it made one
-  pub record Moved : Type 0 where
-    pub body : Body (Head A)
-    pub news : List (ℕ × Message)
-
-  abbrev pub quiet : Body (Head A) → Moved
+  abbrev pub quiet : Body (Head A) → Moved A
   quiet b = record { body = b; news = [] }
 
   -- the move made inside a larger body
-  unfoldable pub onward : (Body (Head A) → Body (Head A)) → Option Moved → Option Moved
+  unfoldable pub onward : (Body (Head A) → Body (Head A)) → Option (Moved A) → Option (Moved A)
   onward w none = none
   onward w (some m) = some (record { body = w (m .body); news = m .news })
 
-module _ {A : Type 0} (V : View A) where
+module _ {A : Type 0} (view : View A) where
   -- the name of a part: only ambients have one
   unfoldable pub headName : Head A → Named
-  headName (ambient m) = V .named m
+  headName (ambient m) = view .named m
   headName (action a) = Nameless
   headName (receipt v) = Nameless
   headName (output m) = Nameless
 
   unfoldable pub firstOf : Head A → First
   firstOf (ambient m) = Nothing
-  firstOf (action a) = V .first a
+  firstOf (action a) = view .first a
   firstOf (receipt v) = Nothing
   firstOf (output m) = Nothing
 
   unfoldable pub spentHead : Head A → Head A
   spentHead (ambient m) = ambient m
-  spentHead (action a) = action (V .spent a)
+  spentHead (action a) = action (view .spent a)
   spentHead (receipt v) = receipt v
   spentHead (output m) = output m
 
@@ -109,7 +109,7 @@ module _ {A : Type 0} (V : View A) where
 
   -- "IN: the AMB p directly around the actor is named; the target is another AMB named m in the same body as p; p goes
   -- into it."
-  unfoldable pub enterMove : (actor target : ℕ) → Body (Head A) → Option (Moved {A = A})
+  unfoldable pub enterMove : (actor target : ℕ) → Body (Head A) → Option (Moved A)
   enterMove a t b = do
     (g, _) ← find t b
     p ← holder a b
@@ -119,7 +119,7 @@ module _ {A : Type 0} (V : View A) where
     some (quiet (alter t (λ e. e) (put p h (spend a inside)) (drop p b)))
 
   -- "EXIT: the target is the AMB named m directly around p, p named; p comes out beside it."
-  unfoldable pub exitMove : (actor target : ℕ) → Body (Head A) → Option (Moved {A = A})
+  unfoldable pub exitMove : (actor target : ℕ) → Body (Head A) → Option (Moved A)
   exitMove a t b = do
     (g, room) ← find t b
     p ← holder a room
@@ -129,7 +129,7 @@ module _ {A : Type 0} (V : View A) where
     some (quiet (put p h (spend a inside) (alter t (λ e. e) (drop p) b)))
 
   -- "OPEN: the target is an AMB named m in the actor's own body; it goes, its body stays."
-  unfoldable pub openMove : (actor target : ℕ) → Body (Head A) → Option (Moved {A = A})
+  unfoldable pub openMove : (actor target : ℕ) → Body (Head A) → Option (Moved A)
   openMove a t b = do
     (g, inside) ← find t b
     (f, _) ← find a b
@@ -137,28 +137,28 @@ module _ {A : Type 0} (V : View A) where
     some (quiet (spend a (merge inside (drop t b))))
 
   -- "The actor is a REC, the target an OUT in the same body: both go, the receipt's body stands there"
-  unfoldable pub receiveMove : (actor target : ℕ) → Body (Head A) → Option (Moved {A = A})
+  unfoldable pub receiveMove : (actor target : ℕ) → Body (Head A) → Option (Moved A)
   receiveMove a t b = do
     (g, _) ← find t b
     (h, inside) ← find a b
     v ← variableOf h
     m ← messageOf g
-    some (record { body = merge (V .delivered v m inside) (drop t (drop a b)); news = (v, m) ∷ [] })
+    some (record { body = merge (view .delivered v m inside) (drop t (drop a b)); news = (v, m) ∷ [] })
 
   -- the move (a, t), where its target stands in this very body
-  unfoldable pub moveHere : (actor target : ℕ) → Body (Head A) → Option (Moved {A = A})
+  unfoldable pub moveHere : (actor target : ℕ) → Body (Head A) → Option (Moved A)
   moveHere a t b = orElse (openMove a t b) (orElse (receiveMove a t b) (orElse (enterMove a t b) (exitMove a t b)))
 
   -- "It needs every AMB around its actor to have a name, and its parts to stand under no ACT or REC": a rewriting g made
   -- inside a named ambient of the body, or deeper inside named ambients
-  unfoldable pub inside : (Body (Head A) → Option (Moved {A = A})) → Body (Head A) → Option (Moved {A = A})
+  unfoldable pub inside : (Body (Head A) → Option (Moved A)) → Body (Head A) → Option (Moved A)
   inside g close = none
   inside g (part i h b r) =
       orElse (onward (λ c. part i h c r) (cond (isNamed (headName h)) (orElse (g b) (inside g b)) none))
       (onward (λ q. part i h b q) (inside g r))
 
   -- here, or inside
-  abbrev pub anywhere : (Body (Head A) → Option (Moved {A = A})) → Body (Head A) → Option (Moved {A = A})
+  abbrev pub anywhere : (Body (Head A) → Option (Moved A)) → Body (Head A) → Option (Moved A)
   anywhere g b = orElse (g b) (inside g b)
 
 -- To unfold this is to unfold every definition of this module: for a proof by computation.

@@ -42,15 +42,15 @@ substituteBody v m b = mapHeads (substituteHead v m) b
 abbrev pub plain : View (List Message)
 plain = record { named = nameOf; first = firstItem; spent = rest; delivered = substituteBody }
 
-abbrev pub settled : Moved {A = List Message} → Moved {A = List Message}
+abbrev pub settled : Moved (List Message) → Moved (List Message)
 settled m = record { body = settle (m .body); news = m .news }
 
-unfoldable pub settledBy : Option (Moved {A = List Message}) → Option (Moved {A = List Message})
+unfoldable pub settledBy : Option (Moved (List Message)) → Option (Moved (List Message))
 settledBy none = none
 settledBy (some m) = some (settled m)
 
 -- the tree after the move (a, t), where the machine can make it
-unfoldable pub move : (actor target : ℕ) → Plain → Option (Moved {A = List Message})
+unfoldable pub move : (actor target : ℕ) → Plain → Option (Moved (List Message))
 move a t b = settledBy (anywhere plain (moveHere plain a t) b)
 
 -- the machine: the tree of parts, and the receipts made

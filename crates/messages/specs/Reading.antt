@@ -44,6 +44,11 @@ nextWord q c = split q (c .index) (c .number) (c .left)
 abbrev pub nextPart : Cursor → Cursor
 nextPart c = cursor (c .index) (suc (c .number)) (c .left)
 
+-- whether no word is left
+abbrev pub isEmpty : List ℕ → Bool
+isEmpty [] = true
+isEmpty (w ∷ ws) = false
+
 -- What a reader of the code answers, by cases: the index of the word behind what was read; or the first no's number and
 -- place.
 unfoldable pub outcome : {A : Type 0} → Reading (A × Cursor) → Outcome

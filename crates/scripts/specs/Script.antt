@@ -6,7 +6,7 @@ use mathlib.Core.List.{List, [], _∷_}
 use lib.ListN.{length}
 use lib.Dec.{leb, eqb}
 use Rattle.messages.specs.Words.{kind, operand}
-use Rattle.messages.specs.Reading.{Cursor, cursor, Reading, refuse, got, _>>=_, ask, nextWord, nextPart}
+use Rattle.messages.specs.Reading.{Cursor, cursor, Reading, refuse, got, _>>=_, ask, nextWord, nextPart, isEmpty}
 use Rattle.messages.specs.Message.{Message, items}
 use Rattle.messages.specs.ReadMessage.{readMessage}
 use Rattle.scripts.specs.Tree.{Head, ambient, action, receipt, output, Body, close, part, mapHeads, Plain, PlainHead, settle}
@@ -90,10 +90,6 @@ readBody (suc f) nest around c = do
     (p, c₂) ← partFrom (readMessage f nest around) (readBody f (suc nest)) around (partWord w) (c .index) (nextPart c₁)
     (r, c₃) ← readBody f nest around c₂
     got (part (c .number) (p .0) (p .1) r, c₃))
-
-abbrev pub isEmpty : List ℕ → Bool
-isEmpty [] = true
-isEmpty (w ∷ ws) = false
 
 -- Questions 1 to 6: the script's tree, and the cursor behind it, whose number is the number of its parts.
 unfoldable pub readScript : List ℕ → Reading (Script × Cursor)

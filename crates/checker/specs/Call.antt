@@ -1,0 +1,142 @@
+-- The whole call (document 01, "Questions at the door" and "What demand 3 compares"): the questions in their order, the
+-- moves, the walk, and what is answered and written. Assumes nothing: these are definitions.
+use Prim.Native.Nat.{ℕ, zero, suc, _+_, _/_, _%_, max, min}
+use mathlib.Core.Bool.{Bool, true, false, _&&_, cond}
+use mathlib.Core.List.{List, [], _∷_, _++_}
+use mathlib.Core.Option.{Option, none, some}
+use lib.ListN.{length, drop}
+use lib.Dec.{leb, ltb, eqb}
+use Rattle.messages.specs.Words.{kind, operand}
+use Rattle.messages.specs.Reading.{Cursor, Reading, refuse, got}
+use Rattle.messages.specs.Message.{Message}
+use Rattle.scripts.specs.Tree.{Body, Plain}
+use Rattle.scripts.specs.Script.{Script, readScript, started}
+use Rattle.scripts.specs.Measures.{greatestName}
+use Rattle.closures.specs.Moves.{Moved}
+use Rattle.closures.specs.PlainMachine.{move, Machine, weightOf}
+use Rattle.writer.specs.Write.{write}
+use Rattle.rules.specs.Rule.{Rule, greatestRuleName}
+use Rattle.rules.specs.ReadRule.{readWholeRule}
+use Rattle.walk.specs.Walk.{Count, Walked, stopped, says, Setting, walkFrom}
+use Rattle.walk.specs.PlainWalk.{plainSpace}
+
+-- what a call is lent: "script, moves, rule, patience and the buffer as it was"
+pub record Call : Type 0 where
+  pub script : List ℕ
+  pub moves : List ℕ
+  pub rule : List ℕ
+  pub patience : ℕ
+  pub buffer : List ℕ
+
+-- yes or no, or number and place
+pub data Verdict : Type 0 where
+  accepted : Bool → Verdict
+  refused : (question place : ℕ) → Verdict
+
+-- "An accepted call gives yes or no, moves, visits, deepest, weight, words, and writes the tree at the buffer's start"
+pub record Answer : Type 0 where
+  pub verdict : Verdict
+  pub moves : ℕ
+  pub visits : ℕ
+  pub deepest : ℕ
+  pub weight : ℕ
+  pub words : ℕ
+  pub buffer : List ℕ
+
+-- "A refused one gives number, place, moves and visits made (0 if none); deepest, weight and words are 0, and the buffer
+-- isn't written."
+unfoldable pub refusal : (question place moves visits : ℕ) → List ℕ → Answer
+refusal q i m v b = record { verdict = refused q i; moves = m; visits = v; deepest = 0; weight = 0; words = 0; buffer = b }
+
+-- a list of moves stops by question 15 or 16 at a place, or is made
+pub data Ran : Type 0 where
+  halted : (question place : ℕ) → Ran
+  moved : Machine → Ran
+
+-- "A move word has kind 1, the actor in bits 8 to 15, the target in bits 0 to 7, the rest zero."
+abbrev pub actor : ℕ → ℕ
+actor w = operand w / 256
+
+abbrev pub target : ℕ → ℕ
+target w = operand w % 256
+
+-- question 15: "Is it a move word, both numbers below n?"
+unfoldable pub moveFits : (n : ℕ) → ℕ → Bool
+moveFits n w = eqb (kind w) 1 && (ltb (operand w) 65536 && (ltb (actor w) n && ltb (target w) n))
+
+-- the machine after a move that was made
+abbrev pub afterMove : Machine → Moved (List Message) → Machine
+afterMove m s = record { tree = s .body; receipts = m .receipts + length (s .news) }
+
+-- question 16: "Can the plain machine make it now?", and what follows if it can
+unfoldable pub ifMade : (place : ℕ) → Machine → Option (Moved (List Message)) → (Machine → Ran) → Ran
+ifMade i m none k = halted 16 i
+ifMade i m (some s) k = k (afterMove m s)
+
+-- "Each word of the list, in turn, is asked its questions on the tree that the moves before it left": i is the index of the
+-- first word
+unfoldable pub run : (n i : ℕ) → List ℕ → Machine → Ran
+run n i [] m = moved m
+run n i (w ∷ ws) m = cond (moveFits n w) (ifMade i m (move (actor w) (target w) (m .tree)) (λ l. run n (suc i) ws l)) (halted 15 i)
+
+-- "Its tree starts as the script's, with no receipt made."
+abbrev pub begun : Script → Machine
+begun b = record { tree = started b; receipts = 0 }
+
+-- the words of the standing tree
+abbrev pub written : Machine → List ℕ
+written m = write [] 0 (m .tree)
+
+-- question 19: "Does the tree that stands after the moves fit the output buffer, of which no more than the first 2^28 words
+-- count?" "words behind it keep their content"
+unfoldable pub finish : Call → Machine → Bool → Count → Answer
+finish c m a n =
+    cond (leb (length (written m)) (min (length (c .buffer)) 268435456))
+    (record {
+      verdict = accepted a;
+      moves = length (c .moves);
+      visits = n .visits;
+      deepest = n .deepest;
+      weight = weightOf m;
+      words = length (written m);
+      buffer = written m ++ drop (length (written m)) (c .buffer);
+    })
+    (refusal 19 0 (length (c .moves)) (n .visits) (c .buffer))
+
+-- after the walk
+unfoldable pub walked : Call → Machine → Walked → Answer
+walked c m (stopped q i v) = refusal q i (length (c .moves)) v (c .buffer)
+walked c m (says a n) = finish c m a n
+
+-- "G the greatest name in script and rule (0 if none)"
+abbrev pub setting : Call → (n : ℕ) → Setting
+setting c n = record { patience = c .patience; greatest = max (greatestName (c .script)) (greatestRuleName (c .rule)); parts = n }
+
+-- after the moves: n is the script's parts, p the rule's PLACED words, whose parts are numbered from n on
+unfoldable pub ruleRun : Call → (n p : ℕ) → Rule → Ran → Answer
+ruleRun c n p r (halted q i) = refusal q i i 0 (c .buffer)
+ruleRun c n p r (moved m) = walked c m (walkFrom (plainSpace (n + p)) (setting c n) r (m .tree))
+
+-- after the rule: "13. Patience 1 to 16,777,216? 14. At most 4,096 moves?"
+unfoldable pub ruleRead : Call → Script → (n : ℕ) → Reading (Rule × Cursor) → Answer
+ruleRead c b n (refuse q i) = refusal q i 0 0 (c .buffer)
+ruleRead c b n (got p) =
+    cond (leb 1 (c .patience) && leb (c .patience) 16777216)
+    (cond (leb (length (c .moves)) 4096)
+    (ruleRun c n (p .1 .number) (p .0) (run n 0 (c .moves) (begun b)))
+    (refusal 14 0 0 0 (c .buffer)))
+    (refusal 13 0 0 0 (c .buffer))
+
+-- after the script
+unfoldable pub scriptRead : Call → Reading (Script × Cursor) → Answer
+scriptRead c (refuse q i) = refusal q i 0 0 (c .buffer)
+scriptRead c (got p) = ruleRead c (p .0) (p .1 .number) (readWholeRule (p .1 .number) (c .rule))
+
+-- What the plain machine answers.
+unfoldable pub answer : Call → Answer
+answer c = scriptRead c (readScript (c .script))
+
+-- To unfold this is to unfold every definition of this module: for a proof by computation.
+unfoldable pub computing : Unit {0}
+unfolding refusal moveFits ifMade run finish walked ruleRun ruleRead scriptRead answer
+computing = tt

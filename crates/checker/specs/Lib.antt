@@ -1,0 +1,3 @@
+-- What the contracts of `checker` cite. Assumes nothing: these are definitions.
+pub mod Call
+pub mod Examples

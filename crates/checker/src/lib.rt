@@ -1,0 +1,1 @@
+// The call. It rests on the promises of all layers below.

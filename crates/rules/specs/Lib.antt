@@ -1,0 +1,3 @@
+-- What the contracts of `rules` cite. Assumes nothing: these are definitions.
+pub mod Rule
+pub mod ReadRule

@@ -1,0 +1,65 @@
+-- Rules (document 01, "The rule and its walk"). Assumes nothing: these are definitions.
+use Prim.Native.Nat.{ℕ, zero, suc, _+_, max}
+use mathlib.Core.Bool.{Bool, true, false, _&&_, _||_, cond}
+use mathlib.Core.List.{List, [], _∷_}
+use lib.Dec.{eqb, ltb}
+use Rattle.messages.specs.Words.{kind, operand}
+
+-- "The operand of AT and PLACED is a name 1 to 255, or with bit 27 set the index of a SOME around it."
+pub data Term : Type 0 where
+  constant : ℕ → Term
+  chosen : ℕ → Term
+
+-- "0 TRUE, 1 NOT, 2 OR, 3 VOID, 4 AT, 5 BESIDE, 6 SOME, 7 SOMETIME, 8 SOMEWHERE, 9 PLACED; 2 and 5 take two rules, 1, 4, 6
+-- to 9 one." Each has its word's index first; PLACED has then its place among the PLACED words, from 0.
+pub data Rule : Type 0 where
+  always : ℕ → Rule
+  negation : ℕ → Rule → Rule
+  either : ℕ → Rule → Rule → Rule
+  void : ℕ → Rule
+  at : ℕ → Term → Rule → Rule
+  beside : ℕ → Rule → Rule → Rule
+  some-name : ℕ → Rule → Rule
+  sometime : ℕ → Rule → Rule
+  somewhere : ℕ → Rule → Rule
+  placed : ℕ → ℕ → Term → Rule → Rule
+
+-- the index of a rule's own word
+unfoldable pub ruleIndex : Rule → ℕ
+ruleIndex (always i) = i
+ruleIndex (negation i r) = i
+ruleIndex (either i r q) = i
+ruleIndex (void i) = i
+ruleIndex (at i t r) = i
+ruleIndex (beside i r q) = i
+ruleIndex (some-name i r) = i
+ruleIndex (sometime i r) = i
+ruleIndex (somewhere i r) = i
+ruleIndex (placed i j t r) = i
+
+-- the names chosen so far: the index of each SOME around, innermost first, with its name
+abbrev pub Names : Type 0
+Names = List (ℕ × ℕ)
+
+unfoldable pub lookup : Names → ℕ → ℕ
+lookup [] i = 0
+lookup (p ∷ ps) i = cond (eqb (p .0) i) (p .1) (lookup ps i)
+
+-- the name that AT or PLACED says
+unfoldable pub termName : Names → Term → ℕ
+termName e (constant n) = n
+termName e (chosen i) = lookup e i
+
+-- the plain operand of a word of AT or PLACED, 0 for any other
+unfoldable pub ruleName : ℕ → ℕ
+ruleName w = cond ((eqb (kind w) 4 || eqb (kind w) 9) && ltb (operand w) 134217728) (operand w) 0
+
+-- "the greatest name in .. rule (0 if none)"
+unfoldable pub greatestRuleName : List ℕ → ℕ
+greatestRuleName [] = 0
+greatestRuleName (w ∷ ws) = max (ruleName w) (greatestRuleName ws)
+
+-- To unfold this is to unfold every definition of this module: for a proof by computation.
+unfoldable pub computing : Unit {0}
+unfolding ruleIndex lookup termName ruleName greatestRuleName
+computing = tt

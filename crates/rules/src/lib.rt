@@ -1,0 +1,1 @@
+// The rule and its reader. It rests on the promises of messages.

@@ -1,0 +1,1 @@
+// The walk. It rests on the promises of closures and rules and what is below.

@@ -1,0 +1,2 @@
+-- What the contracts of `writer` cite. Assumes nothing: these are definitions.
+pub mod Write
