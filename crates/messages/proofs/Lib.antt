@@ -1,2 +1,4 @@
 -- The laws of `messages` that its own proofs and the crates above cite.
 pub mod Readings
+pub mod Tails
+pub mod Laws
