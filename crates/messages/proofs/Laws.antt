@@ -1,8 +1,8 @@
 -- Laws of the reader of messages: where it stands when it has read one, that more fuel than words changes nothing, and
 -- the recurrence that the code meets. Assumes nothing.
 use Prim.Native.Nat.{ℕ, zero, suc, _+_, _-_, _≤_, _<_}
-use mathlib.Core.Bool.{Bool, true, false, cond}
-use mathlib.Core.List.{List, [], _∷_}
+use mathlib.Core.Bool.{Bool, true, false, cond, false≢true}
+use mathlib.Core.List.{List, _∷_}
 use mathlib.Core.Path.{_≡_, refl, sym, ap, _∙_, subst}
 use native.Mathlib.Omega.{arith}
 use native.Mathlib.Numerals.{add-one}
@@ -18,8 +18,8 @@ use Rattle.messages.specs.declared.Asked.{Asked}
 use Rattle.messages.specs.declared.Asked.the-variants.{Leaf, One, Two, No}
 use Rattle.messages.specs.declared.Outcome.{Outcome}
 use Rattle.messages.specs.declared.Outcome.the-variants.{Read, Refused}
-use Rattle.messages.proofs.Readings.{refuse≢got, got-inj, bind-all, got-all, bind-cong, bind-got, bind-refuse, Advances, stands, advances-on, Next, next, next-advances, next-shorter, advances-shorter, next-end}
-use Rattle.messages.proofs.Tails.{no-element, first, part, part-drop}
+use Rattle.messages.proofs.Readings.{refuse≢got, bind-all, got-all, bind-cong, bind-got, bind-refuse, ask-inv, Advances, stands, advances-on, Next, next, next-advances, next-shorter, advances-shorter, next-end, placed, outcome-refused, outcome-read}
+use Rattle.messages.proofs.Tails.{no-element, first, part, part-drop, length-part}
 
 -- What holds where a message was read: more fields may come.
 pub record MessageRead (around : List ℕ) (c : Cursor) (p : Message × Cursor) : Type 0 where
@@ -67,19 +67,35 @@ read-behind : (around : List ℕ) (c : Cursor) (q : ℕ × Cursor) (p : Message 
 read-behind around c q p n b = record {
   ahead = omega (arith, n .index, b .advances .ahead);
   advances = advances-on c (q .1) (p .1) (next-advances c q n) (b .advances);
-  number = b .number ∙ n .number
+  number = b .number ∙ n .number;
 }
+
+-- the questions that the first word of a message was asked, q being that word and the cursor behind it
+pub record Begins (nest : ℕ) (around : List ℕ) (c : Cursor) (q : ℕ × Cursor) : Type 0 where
+  pub next : Next c q
+  pub fit : fits (messageWord (q .0)) ≡ true
+  pub bounded : bound around (messageWord (q .0)) ≡ true
+  pub levelled : nest ≤ 64
+
+-- a claim about a message that was read, by what was read behind its first word
+pub message-all : (P : Message × Cursor → Type 0) (f nest : ℕ) (around : List ℕ) (c : Cursor) →
+    ((q : ℕ × Cursor) → Begins nest around c q → (p : Message × Cursor) → messageFrom (readMessage f (suc nest) around) (messageWord (q .0)) (q .1) ≡ got p → P p) →
+    (p : Message × Cursor) → readMessage (suc f) nest around c ≡ got p → P p
+unfolding readMessage
+message-all P f nest around c h =
+    bind-all P (nextWord 5 c) _
+    (λ q e₁. bind-all P (ask 2 (c .index) (fits (messageWord (q .0)))) _
+    (λ u e₂. bind-all P (ask 3 (c .index) (bound around (messageWord (q .0)))) _
+    (λ v e₃. bind-all P (ask 4 (c .index) (leb nest 64)) _
+    (λ w e₄. h q (record { next = next 5 c q e₁; fit = ask-inv 2 _ _ u e₂; bounded = ask-inv 3 _ _ v e₃; levelled = leb-true nest 64 (ask-inv 4 _ _ w e₄) })))))
 
 pub message-advances : (f nest : ℕ) (around : List ℕ) (c : Cursor) (p : Message × Cursor) → readMessage f nest around c ≡ got p → MessageRead around c p
 unfolding readMessage
 message-advances zero nest around c p e = refuse≢got e
 message-advances (suc f) nest around c p e =
-    bind-all (MessageRead around c) (nextWord 5 c) _
-    (λ q e₁. bind-all (MessageRead around c) (ask 2 (c .index) (fits (messageWord (q .0)))) _
-    (λ _ _. bind-all (MessageRead around c) (ask 3 (c .index) (bound around (messageWord (q .0)))) _
-    (λ _ _. bind-all (MessageRead around c) (ask 4 (c .index) (leb nest 64)) _
-    (λ _ _ r e₂. read-behind around c q r (next 5 c q e₁)
-    (from-behind around (readMessage f (suc nest) around) (message-advances f (suc nest) around) (messageWord (q .0)) (q .1) r e₂))))) p e
+    message-all (MessageRead around c) f nest around c
+    (λ q b r e₁. read-behind around c q r (b .next)
+    (from-behind around (readMessage f (suc nest) around) (message-advances f (suc nest) around) (messageWord (q .0)) (q .1) r e₁)) p e
 
 -- the readers r and s agree where at most n words are left
 abbrev Agree : ℕ → (r s : Cursor → Reading (Message × Cursor)) → Type 0
@@ -137,7 +153,7 @@ module _ (i : ℕ) (read : Cursor → Reading (Message × Cursor)) (c : Cursor) 
   from-counted Open e = forget opens (read c)
   from-counted Empty e = refl
   from-counted Path e = forget-two (read c)
-  from-counted Unfit e = absurd (let z : _≡_ {A = ℕ} 0 1 = cc in let w : ⊥ = omega arith in w)
+  from-counted Unfit e = absurd (false≢true e)
 
   questions : (t u v : Bool) (a : Asked) (x : Reading (Message × Cursor)) → (t ≡ true → outcome x ≡ counted a i read c) →
       outcome (ask 2 i t >>= λ _. ask 3 i u >>= λ _. ask 4 i v >>= λ _. x) ≡ counted (cond t (cond u (cond v a (No 4)) (No 3)) (No 2)) i read c
@@ -153,21 +169,7 @@ unfolding readMessage split asked
 step f nest around at number w ws =
     ap (λ (x : Reading (Message × Cursor)). outcome x) (bind-got (split 5 at number (w ∷ ws)) _ (w, cursor (suc at) number ws) refl)
     ∙ questions at (readMessage f (suc nest) around) (cursor (suc at) number ws) (fits (messageWord w)) (bound around (messageWord w)) (leb nest 64) (follow (messageWord w)) _
-      (from-counted at (readMessage f (suc nest) around) (cursor (suc at) number ws) (messageWord w))
-
--- a first reading that was refused, and one that was not
-outcome-refused : (x : Reading (Message × Cursor)) (k : Message × Cursor → Reading (Message × Cursor)) (q i : ℕ) → outcome x ≡ Refused q i → outcome (x >>= k) ≡ Refused q i
-unfolding _>>=_ outcome
-outcome-refused (refuse q′ i′) k q i e = e
-outcome-refused (got p) k q i e = absurd (let z : _≡_ {A = ℕ} 0 1 = cc in let w : ⊥ = omega arith in w)
-
-pub outcome-read : {A : Type 0} (x : Reading (A × Cursor)) (n : ℕ) → outcome x ≡ Read n → (p : A × Cursor) × (x ≡ got p) × (p .1 .index ≡ n)
-unfolding outcome
-outcome-read (refuse q i) n e = absurd (let z : _≡_ {A = ℕ} 0 1 = cc in let w : ⊥ = omega arith in w)
-outcome-read (got p) n e = (p, refl, cc)
-
-placed : (c : Cursor) (i n : ℕ) (l : List ℕ) → c .index ≡ i → c .number ≡ n → c .left ≡ l → c ≡ cursor i n l
-placed c i n l ei en el = rw (← ei, ← en, ← el)
+    (from-counted at (readMessage f (suc nest) around) (cursor (suc at) number ws) (messageWord w))
 
 -- the outcome for the words s, the first of which has the index `at`
 abbrev pub readOf : (s : List ℕ) (at nest : ℕ) (around : List ℕ) (number : ℕ) → Outcome
@@ -205,55 +207,89 @@ level-told nest true true true (No q) e = tt
 level-told nest true true true One e = leb-true nest 64 e
 level-told nest true true true Two e = leb-true nest 64 e
 
-module _ (s : List ℕ) (at nest : ℕ) (around : List ℕ) (a : Asked) (ea : a ≡ asked nest around (messageWord (getD s 0 0))) where
-  pub level : (b : Asked) → a ≡ b → Level nest b
-  unfolding asked
-  level b e = subst (Level nest) (sym ea ∙ e) (level-told nest (fits (messageWord (getD s 0 0))) (bound around (messageWord (getD s 0 0))) (leb nest 64) (follow (messageWord (getD s 0 0))) refl)
+-- where the questions 2, 3 and 4 were asked of the first word, and what they said
+pub record First : Type 0 where
+  pub words : List ℕ
+  pub at : ℕ
+  pub nest : ℕ
+  pub around : List ℕ
+  pub answer : Asked
+  pub answers : answer ≡ asked nest around (messageWord (getD words 0 0))
+  pub some : 0 < length words
 
-  module _ (number : ℕ) (h : 0 < length s) where
-    -- the cursor behind the first word
+module _ (x : First) where
+  pub level : (b : Asked) → x .answer ≡ b → Level (x .nest) b
+  unfolding asked
+  level b e =
+      let m : MessageWord = messageWord (getD (x .words) 0 0) in
+      subst (Level (x .nest)) (sym (x .answers) ∙ e) (level-told (x .nest) (fits m) (bound (x .around) m) (leb (x .nest) 64) (follow m) refl)
+
+  module _ (number : ℕ) where
+    -- the cursor at the first word, and the one behind it
+    abbrev here : Cursor
+    here = cursor (x .at) number (x .words)
+
     abbrev second : Cursor
-    second = cursor (suc at) number (drop 1 s)
+    second = cursor (suc (x .at)) number (drop 1 (x .words))
 
     abbrev reader : Cursor → Reading (Message × Cursor)
-    reader = readMessage (length (drop 1 s)) (suc nest) around
+    reader = readMessage (length (drop 1 (x .words))) (suc (x .nest)) (x .around)
 
-    arm : (b : Asked) → a ≡ b → counted b at reader second ≡ readOf s at nest around number
+    abbrev pub whole : Outcome
+    whole = readOf (x .words) (x .at) (x .nest) (x .around) number
+
+    -- the outcome of the message that begins at the index n of the words, one level further in
+    abbrev pub further : ℕ → Outcome
+    further n = readOf (part (x .words) (n - x .at)) n (x .nest + 1) (x .around) number
+
+    arm : (b : Asked) → x .answer ≡ b → counted b (x .at) reader second ≡ whole
     arm b e =
-        sym (ap (λ (l : List ℕ). readOf l at nest around number) (first s h)
-        ∙ step (length (drop 1 s)) nest around at number (getD s 0 0) (drop 1 s)
-        ∙ ap (λ (x : Asked). counted x at reader second) (sym ea ∙ e))
+        sym (ap (λ (l : List ℕ). readOf l (x .at) (x .nest) (x .around) number) (first (x .words) (x .some))
+        ∙ step (length (drop 1 (x .words))) (x .nest) (x .around) (x .at) number (getD (x .words) 0 0) (drop 1 (x .words))
+        ∙ ap (λ (a : Asked). counted a (x .at) reader second) (sym (x .answers) ∙ e))
 
     -- what was read inside is behind the first word
-    inside : (p : Message × Cursor) → reader second ≡ got p → MessageRead around (cursor at number s) p
+    inside : (p : Message × Cursor) → reader second ≡ got p → MessageRead (x .around) here p
     inside p e =
-        let m : MessageRead around second p = message-advances (length (drop 1 s)) (suc nest) around second p e in
-        read-behind around (cursor at number s) (getD s 0 0, second) p (record { words = first s h; index = refl; number = refl }) (behind around second p m)
+        read-behind (x .around) here (getD (x .words) 0 0, second) p (record { words = first (x .words) (x .some); index = refl; number = refl })
+        (behind (x .around) second p (message-advances (length (drop 1 (x .words))) (suc (x .nest)) (x .around) second p e))
 
-    pub no-read : (q : ℕ) → a ≡ No q → Refused q at ≡ readOf s at nest around number
+    pub no-read : (q : ℕ) → x .answer ≡ No q → Refused q (x .at) ≡ whole
     no-read q e = arm (No q) e
 
-    pub leaf-read : a ≡ Leaf → Read (at + 1) ≡ readOf s at nest around number
-    leaf-read e = rw (add-one at) (arm Leaf e)
+    pub leaf-read : x .answer ≡ Leaf → Read (x .at + 1) ≡ whole
+    leaf-read e = rw (add-one (x .at)) (arm Leaf e)
 
-    module _ (r : Outcome) (er : r ≡ readOf (part s 1) (at + 1) (nest + 1) around number) where
+    module _ (r : Outcome) (er : r ≡ readOf (part (x .words) 1) (x .at + 1) (x .nest + 1) (x .around) number) where
       read-second : r ≡ outcome (reader second)
-      read-second = rw (part-drop s 1, add-one at, add-one nest) at er
+      read-second = rw (part-drop (x .words) 1, add-one (x .at), add-one (x .nest)) at er
 
-      pub one-read : a ≡ One → r ≡ readOf s at nest around number
+      pub one-read : x .answer ≡ One → r ≡ whole
       one-read e = read-second ∙ arm One e
 
-      pub two-refused : a ≡ Two → (q i : ℕ) → r ≡ Refused q i → r ≡ readOf s at nest around number
+      pub two-refused : x .answer ≡ Two → (q i : ℕ) → r ≡ Refused q i → r ≡ whole
       two-refused e q i d = d ∙ sym (outcome-refused (reader second) _ q i (sym read-second ∙ d)) ∙ arm Two e
 
-      pub two-read : a ≡ Two → (n : ℕ) → r ≡ Read n → (r′ : Outcome) → r′ ≡ readOf (part s (n - at)) n (nest + 1) around number → r′ ≡ readOf s at nest around number
-      two-read e n d r′ er′ =
-          let (p, ep, en) = outcome-read (reader second) n (sym read-second ∙ d) in
-          let er″ : r′ ≡ readOf (drop (n - at) s) n (suc nest) around number = rw (part-drop s (n - at), add-one nest) at er′ in
-          er″ ∙ two-on p n en (inside p ep)
-          ∙ sym (ap (λ (x : Reading (Message × Cursor)). outcome x) (bind-got (reader second) (λ (p : Message × Cursor). reader (p .1)) p ep)) ∙ arm Two e
-        where
-          two-on : (p : Message × Cursor) (n : ℕ) → p .1 .index ≡ n → MessageRead around (cursor at number s) p → readOf (drop (n - at) s) n (suc nest) around number ≡ outcome (reader (p .1))
-          two-on p n en m =
-            let e : p .1 ≡ cursor n number (drop (n - at) s) = placed (p .1) n number _ en (m .number) (rw en at (m .advances .tail)) in
-            rw e (ap (λ (x : Reading (Message × Cursor)). outcome x) (message-fuel _ _ (suc nest) around (cursor n number (drop (n - at) s)) (omega arith) (omega (arith, length-drop 1 s, length-drop (n - at) s, m .ahead, en))))
+      module _ (n : ℕ) (d : r ≡ Read n) where
+        pub first-bounds : (x .at + 1 < n) × (n ≤ x .at + length (x .words))
+        first-bounds =
+            let b = read-bounds (part (x .words) 1) (x .at + 1) (x .nest + 1) (x .around) number r n er d in
+            let l = length-part (x .words) 1 in
+            let s = x .some in
+            (omega arith, omega arith)
+
+        -- the second message's reader stands where the first one's ended
+        two-on : (p : Message × Cursor) → p .1 .index ≡ n → MessageRead (x .around) here p → further n ≡ outcome (reader (p .1))
+        two-on p en m =
+            let e : p .1 ≡ cursor n number (drop (n - x .at) (x .words)) = placed (p .1) n number _ en (m .number) (rw en at (m .advances .tail)) in
+            rw (e, part-drop (x .words) (n - x .at), add-one (x .nest))
+            (ap (λ (y : Reading (Message × Cursor)). outcome y)
+            (message-fuel _ _ (suc (x .nest)) (x .around) (cursor n number (drop (n - x .at) (x .words))) (omega arith)
+            (omega (arith, length-drop 1 (x .words), length-drop (n - x .at) (x .words), first-bounds))))
+
+        pub two-read : x .answer ≡ Two → (r′ : Outcome) → r′ ≡ further n → r′ ≡ whole
+        two-read e r′ er′ =
+            let (p, ep, en) = outcome-read (reader second) n (sym read-second ∙ d) in
+            er′ ∙ two-on p en (inside p ep)
+            ∙ sym (ap (λ (y : Reading (Message × Cursor)). outcome y) (bind-got (reader second) (λ (p : Message × Cursor). reader (p .1)) p ep))
+            ∙ arm Two e

@@ -2,3 +2,4 @@
 pub mod Readings
 pub mod Tails
 pub mod Laws
+pub mod Spells

@@ -1,12 +1,14 @@
 -- Laws of readings: taking a reading apart that succeeds, and how a cursor advances. Assumes nothing.
-use Prim.Native.Nat.{ℕ, zero, suc, _+_, _-_, _≤_, _<_}
+use Prim.Native.Nat.{ℕ, suc, _+_, _-_, _≤_}
 use mathlib.Core.Bool.{Bool, true, false}
 use mathlib.Core.List.{List, [], _∷_}
 use mathlib.Core.Path.{_≡_, refl, sym, ap, _∙_, subst}
 use native.Mathlib.Omega.{arith}
-use lib.ListN.{length, drop, length-drop}
+use lib.ListN.{length, drop}
 use lib.Seq.{drop-drop}
 use Rattle.messages.specs.Reading.{Cursor, cursor, Reading, refuse, got, _>>=_, ask, split, nextWord, outcome}
+use Rattle.messages.specs.declared.Outcome.{Outcome}
+use Rattle.messages.specs.declared.Outcome.the-variants.{Read, Refused}
 
 -- A refusal is no reading that succeeds.
 pub refuse≢got : {A B : Type 0} {q i : ℕ} {a : A} → _≡_ {A = Reading A} (refuse q i) (got a) → B
@@ -72,7 +74,7 @@ advances-on c d e a b = record {
   ahead = omega (arith, a .ahead, b .ahead);
   within = b .within ∙ a .within;
   tail = b .tail ∙ ap (λ (l : List ℕ). drop (e .index - d .index) l) (a .tail) ∙ drop-drop (e .index - d .index) (d .index - c .index) (c .left)
-    ∙ (let z : (d .index - c .index) + (e .index - d .index) ≡ e .index - c .index = omega (arith, a .ahead, b .ahead) in rw z)
+      ∙ (let z : (d .index - c .index) + (e .index - d .index) ≡ e .index - c .index = omega (arith, a .ahead, b .ahead) in rw z);
 }
 
 -- the next word is one further on
@@ -93,7 +95,7 @@ pub next-advances : (c : Cursor) (p : ℕ × Cursor) → Next c p → Advances c
 next-advances c p n = record {
   ahead = omega (arith, n .index);
   within = rw (n .index, n .words) (omega arith);
-  tail = let z : p .1 .index - c .index ≡ 1 = omega (arith, n .index) in rw (z, n .words)
+  tail = let z : p .1 .index - c .index ≡ 1 = omega (arith, n .index) in rw (z, n .words);
 }
 
 -- words behind a cursor are fewer
@@ -111,3 +113,21 @@ split-end q i n (w ∷ ws) e = absurd (omega arith)
 
 pub next-end : (q : ℕ) (c : Cursor) → length (c .left) ≡ 0 → nextWord q c ≡ refuse q (c .index)
 next-end q c h = split-end q (c .index) (c .number) (c .left) h
+
+-- a cursor by its fields
+pub placed : (c : Cursor) (i n : ℕ) (l : List ℕ) → c .index ≡ i → c .number ≡ n → c .left ≡ l → c ≡ cursor i n l
+placed c i n l ei en el = rw (← ei, ← en, ← el)
+
+-- Outcomes: a reading that was refused, and one that was not.
+read≢refused : {B : Type 0} {n q i : ℕ} → _≡_ {A = Outcome} (Read n) (Refused q i) → B
+read≢refused e = let z : _≡_ {A = ℕ} 0 1 = cc in absurd (let w : ⊥ = omega arith in w)
+
+pub outcome-refused : {A B : Type 0} (x : Reading (A × Cursor)) (k : A × Cursor → Reading (B × Cursor)) (q i : ℕ) → outcome x ≡ Refused q i → outcome (x >>= k) ≡ Refused q i
+unfolding _>>=_ outcome
+outcome-refused (refuse q′ i′) k q i e = e
+outcome-refused (got p) k q i e = read≢refused e
+
+pub outcome-read : {A : Type 0} (x : Reading (A × Cursor)) (n : ℕ) → outcome x ≡ Read n → (p : A × Cursor) × (x ≡ got p) × (p .1 .index ≡ n)
+unfolding outcome
+outcome-read (refuse q i) n e = read≢refused (sym e)
+outcome-read (got p) n e = (p, refl, cc)
