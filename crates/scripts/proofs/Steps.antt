@@ -17,10 +17,10 @@ use Rattle.messages.specs.Reading.{Cursor, cursor, Reading, refuse, got, _>>=_,
 use Rattle.messages.specs.Words.{kind, operand}
 use Rattle.messages.specs.Message.{Message}
 use Rattle.messages.specs.ReadMessage.{readMessage}
-use Rattle.messages.proofs.Readings.{bind-got, bind-refuse}
+use Rattle.messages.proofs.Readings.{bind-got, placed, outcome-read}
 use Rattle.messages.proofs.Tails.{part-drop}
 use Rattle.messages.proofs.Tails as Tails
-use Rattle.messages.proofs.Laws.{MessageRead, message-advances, readOf, outcome-read}
+use Rattle.messages.proofs.Laws.{MessageRead, message-advances, readOf}
 use Rattle.scripts.specs.Tree.{Head, ambient, action, receipt, output, close, part, sum, parts, kindNumber}
 use Rattle.scripts.specs.Script.{Written, Script, partKind, partWord, fits, guardedHead, guardedFrom, partFrom, orClose, readBody, askedPart}
 use Rattle.scripts.specs.Table.{entered, startBy, tabulate, refusedAt, vacant, scanned, scannedPart}
@@ -102,6 +102,9 @@ module _ (around : List ℕ) (message : Cursor → Reading (Message × Cursor)) 
 abbrev pub partAt : (w : PartWord) (l : List ℕ) (i nest : ℕ) (around : List ℕ) (n : ℕ) → Reading ((Written × Script) × Cursor)
 partAt w l i nest around n = partFrom (readMessage (length l - 1) nest around) (readBody (length l - 1) (suc nest)) around w i (cursor (i + 1) (suc n) (drop 1 l))
 
+abbrev pub guardedAt : (kind : ℕ) (l : List ℕ) (i nest : ℕ) (around : List ℕ) (n : ℕ) → Reading ((Written × Script) × Cursor)
+guardedAt kind l i nest around n = guardedFrom (guardedHead kind) (readMessage (length l - 1) nest around) (readBody (length l - 1) (suc nest)) around i (cursor (i + 1) (suc n) (drop 1 l))
+
 abbrev pub bodyAt : (l : List ℕ) (i nest : ℕ) (around : List ℕ) (n : ℕ) → Reading (Script × Cursor)
 bodyAt l i nest around n = readBody (length l) nest around (cursor i n l)
 
@@ -167,6 +170,9 @@ pub entered-count : (o k s : ℕ) (t : Table) → entered o k s t .count ≡ t .
 unfolding entered
 entered-count o k s t = cond-count (ltb (t .count) 64) _ _ _ refl refl
 
+entered-next : (o k s : ℕ) (table t : Table) → t ≡ entered o k s table → t .count ≡ suc (table .count)
+entered-next o k s table t e = ap (λ (x : Table). x .count) e ∙ entered-count o k s table ∙ add-one (table .count)
+
 pub tabulate-count : (o : ℕ) (b : Script) (t : Table) → tabulate o b t .count ≡ t .count + parts b
 unfolding tabulate sum
 tabulate-count o close t = omega arith
@@ -185,10 +191,6 @@ unfolding scanned scannedPart tabulate _>>=_
 scanned-inside o t i h (refuse q j) = refl
 scanned-inside o t i h (got p) = refl
 
--- a cursor by its three parts
-placed : (c : Cursor) (i n : ℕ) (l : List ℕ) → c .index ≡ i → c .number ≡ n → c .left ≡ l → c ≡ cursor i n l
-placed c i n l ei en el = rw (← ei, ← en, ← el)
-
 -- The loop over a body's parts: what is left to read at k with the table t gives the answer.
 pub record BodyLoop (s : List ℕ) (at nest : ℕ) (around : List ℕ) (owner : ℕ) (table : Table) (k : ℕ) (t : Table) : Type 0 where
   pub within : k ≤ length s
@@ -200,17 +202,20 @@ pub record BodyOn (s : List ℕ) (at nest : ℕ) (around : List ℕ) (owner : �
   pub ahead : at + k < n
   pub loop : BodyLoop s at nest around owner table (n - at) t
 
+read≢refused : {B : Type 0} {n q i : ℕ} → _≡_ {A = Outcome} (Read n) (Refused q i) → B
+read≢refused e = let z : _≡_ {A = ℕ} 0 1 = cc in absurd (let w : ⊥ = omega arith in w)
+
 part-told : (o : ℕ) (t : Table) (x : Reading ((Written × Script) × Cursor)) (p : Scan) (n : ℕ) → p ≡ scannedPart o t x → p .outcome ≡ Read n
     → (q : (Written × Script) × Cursor) × (x ≡ got q) × (q .1 .index ≡ n) × (p .table ≡ tabulate o (part (t .count) (q .0 .0) (q .0 .1) close) t)
 unfolding scannedPart
-part-told o t (refuse q i) p n e d = let h = ap (λ (x : Scan). x .outcome) e in absurd (let z : _≡_ {A = ℕ} 0 1 = cc in let w : ⊥ = omega arith in w)
+part-told o t (refuse q i) p n e d = read≢refused (sym d ∙ ap (λ (x : Scan). x .outcome) e)
 part-told o t (got q) p n e d = let h = ap (λ (x : Scan). x .outcome) e in (q, refl, cc, ap (λ (x : Scan). x .table) e)
 
 part-refused : (o : ℕ) (t : Table) (x : Reading ((Written × Script) × Cursor)) (k : (Written × Script) × Cursor → Reading (Script × Cursor)) (p : Scan) (q i : ℕ)
     → p ≡ scannedPart o t x → p .outcome ≡ Refused q i → p ≡ scanned o t (x >>= k)
 unfolding scannedPart scanned _>>=_
 part-refused o t (refuse q′ i′) k p q i e d = e
-part-refused o t (got r) k p q i e d = let h = ap (λ (x : Scan). x .outcome) e in absurd (let z : _≡_ {A = ℕ} 0 1 = cc in let w : ⊥ = omega arith in w)
+part-refused o t (got r) k p q i e d = read≢refused (sym (ap (λ (x : Scan). x .outcome) e) ∙ d)
 
 module _ (s : List ℕ) (at nest : ℕ) (around : List ℕ) (owner : ℕ) (table : Table) where
   pub body-begins : table .count ≤ at → BodyLoop s at nest around owner table 0 table
@@ -271,3 +276,88 @@ module _ (s : List ℕ) (at nest : ℕ) (around : List ℕ) (owner : ℕ) (table
 
         pub body-again : (n : ℕ) → p .outcome ≡ Read n → BodyOn s at nest around owner table k n (p .table)
         body-again n d = let (q, eq, en, et) = part-told owner t here p n told d in again q n (p .table) eq en et
+
+-- A part's message: the one at the second of the words s, the first of which is the part's, with the index `at`.
+abbrev pub messageAt : (s : List ℕ) (at nest : ℕ) (around : List ℕ) (n : ℕ) → Reading (Message × Cursor)
+messageAt s at nest around n = readMessage (length s - 1) nest around (cursor (at + 1) (suc n) (drop 1 s))
+
+message-told : (s : List ℕ) (at nest : ℕ) (around : List ℕ) (n : ℕ) (m : Outcome) → m ≡ readOf (Tails.part s 1) (at + 1) nest around (suc n) → m ≡ outcome (messageAt s at nest around n)
+message-told s at nest around n m e = rw (part-drop s 1, length-drop 1 s) at e
+
+-- a message that was refused refuses its part
+refused-message : (o : ℕ) (t : Table) (x : Reading (Message × Cursor)) (k : Message × Cursor → Reading ((Written × Script) × Cursor)) (q i : ℕ) → outcome x ≡ Refused q i → refusedAt q i ≡ scannedPart o t (x >>= k)
+unfolding outcome scannedPart _>>=_
+refused-message o t (refuse q′ i′) k q i e = let a : q′ ≡ q = cc in let b : i′ ≡ i = cc in rw (a, b)
+refused-message o t (got p) k q i e = read≢refused e
+
+-- what a guarded part is entered as
+guarded-kind : (kind : ℕ) (m : Message) → 1 ≤ kind → kind ≤ 2 → kindNumber (guardedHead kind m) ≡ kind
+unfolding kindNumber
+guarded-kind zero m h k = absurd (omega arith)
+guarded-kind (suc zero) m h k = refl
+guarded-kind (suc (suc zero)) m h k = refl
+guarded-kind (suc (suc (suc n))) m h k = absurd (omega arith)
+
+guarded-start : (b : Bool) (m : Message) (i : ℕ) → startBy (cond b (ambient m) (action m)) i ≡ i + 1
+guarded-start true m i = refl
+guarded-start false m i = refl
+
+module _ (s : List ℕ) (at nest : ℕ) (around : List ℕ) (owner : ℕ) (table : Table) where
+  -- a refusal of the word itself
+  pub part-unfit : (q : ℕ) → refusedAt q at ≡ scannedPart owner table (partAt (No q) s at nest around (table .count))
+  unfolding partFrom scannedPart
+  part-unfit q = refl
+
+  pub part-close : refusedAt 2 at ≡ scannedPart owner table (partAt Close s at nest around (table .count))
+  unfolding partFrom scannedPart
+  part-close = refl
+
+  -- a receipt: its body, with one receipt more around
+  pub receipt-law : (a : List ℕ) (t : Table) (r : Scan) → a ≡ at ∷ around → t ≡ entered owner 3 at table → r ≡ scanned (table .count) t (bodyAt (Tails.part s 1) (at + 1) (nest + 1) a (t .count))
+      → r ≡ scannedPart owner table (partAt Receipt s at nest around (table .count))
+  unfolding partFrom kindNumber
+  receipt-law a t r ea et er =
+      er ∙ rw (part-drop s 1, length-drop 1 s, ea, add-one nest)
+      (ap (λ (n : ℕ). scanned (table .count) t (readBody (length s - 1) (suc nest) (at ∷ around) (cursor (at + 1) n (drop 1 s)))) (entered-next owner 3 at table t et)
+      ∙ rw et (sym (scanned-inside owner table at (receipt at) _)))
+
+  module _ (m : Outcome) (em : m ≡ readOf (Tails.part s 1) (at + 1) nest around (suc (table .count))) where
+    pub output-law : (n : ℕ) (t : Table) → m ≡ Read n → t ≡ entered owner 4 (at + 1) table → record { outcome = m; table = t } ≡ scannedPart owner table (partAt Output s at nest around (table .count))
+    unfolding partFrom scannedPart tabulate kindNumber
+    output-law n t d et =
+        let (p, ep, en) = outcome-read (messageAt s at nest around (table .count)) n (sym (message-told s at nest around (table .count) m em) ∙ d) in
+        rw (d, et, bind-got (messageAt s at nest around (table .count)) _ p ep, en)
+
+    module _ (q i : ℕ) (none : Table) (d : m ≡ Refused q i) (en : none ≡ vacant) where
+      abbrev refusal : Scan
+      refusal = record { outcome = m; table = none }
+
+      refusal-is : (k : Message × Cursor → Reading ((Written × Script) × Cursor)) → refusal ≡ scannedPart owner table (messageAt s at nest around (table .count) >>= k)
+      refusal-is k = rw (d, en) (refused-message owner table (messageAt s at nest around (table .count)) k q i (sym (message-told s at nest around (table .count) m em) ∙ d))
+
+      pub output-refused : refusal ≡ scannedPart owner table (partAt Output s at nest around (table .count))
+      unfolding partFrom
+      output-refused = refusal-is _
+
+      pub guarded-refused : (kind : ℕ) → refusal ≡ scannedPart owner table (guardedAt kind s at nest around (table .count))
+      guarded-refused kind = refusal-is _
+
+    -- an ambient or an action: message, then body
+    pub guarded-law : (kind n : ℕ) (t : Table) (r : Scan) → 1 ≤ kind → kind ≤ 2 → 0 < length s → m ≡ Read n → t ≡ entered owner kind (at + 1) table
+        → r ≡ scanned (table .count) t (bodyAt (Tails.part s (n - at)) n (nest + 1) around (t .count)) → r ≡ scannedPart owner table (guardedAt kind s at nest around (table .count))
+    guarded-law kind n t r h k z d et er =
+        let (p, ep, en) = outcome-read (messageAt s at nest around (table .count)) n (sym (message-told s at nest around (table .count) m em) ∙ d) in
+        (rw (part-drop s (n - at), add-one nest) at er)
+        ∙ body-is p n t en et (message-advances (length s - 1) nest around (cursor (at + 1) (suc (table .count)) (drop 1 s)) p ep)
+        ∙ sym (ap (scannedPart owner table) (bind-got (messageAt s at nest around (table .count)) _ p ep) ∙ scanned-inside owner table at (guardedHead kind (p .0)) _
+          ∙ rw (guarded-kind kind (p .0) h k, guarded-start (eqb kind 1) (p .0) at, et))
+      where
+        body-is : (p : Message × Cursor) (n : ℕ) (t : Table) → p .1 .index ≡ n → t ≡ entered owner kind (at + 1) table → MessageRead around (cursor (at + 1) (suc (table .count)) (drop 1 s)) p
+            → scanned (table .count) t (bodyAt (drop (n - at) s) n (suc nest) around (t .count)) ≡ scanned (table .count) t (readBody (length s - 1) (suc nest) around (p .1))
+        body-is p n t en et a =
+          let c : t .count ≡ suc (table .count) = entered-next owner kind (at + 1) table t et in
+          let y : 1 + (n - (at + 1)) ≡ n - at = omega (arith, a .ahead, en) in
+          let l : p .1 .left ≡ drop (n - at) s = a .advances .tail ∙ rw (en, drop-drop, y) in
+          ap (scanned (table .count) t)
+          (body-fuel _ _ (suc nest) around (cursor n (t .count) (drop (n - at) s)) (omega arith) (omega (arith, a .ahead, en, length-drop (n - at) s))
+          ∙ ap (λ (x : Cursor). readBody (length s - 1) (suc nest) around x) (sym (placed (p .1) n (t .count) (drop (n - at) s) en (a .number ∙ sym c) l)))
