@@ -2,3 +2,4 @@
 pub mod Words
 pub mod Laws
 pub mod Steps
+pub mod Whole

@@ -11,16 +11,16 @@ use borrow.Author.Tests.{leb-true}
 use denote.Enum.Declared.{tagOf}
 use types.Run.{OneOf}
 use lib.Dec.{leb, eqb, ltb}
-use lib.ListN.{length, getD, drop, length-drop}
-use lib.Seq.{getD-drop, drop-drop}
+use lib.ListN.{length, getD, take, drop, length-drop}
+use lib.Seq.{getD-drop, drop-drop, take-all}
 use Rattle.messages.specs.Reading.{Cursor, cursor, Reading, refuse, got, _>>=_, ask, split, nextWord, nextPart, outcome}
 use Rattle.messages.specs.Words.{kind, operand}
 use Rattle.messages.specs.Message.{Message}
 use Rattle.messages.specs.ReadMessage.{readMessage}
 use Rattle.messages.proofs.Readings.{bind-got, placed, outcome-read}
-use Rattle.messages.proofs.Tails.{part-drop}
+use Rattle.messages.proofs.Tails.{part-drop, length-part}
 use Rattle.messages.proofs.Tails as Tails
-use Rattle.messages.proofs.Laws.{MessageRead, message-advances, readOf}
+use Rattle.messages.proofs.Laws.{MessageRead, message-advances, readOf, read-bounds}
 use Rattle.scripts.specs.Tree.{Head, ambient, action, receipt, output, close, part, sum, parts, kindNumber}
 use Rattle.scripts.specs.Script.{Written, Script, partKind, partWord, fits, guardedHead, guardedFrom, partFrom, orClose, readBody, askedPart}
 use Rattle.scripts.specs.Table.{entered, startBy, tabulate, refusedAt, vacant, scanned, scannedPart}
@@ -170,7 +170,7 @@ pub entered-count : (o k s : ℕ) (t : Table) → entered o k s t .count ≡ t .
 unfolding entered
 entered-count o k s t = cond-count (ltb (t .count) 64) _ _ _ refl refl
 
-entered-next : (o k s : ℕ) (table t : Table) → t ≡ entered o k s table → t .count ≡ suc (table .count)
+pub entered-next : (o k s : ℕ) (table t : Table) → t ≡ entered o k s table → t .count ≡ suc (table .count)
 entered-next o k s table t e = ap (λ (x : Table). x .count) e ∙ entered-count o k s table ∙ add-one (table .count)
 
 pub tabulate-count : (o : ℕ) (b : Script) (t : Table) → tabulate o b t .count ≡ t .count + parts b
@@ -202,7 +202,7 @@ pub record BodyOn (s : List ℕ) (at nest : ℕ) (around : List ℕ) (owner : �
   pub ahead : at + k < n
   pub loop : BodyLoop s at nest around owner table (n - at) t
 
-read≢refused : {B : Type 0} {n q i : ℕ} → _≡_ {A = Outcome} (Read n) (Refused q i) → B
+pub read≢refused : {B : Type 0} {n q i : ℕ} → _≡_ {A = Outcome} (Read n) (Refused q i) → B
 read≢refused e = let z : _≡_ {A = ℕ} 0 1 = cc in absurd (let w : ⊥ = omega arith in w)
 
 part-told : (o : ℕ) (t : Table) (x : Reading ((Written × Script) × Cursor)) (p : Scan) (n : ℕ) → p ≡ scannedPart o t x → p .outcome ≡ Read n
@@ -281,6 +281,10 @@ module _ (s : List ℕ) (at nest : ℕ) (around : List ℕ) (owner : ℕ) (table
 abbrev pub messageAt : (s : List ℕ) (at nest : ℕ) (around : List ℕ) (n : ℕ) → Reading (Message × Cursor)
 messageAt s at nest around n = readMessage (length s - 1) nest around (cursor (at + 1) (suc n) (drop 1 s))
 
+-- the receipts around, as the code lends them: the array's indices from f on
+pub lent : (l : List ℕ) (f : ℕ) (s : List ℕ) (i nest n : ℕ) (m : Outcome) → length l ≡ 65 → m ≡ readOf s i nest (take (65 - f) (drop f l)) n → m ≡ readOf s i nest (drop f l) n
+lent l f s i nest n m h e = rw (take-all (65 - f) (drop f l) (omega (arith, length-drop f l))) at e
+
 message-told : (s : List ℕ) (at nest : ℕ) (around : List ℕ) (n : ℕ) (m : Outcome) → m ≡ readOf (Tails.part s 1) (at + 1) nest around (suc n) → m ≡ outcome (messageAt s at nest around n)
 message-told s at nest around n m e = rw (part-drop s 1, length-drop 1 s) at e
 
@@ -322,11 +326,16 @@ module _ (s : List ℕ) (at nest : ℕ) (around : List ℕ) (owner : ℕ) (table
       ∙ rw et (sym (scanned-inside owner table at (receipt at) _)))
 
   module _ (m : Outcome) (em : m ≡ readOf (Tails.part s 1) (at + 1) nest around (suc (table .count))) where
-    pub output-law : (n : ℕ) (t : Table) → m ≡ Read n → t ≡ entered owner 4 (at + 1) table → record { outcome = m; table = t } ≡ scannedPart owner table (partAt Output s at nest around (table .count))
+    pub message-bounds : 0 < length s → (n : ℕ) → m ≡ Read n → (at + 1 < n) × (n ≤ at + length s)
+    message-bounds h n d =
+        let b = read-bounds (Tails.part s 1) (at + 1) nest around (suc (table .count)) m n em d in
+        (b .0, omega (arith, b .1, length-part s 1))
+
+    pub output-law : (n : ℕ) (t : Table) → m ≡ Read n → t ≡ entered owner 4 (at + 1) table → record { outcome = Read n; table = t } ≡ scannedPart owner table (partAt Output s at nest around (table .count))
     unfolding partFrom scannedPart tabulate kindNumber
     output-law n t d et =
         let (p, ep, en) = outcome-read (messageAt s at nest around (table .count)) n (sym (message-told s at nest around (table .count) m em) ∙ d) in
-        rw (d, et, bind-got (messageAt s at nest around (table .count)) _ p ep, en)
+        rw (et, bind-got (messageAt s at nest around (table .count)) _ p ep, en)
 
     module _ (q i : ℕ) (none : Table) (d : m ≡ Refused q i) (en : none ≡ vacant) where
       abbrev refusal : Scan
@@ -361,3 +370,7 @@ module _ (s : List ℕ) (at nest : ℕ) (around : List ℕ) (owner : ℕ) (table
           ap (scanned (table .count) t)
           (body-fuel _ _ (suc nest) around (cursor n (t .count) (drop (n - at) s)) (omega arith) (omega (arith, a .ahead, en, length-drop (n - at) s))
           ∙ ap (λ (x : Cursor). readBody (length s - 1) (suc nest) around x) (sym (placed (p .1) n (t .count) (drop (n - at) s) en (a .number ∙ sym c) l)))
+
+-- the first word of the words from k on
+pub asked-front : (s : List ℕ) (k nest : ℕ) (w : PartWord) → w ≡ askedPart nest (partWord (getD s k 0)) → w ≡ askedPart nest (partWord (getD (Tails.part s k) 0 0))
+asked-front s k nest w e = let z : k + 0 ≡ k = omega arith in e ∙ rw (part-drop s k, getD-drop k s 0 0, z)
