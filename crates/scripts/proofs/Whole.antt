@@ -97,7 +97,7 @@ module _ (s : List ℕ) (some : 0 < length s) (most : length s ≤ 1024) where
       unfolding scanned
       script-behind h =
           let (p, ep, en, et) = scan-told 64 vacant (bodyAt s 0 0 [] 0) a n ea d in
-          sym (ap (scanned 64 vacant) (behind p ep (rw en h))) ∙ ap (λ (x : ℕ). refusedAt 5 x) en
+          sym (ap (scanned 64 vacant) (behind p ep (rw en h)) ∙ ap (λ (x : ℕ). refusedAt 5 x) en)
 
       pub script-many : length s ≤ n → 64 < a .table .count → refusedAt 6 0 ≡ scanned 64 vacant (readScript s)
       unfolding scanned
