@@ -1,2 +1,6 @@
 -- The laws of `scripts` that its own proofs and the crates above cite.
+pub mod Words
+pub mod Laws
+pub mod Steps
+pub mod Whole
 pub mod Tabled

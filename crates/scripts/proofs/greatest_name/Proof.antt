@@ -1,0 +1,73 @@
+-- `scripts::greatest_name` meets its contract: the greatest name of the words behind i. Assumes nothing.
+use Prim.Native.Nat.{_≤_}
+use mathlib.Core.Path.{_≡_, sym}
+use native.Mathlib.Omega.{arith}
+use borrow.Author.Needs.{needs}
+use lib.ListN.{length, drop}
+use Rattle.messages.specs.Words.{kind, operand}
+use Rattle.scripts.specs.Measures.{greatestName}
+use Rattle.scripts.proofs.Words.{greatest-end, greatest-other, greatest-name}
+use Rattle.scripts.proofs.greatest_name.Statement.{statement}
+use Rattle.scripts.proofs.greatest_name.Tie as tie
+
+abbrev Inv-loop : tie.InvT-loop
+Inv-loop s greatest₀ i₀ greatest i = (i ≤ length s) × (greatest ≡ greatestName (drop i s))
+
+abbrev μ-loop : tie.MeasureT-loop
+μ-loop s greatest₀ i₀ greatest i = i
+
+loop-holds : tie.Need-loop-holds Inv-loop μ-loop
+loop-holds c = (search needs, sym (greatest-end (c .args .s .now)))
+
+sub-i : tie.Need-sub-i Inv-loop μ-loop
+sub-i c = search needs
+
+mul-w : tie.Need-mul-w Inv-loop μ-loop
+mul-w c = search needs
+
+shared-slice-read-w : tie.Need-shared-slice-read-w Inv-loop μ-loop
+shared-slice-read-w c = search needs
+
+loop-less : tie.Need-loop-less Inv-loop μ-loop
+loop-less c = search needs
+
+loop-again : tie.Need-loop-again Inv-loop μ-loop
+unfolding kind operand
+loop-again c = (search needs, greatest-name (c .before .before .before .before .before .args .s .now) _ _ (c .before .before .before .loop-test .taken) (c .before .before .before .before .loop .inv .0) (c .before .before .before .before .loop .inv .1) _ (c .before .if1 .taken) (omega arith))
+
+loop-less-2 : tie.Need-loop-less-2 Inv-loop μ-loop
+loop-less-2 c = search needs
+
+loop-again-2 : tie.Need-loop-again-2 Inv-loop μ-loop
+unfolding kind operand
+loop-again-2 c = (search needs, greatest-name (c .before .before .before .before .before .args .s .now) _ _ (c .before .before .before .loop-test .taken) (c .before .before .before .before .loop .inv .0) (c .before .before .before .before .loop .inv .1) _ (c .before .if1 .taken) (omega arith))
+
+loop-less-3 : tie.Need-loop-less-3 Inv-loop μ-loop
+loop-less-3 c = search needs
+
+loop-again-3 : tie.Need-loop-again-3 Inv-loop μ-loop
+unfolding kind operand
+loop-again-3 c = (search needs, greatest-other (c .before .before .before .before .args .s .now) _ _ (c .before .before .loop-test .taken) (c .before .before .before .loop .inv .0) (c .before .before .before .loop .inv .1) (c .if1 .left))
+
+returns : tie.Need-returns Inv-loop μ-loop
+returns c =
+    let z : c .before .loop .i ≡ 0 = omega arith in
+    rw z at (c .before .loop .inv .1)
+
+pub greatest-name-spec : {M : Type 1} → statement M
+greatest-name-spec =
+    tie.close
+    (tie.spec
+    Inv-loop
+    μ-loop
+    loop-holds
+    sub-i
+    mul-w
+    shared-slice-read-w
+    loop-less
+    loop-again
+    loop-less-2
+    loop-again-2
+    loop-less-3
+    loop-again-3
+    returns)
