@@ -2,24 +2,26 @@
 -- what reading gives: the parts are numbered in word order, and their messages are those that the words spell.
 -- Assumes nothing.
 use Prim.Native.Nat.{ℕ, zero, suc, _+_, _-_, _≤_, _<_}
-use mathlib.Core.Bool.{Bool, true, false, cond, _||_}
+use mathlib.Core.Bool.{_&&_}
 use mathlib.Core.List.{List, [], _∷_, _++_, append-assoc, append-nil}
 use mathlib.Core.Path.{_≡_, refl, sym, ap, ap₂, _∙_, subst}
 use mathlib.Core.Logic.{_⊎_, inl, inr, ⊎-elim}
 use native.Mathlib.Omega.{arith}
 use lib.ListN.{length, getD, set, drop, replicate, length-set, length-replicate, getD-replicate}
 use lib.Seq.{getD-set-same, getD-set-other}
-use lib.Dec.{eqb, ltb}
-use borrow.Author.Tests.{eq-eqb, ne-eqb, lt-ltb, le-ltb}
+use lib.Dec.{leb}
+use borrow.Author.Tests.{ne-eqb, lt-ltb, le-ltb, leb-true}
 use Rattle.sets.specs.Sets.{members, insert, mask, Rising, Below}
 use Rattle.sets.proofs.Members.{members-rising, members-below, members-empty}
 use Rattle.sets.proofs.Lists.{members-mask, insert-rising}
-use Rattle.messages.specs.Message.{Message}
+use Rattle.messages.specs.Reading.{Cursor, cursor, Reading, got, _>>=_, ask, isEmpty}
+use Rattle.messages.proofs.Readings.{bind-all, got-all, ask-inv}
 use Rattle.scripts.specs.Tree.{Head, ambient, action, receipt, output, Body, close, part, tops, sum, parts, mapHeads, kindNumber}
-use Rattle.scripts.specs.Script.{Written, Script}
+use Rattle.scripts.specs.Script.{Written, Script, readBody, readScript}
 use Rattle.scripts.specs.Table.{vacant, entered, startOf, startBy, tabulate}
-use Rattle.scripts.specs.Represents.{Numbered, Held, bodyIn, headAt, headIn, written, Tabled}
+use Rattle.scripts.specs.Represents.{Numbered, Held, bodyIn, headAt, headIn, written, Placed, Tabled}
 use Rattle.scripts.specs.declared.Table.{Table}
+use Rattle.scripts.proofs.Laws.{body-advances}
 
 -- ---- a number above all others of a rising list is inserted at its end
 
@@ -139,11 +141,6 @@ module _ (o k s : ℕ) (t : Table) (R : Room t) (W : Owner o (t .count)) (l : t 
     kids-kept = λ j n a. entered-kids j n;
   }
 
--- the parts' heads are those that the words say at their places
-abbrev pub Placed : (script : List ℕ) → Script → Type 0
-Placed ws close = Unit {0}
-Placed ws (part i w b r) = (headAt ws (kindNumber (w .head)) (startOf w) ≡ w .head) × Placed ws b × Placed ws r
-
 -- what a table holds after a body's parts
 record Filled (ws : List ℕ) (o : ℕ) (b : Script) (t u : Table) : Type 0 where
   wrote : Wrote o (t .count) (t .count + parts b) t u
@@ -215,3 +212,19 @@ module _ (ws : List ℕ) where
         top = F .own ∙ ap (λ (m : List ℕ). m ++ tops b) top;
         held = F .held;
       }
+
+-- what is claimed of a script that is read
+abbrev Holds : List ℕ → Script × Cursor → Type 0
+Holds ws p = Tabled ws (tabulate 64 (p .0) vacant) (p .0)
+
+-- THEOREM: the table of a script that is accepted holds the tree that the script is read as.
+pub script-tabled : (ws : List ℕ) (p : Script × Cursor) → readScript ws ≡ got p → Tabled ws (tabulate 64 (p .0) vacant) (p .0)
+unfolding readScript
+script-tabled ws =
+    bind-all (Holds ws) (ask 1 0 (leb 1 (length ws) && leb (length ws) 1024)) _
+    (λ _ _. bind-all (Holds ws) (readBody (length ws) 0 [] (cursor 0 0 ws)) _
+    (λ q e. bind-all (Holds ws) (ask 5 (q .1 .index) (isEmpty (q .1 .left))) _
+    (λ _ _. bind-all (Holds ws) (ask 6 0 (leb (q .1 .number) 64)) _
+    (λ u e₆. got-all (Holds ws) q
+    (let b = body-advances (length ws) 0 [] (cursor 0 0 ws) q e in
+    tabled ws (q .0) (b .numbered) (b .placed ws refl) (omega (arith, b .numbers, leb-true (q .1 .number) 64 (ask-inv 6 0 _ u e₆))))))))

@@ -9,8 +9,9 @@ use lib.Dec.{eqb}
 use Rattle.sets.specs.Sets.{members}
 use Rattle.messages.specs.Message.{Message}
 use Rattle.messages.specs.Spelling.{messageAt}
-use Rattle.scripts.specs.Tree.{Head, ambient, action, receipt, output, Body, close, part, tops, parts, count, mapHeads}
+use Rattle.scripts.specs.Tree.{Head, ambient, action, receipt, output, Body, close, part, kindNumber, tops, parts, mapHeads}
 use Rattle.scripts.specs.Script.{Written, Script}
+use Rattle.scripts.specs.Table.{startOf}
 use Rattle.scripts.specs.declared.Table.{Table}
 
 -- "Parts (kinds 1 to 4) are numbered 0, 1, 2 in word order": from n on
@@ -36,6 +37,11 @@ headAt ws k s =
 
 abbrev pub headIn : (script kinds starts : List ℕ) → ℕ → Head Message
 headIn ws kinds starts i = headAt ws (getD kinds i 0) (getD starts i 0)
+
+-- every part is what the words say at its place
+abbrev pub Placed : (script : List ℕ) → Script → Type 0
+Placed ws close = Unit {0}
+Placed ws (part i w b r) = (headAt ws (kindNumber (w .head)) (startOf w) ≡ w .head) × Placed ws b × Placed ws r
 
 -- the tree, its parts being what they are without their places
 abbrev pub written : Script → Body (Head Message)
