@@ -18,9 +18,10 @@ use Rattle.messages.specs.Reading.{Cursor, cursor, Reading, got, _>>=_, ask, is
 use Rattle.messages.proofs.Readings.{bind-all, got-all, ask-inv}
 use Rattle.scripts.specs.Tree.{Head, ambient, action, receipt, output, Body, close, part, tops, sum, parts, mapHeads, kindNumber}
 use Rattle.scripts.specs.Script.{Written, Script, readBody, readScript}
-use Rattle.scripts.specs.Table.{vacant, entered, startOf, startBy, tabulate}
+use Rattle.scripts.specs.Table.{vacant, entered, startOf, tabulate, scanned}
 use Rattle.scripts.specs.Represents.{Numbered, Held, bodyIn, headAt, headIn, written, Placed, Tabled}
 use Rattle.scripts.specs.declared.Table.{Table}
+use Rattle.scripts.specs.declared.Scan.{Scan}
 use Rattle.scripts.proofs.Laws.{body-advances}
 
 -- ---- a number above all others of a rising list is inserted at its end
@@ -228,3 +229,12 @@ script-tabled ws =
     (λ u e₆. got-all (Holds ws) q
     (let b = body-advances (length ws) 0 [] (cursor 0 0 ws) q e in
     tabled ws (q .0) (b .numbered) (b .placed ws refl) (omega (arith, b .numbers, leb-true (q .1 .number) 64 (ask-inv 6 0 _ u e₆))))))))
+
+-- what the reader answers, and so what its table holds
+abbrev pub Answers : List ℕ → Scan → Type 0
+Answers ws r = (r ≡ scanned 64 vacant (readScript ws)) × ((p : Script × Cursor) → readScript ws ≡ got p → Tabled ws (r .table) (p .0))
+
+pub answers : (ws : List ℕ) (r : Scan) → r ≡ scanned 64 vacant (readScript ws) → Answers ws r
+unfolding scanned
+answers ws r e =
+    (e, λ p d. subst (λ (t : Table). Tabled ws t (p .0)) (sym (ap (λ (x : Scan). x .table) (e ∙ ap (scanned 64 vacant) d))) (script-tabled ws p d))

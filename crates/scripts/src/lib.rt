@@ -5,10 +5,11 @@ ghost use mathlib.Core.Path.{_≡_};
 ghost use mathlib.Core.List.{List, _∷_};
 ghost use Prim.Native.Nat.{ℕ, suc, _+_, _-_, _≤_, _<_};
 ghost use lib.ListN.{length, drop, getD};
-ghost use Rattle.messages.specs.Reading.{cursor};
+ghost use Rattle.messages.specs.Reading.{Cursor, cursor, got};
 ghost use Rattle.messages.specs.ReadMessage.{readMessage};
-ghost use Rattle.scripts.specs.Script.{partWord, askedPart, guardedHead, guardedFrom, partFrom, readBody, readScript};
+ghost use Rattle.scripts.specs.Script.{Script, partWord, askedPart, guardedHead, guardedFrom, partFrom, readBody, readScript};
 ghost use Rattle.scripts.specs.Table.{vacant, refusedAt, entered, scanned, scannedPart};
+ghost use Rattle.scripts.specs.Represents.{Tabled};
 ghost use Rattle.scripts.specs.Measures.{greatestName};
 
 // What a word is where a part is expected, or the number of the first question that it answers by no.
@@ -216,7 +217,8 @@ fn read_guarded(kind: u8, s: &[u32], at: usize, nest: usize, around: Around, own
 
 // The script: questions 1 to 6.
 pub fn read_script(s: &[u32]) -> Scan
-    ensures { λ r. ⌜ r ≡ scanned 64 vacant (readScript (now (s .entry))) ⌝ }
+    ensures answer { λ r. ⌜ r ≡ scanned 64 vacant (readScript (now (s .entry))) ⌝ }
+    ensures table { λ r. ⌜ ((p : Script × Cursor) → readScript (now (s .entry)) ≡ got p → Tabled (now (s .entry)) (r .table) (p .0)) ⌝ }
 {
     let n = s.len();
     if n == 0 {
