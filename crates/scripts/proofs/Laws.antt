@@ -139,7 +139,7 @@ module _ (nest : ℕ) (around : List ℕ) (c : Cursor) where
   }
 
 -- a body that was read was closed at its first word, or has a part there
-or-close-all : (P : Script × Cursor → Type 0) (w : PartWord) (c : Cursor) (k : Reading (Script × Cursor)) → P (close, c) → ((b : Script × Cursor) → k ≡ got b → P b) → (b : Script × Cursor) → orClose w c k ≡ got b → P b
+pub or-close-all : (P : Script × Cursor → Type 0) (w : PartWord) (c : Cursor) (k : Reading (Script × Cursor)) → P (close, c) → ((b : Script × Cursor) → k ≡ got b → P b) → (b : Script × Cursor) → orClose w c k ≡ got b → P b
 unfolding orClose
 or-close-all P Close c k h f b e = got-all P (close, c) h b e
 or-close-all P Ambient c k h f b e = f b e

@@ -3,4 +3,5 @@ pub mod Words
 pub mod Laws
 pub mod Steps
 pub mod Whole
+pub mod Cases
 pub mod Tabled
