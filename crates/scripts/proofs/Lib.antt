@@ -4,4 +4,5 @@ pub mod Laws
 pub mod Steps
 pub mod Whole
 pub mod Cases
+pub mod Numbers
 pub mod Tabled
