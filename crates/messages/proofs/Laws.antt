@@ -11,7 +11,7 @@ use lib.ListN.{length, getD, drop, length-drop}
 use borrow.Author.Tests.{leb-true}
 use Rattle.messages.specs.Reading.{Cursor, cursor, Reading, refuse, got, _>>=_, ask, split, nextWord, outcome}
 use Rattle.messages.specs.Message.{Message, name, variable, enter, exit, opens, empty, path}
-use Rattle.messages.specs.ReadMessage.{messageWord, fits, bound, messageFrom, readMessage, follow, levelled, asked}
+use Rattle.messages.specs.ReadMessage.{messageWord, fits, bound, messageFrom, readMessage, follow, asked}
 use Rattle.messages.specs.declared.MessageWord.{MessageWord}
 use Rattle.messages.specs.declared.MessageWord.the-variants.{Name, Variable, Enter, Exit, Open, Empty, Path, Unfit}
 use Rattle.messages.specs.declared.Asked.{Asked}
@@ -21,7 +21,7 @@ use Rattle.messages.specs.declared.Outcome.the-variants.{Read, Refused}
 use Rattle.messages.proofs.Readings.{refuse≢got, bind-all, got-all, bind-cong, bind-got, bind-refuse, ask-inv, Advances, stands, advances-on, Next, next, next-advances, next-shorter, advances-shorter, next-end, placed, outcome-refused, outcome-read}
 use Rattle.messages.proofs.Tails.{no-element, first, part, part-drop, length-part}
 
--- What holds where a message was read: more fields may come.
+-- What holds where a message was read from c on, p being the message and the cursor behind it.
 pub record MessageRead (around : List ℕ) (c : Cursor) (p : Message × Cursor) : Type 0 where
   pub ahead : c .index < p .1 .index
   pub advances : Advances c (p .1)
@@ -175,8 +175,7 @@ step f nest around at number w ws =
 abbrev pub readOf : (s : List ℕ) (at nest : ℕ) (around : List ℕ) (number : ℕ) → Outcome
 readOf s at nest around number = outcome (readMessage (length s) nest around (cursor at number s))
 
--- The laws as the code meets them: a is what the questions 2, 3 and 4 say of the first word, r what the first call
--- answers, r′ what the second answers.
+-- no word is left
 pub read-none : (s : List ℕ) (at nest : ℕ) (around : List ℕ) (number : ℕ) → length s ≡ 0 → Refused 5 at ≡ readOf s at nest around number
 unfolding readMessage outcome
 read-none s at nest around number h = rw (no-element s h)
@@ -207,7 +206,8 @@ level-told nest true true true (No q) e = tt
 level-told nest true true true One e = leb-true nest 64 e
 level-told nest true true true Two e = leb-true nest 64 e
 
--- where the questions 2, 3 and 4 were asked of the first word, and what they said
+-- The laws as the code meets them: where the questions 2, 3 and 4 were asked of the first word, and what they said; then
+-- r is what the first call answers, r′ what the second answers.
 pub record First : Type 0 where
   pub words : List ℕ
   pub at : ℕ

@@ -1,6 +1,6 @@
 -- `messages::message_word` meets its contract: at each `return` the kind and the operand are rewritten by the tests that
 -- led there. Assumes nothing.
-use Prim.Native.Nat.{ℕ, _≤_}
+use Prim.Native.Nat.{ℕ, _%_}
 use mathlib.Core.Bool.{Bool, true, false, cond}
 use mathlib.Core.Path.{_≡_, refl}
 use native.Mathlib.Omega.{arith}
@@ -15,20 +15,21 @@ either : {A : Type 0} (t : Bool) (a : A) → cond t a a ≡ a
 either true a = refl
 either false a = refl
 
-positive : (n : ℕ) → (n ≡ 0 → ⊥) → 1 ≤ n
-positive n h = omega arith
-
 returns : tie.Need-returns
 unfolding messageWord kind operand nameFits
 returns c = rw (c .before .if1 .taken, c .if2 .taken)
 
 returns-2 : tie.Need-returns-2
 unfolding messageWord kind operand nameFits
-returns-2 c = rw (c .before .before .if1 .taken, le-leb _ _ (positive _ (c .before .if2 .left)), lt-leb _ _ (c .if3 .taken))
+returns-2 c =
+    let o : ℕ = c .before .before .before .args .w % 268435456 in
+    rw (c .before .before .if1 .taken, le-leb 1 o (omega arith), lt-leb o 255 (omega arith))
 
 returns-3 : tie.Need-returns-3
 unfolding messageWord kind operand nameFits
-returns-3 c = rw (c .before .before .if1 .taken, le-leb _ _ (positive _ (c .before .if2 .left)), le-leb _ _ (c .if3 .left))
+returns-3 c =
+    let o : ℕ = c .before .before .before .args .w % 268435456 in
+    rw (c .before .before .if1 .taken, le-leb 1 o (omega arith), le-leb o 255 (omega arith))
 
 returns-4 : tie.Need-returns-4
 unfolding messageWord kind operand
