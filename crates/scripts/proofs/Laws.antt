@@ -1,18 +1,17 @@
 -- Laws of the readers of bodies and parts: where they stand when they have read one, and that more fuel than words
 -- changes nothing. Assumes nothing.
-use Prim.Native.Nat.{ℕ, zero, suc, _+_, _-_, _≤_, _<_}
-use mathlib.Core.Bool.{Bool, true, false}
-use mathlib.Core.List.{List, [], _∷_}
+use Prim.Native.Nat.{ℕ, zero, suc, _+_, _≤_, _<_}
+use mathlib.Core.List.{List, _∷_}
 use mathlib.Core.Path.{_≡_, refl, sym, ap, _∙_}
 use native.Mathlib.Omega.{arith}
 use lib.Dec.{leb}
 use lib.ListN.{length}
-use Rattle.messages.specs.Reading.{Cursor, cursor, Reading, refuse, got, _>>=_, ask, nextWord, nextPart}
+use Rattle.messages.specs.Reading.{Cursor, Reading, got, _>>=_, ask, nextWord, nextPart}
 use Rattle.messages.specs.Message.{Message}
 use Rattle.messages.specs.ReadMessage.{readMessage}
 use Rattle.messages.proofs.Readings.{refuse≢got, bind-all, got-all, bind-cong, bind-refuse, Advances, advances-on, Next, next, next-advances, next-shorter, advances-shorter, next-end}
 use Rattle.messages.proofs.Laws.{MessageRead, message-advances, message-fuel}
-use Rattle.scripts.specs.Tree.{Head, ambient, action, receipt, output, close, part, sum, parts}
+use Rattle.scripts.specs.Tree.{Head, ambient, action, close, part, sum, parts}
 use Rattle.scripts.specs.Script.{Written, Script, partWord, fits, guardedFrom, partFrom, orClose, readBody}
 use Rattle.scripts.specs.declared.PartWord.{PartWord}
 use Rattle.scripts.specs.declared.PartWord.the-variants.{Close, Ambient, Action, Receipt, Output, No}
@@ -44,7 +43,7 @@ module _ (nest : ℕ) (around : List ℕ) (c : Cursor) where
     ahead = omega (arith, m .ahead, b .ahead);
     advances = advances-on c (q .1) (r .1) (m .advances) (b .advances);
     numbers = b .numbers ∙ ap (λ (n : ℕ). n + parts (r .0)) (m .number);
-    fewer = omega (arith, m .ahead, m .number, b .fewer)
+    fewer = omega (arith, m .ahead, m .number, b .fewer);
   }
 
   receipt-read : (a : List ℕ) (w : Written) (r : Script × Cursor) → BodyRead (suc nest) a c r → PartRead nest around c ((w, r .0), r .1)
@@ -65,7 +64,7 @@ module _ (nest : ℕ) (around : List ℕ) (c : Cursor) where
     ahead = omega (arith, n .index, a .ahead, b .ahead);
     advances = advances-on c (p .1) (r .1) (advances-on c (q .1) (p .1) (next-advances c q n) (record { ahead = a .advances .ahead; within = a .advances .within; tail = a .advances .tail })) (b .advances);
     numbers = omega (arith, n .number, a .numbers, b .numbers);
-    fewer = omega (arith, n .index, n .number, a .fewer, b .fewer)
+    fewer = omega (arith, n .index, n .number, a .fewer, b .fewer);
   }
 
 -- a body that was read was closed at its first word, or has a part there
@@ -149,12 +148,12 @@ body-fuel (suc f) (suc g) nest around c hf hg =
     let k : length (w .1 .left) ≤ g = omega (arith, next-shorter c w (next 5 c w e)) in
     or-close-cong (partWord (w .0)) (w .1) _ _
     (bind-cong (partFrom (readMessage f nest around) (readBody f (suc nest)) around (partWord (w .0)) (c .index) (nextPart (w .1))) _ _
-      (λ p e₁.
-        let h : length (p .1 .left) ≤ length (w .1 .left) = advances-shorter (nextPart (w .1)) (p .1) (part-read f nest around (partWord (w .0)) (c .index) (nextPart (w .1)) p e₁ .advances) in
-        ap (λ (x : Reading (Script × Cursor)). x >>= λ r. got (part (c .number) (p .0 .0) (p .0 .1) (r .0), r .1))
-        (body-fuel f g nest around (p .1) (omega arith) (omega arith)))
+    (λ p e₁.
+    let h : length (p .1 .left) ≤ length (w .1 .left) = advances-shorter (nextPart (w .1)) (p .1) (part-read f nest around (partWord (w .0)) (c .index) (nextPart (w .1)) p e₁ .advances) in
+    ap (λ (x : Reading (Script × Cursor)). x >>= λ r. got (part (c .number) (p .0 .0) (p .0 .1) (r .0), r .1))
+    (body-fuel f g nest around (p .1) (omega arith) (omega arith)))
     ∙ ap (λ (x : Reading ((Written × Script) × Cursor)). x >>= λ p. readBody g nest around (p .1) >>= λ r. got (part (c .number) (p .0 .0) (p .0 .1) (r .0), r .1))
-      (part-agree around (length (w .1 .left)) _ _ _ _ (message-advances f nest around)
-      (λ d h. message-fuel f g nest around d (omega arith) (omega arith))
-      (λ a d h. body-fuel f g (suc nest) a d (omega arith) (omega arith))
-      (partWord (w .0)) (c .index) (nextPart (w .1)) (omega arith))))))
+    (part-agree around (length (w .1 .left)) _ _ _ _ (message-advances f nest around)
+    (λ d h. message-fuel f g nest around d (omega arith) (omega arith))
+    (λ a d h. body-fuel f g (suc nest) a d (omega arith) (omega arith))
+    (partWord (w .0)) (c .index) (nextPart (w .1)) (omega arith))))))

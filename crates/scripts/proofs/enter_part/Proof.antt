@@ -15,7 +15,7 @@ add-t c = search needs
 
 returns : tie.Need-returns
 unfolding entered
-returns c = rw (le-ltb _ _ (c .if1 .taken))
+returns c = rw (le-ltb (c .before .args .table .count) 64 (omega arith))
 
 element-write-t : tie.Need-element-write-t
 element-write-t c = search needs
@@ -30,7 +30,7 @@ returns-2 : tie.Need-returns-2
 unfolding entered
 returns-2 c =
     let l : length (c .before .before .args .table .kids) ≡ 65 = search needs in
-    rw (lt-ltb _ _ (c .before .if1 .left), set-out (c .before .before .args .table .kids) (c .before .before .args .owner) _ (omega arith))
+    rw (lt-ltb (c .before .before .args .table .count) 64 (omega arith), set-out (c .before .before .args .table .kids) (c .before .before .args .owner) _ (omega arith))
 
 mul-before : tie.Need-mul-before
 mul-before c = search needs
@@ -49,7 +49,7 @@ element-write-t-3 c = search needs
 
 returns-3 : tie.Need-returns-3
 unfolding entered
-returns-3 c = rw (lt-ltb _ _ (c .before .before .before .if1 .left), ← c .with .ensures, mask-members _ (c .with .ok))
+returns-3 c = rw (lt-ltb (c .before .before .before .before .args .table .count) 64 (omega arith), ← c .with .ensures, mask-members _ (c .with .ok))
 
 pub enter-part-spec : {M : Type 1} → statement M
 enter-part-spec =

@@ -1,13 +1,11 @@
 -- `read_body`: its loop goes from part to part. Assumes nothing.
-use Prim.Native.Nat.{ℕ, suc, _+_, _-_, _≤_, _<_}
-use mathlib.Core.Path.{_≡_, refl, sym, ap, _∙_}
+use Prim.Native.Nat.{ℕ, _-_}
+use mathlib.Core.Path.{_∙_}
 use native.Mathlib.Omega.{arith}
-use borrow.Author.Needs.{needs, length-unmapped}
-use lib.ListN.{length, getD, drop}
+use borrow.Author.Needs.{needs}
+use lib.ListN.{length, drop}
 use Rattle.messages.proofs.Tails.{length-part}
-use Rattle.messages.proofs.Tails as Tails
-use Rattle.messages.proofs.Laws.{readOf}
-use Rattle.scripts.proofs.Steps.{BodyLoop, body-begins, body-ends, body-closes, body-hands, body-again, asked-front}
+use Rattle.scripts.proofs.Steps.{BodyLoop, BodyOn, body-begins, body-ends, body-closes, body-hands, body-again, asked-front}
 use Rattle.scripts.proofs.+read_body+read_guarded+read_part.Lts-read_body as lts
 use Rattle.scripts.proofs.read_body.Reads as reads
 use Rattle.scripts.proofs.+read_body+read_guarded+read_part.Proof.Measures.{read-body-at, read-body-claims}
@@ -19,6 +17,11 @@ abbrev pub μ-loop : lts.MeasureT-loop
 μ-loop s at nest around owner k₀ t₀ k t = length s - k
 
 module _ (t : ℕ) where
+  -- the part that was read, and the loop behind it
+  again : (c : lts.After-o (read-body-claims t) (read-body-at t) reads.Post Inv-loop μ-loop)
+      → BodyOn (c .before .before .before .before .before .before .before .before .before .before .args .s .now) (c .before .before .before .before .before .before .before .before .before .before .args .at) (c .before .before .before .before .before .before .before .before .before .before .args .nest) (drop (c .before .before .before .before .before .before .before .before .before .before .args .around .first) (c .before .before .before .before .before .before .before .before .before .before .args .around .indices)) (c .before .before .before .before .before .before .before .before .before .before .args .owner) (c .before .before .before .before .before .before .before .before .before .before .args .table) (c .before .before .before .before .before .before .before .before .loop .k) (c .o .given .0 .0) (c .before .before .read-part .result .table)
+  again c = body-again _ _ _ _ _ _ _ _ (c .before .before .before .before .before .before .before .before .loop .inv) (c .before .before .before .before .before .before .before .loop-test .taken) _ (c .before .before .before .before .before .ask-part .ensures) (c .before .before .before .before .match .keys2) _ (c .before .before .read-part .ensures) _ (c .o .given .1)
+
   pub loop-holds : lts.Need-loop-holds (read-body-claims t) (read-body-at t) reads.Post Inv-loop μ-loop
   loop-holds c = body-begins _ _ _ _ _ _ (omega arith)
 
@@ -71,13 +74,13 @@ module _ (t : ℕ) where
   returns-2 c = body-hands _ _ _ _ _ _ _ _ (c .before .before .before .before .before .before .before .before .loop .inv) (c .before .before .before .before .before .before .before .loop-test .taken) _ (c .before .before .before .before .before .ask-part .ensures) (c .before .before .before .before .match .keys2) _ (c .before .before .read-part .ensures) _ _ (c .enum-told2 .given .1)
 
   pub sub-k : lts.Need-sub-k (read-body-claims t) (read-body-at t) reads.Post Inv-loop μ-loop
-  sub-k c = omega (arith, body-again _ _ _ _ _ _ _ _ (c .before .before .before .before .before .before .before .before .before .before .loop .inv) (c .before .before .before .before .before .before .before .before .before .loop-test .taken) _ (c .before .before .before .before .before .before .before .ask-part .ensures) (c .before .before .before .before .before .before .match .keys2) _ (c .before .before .before .before .read-part .ensures) _ (c .before .before .o .given .1) .ahead)
+  sub-k c = omega (arith, again (c .before .before) .ahead)
 
   pub loop-less : lts.Need-loop-less (read-body-claims t) (read-body-at t) reads.Post Inv-loop μ-loop
-  loop-less c = let b = body-again _ _ _ _ _ _ _ _ (c .before .before .before .before .before .before .before .before .before .before .loop .inv) (c .before .before .before .before .before .before .before .before .before .loop-test .taken) _ (c .before .before .before .before .before .before .before .ask-part .ensures) (c .before .before .before .before .before .before .match .keys2) _ (c .before .before .before .before .read-part .ensures) _ (c .before .before .o .given .1) in omega (arith, b .ahead, b .loop .within)
+  loop-less c = let b = again (c .before .before) in omega (arith, b .ahead, b .loop .within)
 
   pub loop-again : lts.Need-loop-again (read-body-claims t) (read-body-at t) reads.Post Inv-loop μ-loop
-  loop-again c = body-again _ _ _ _ _ _ _ _ (c .before .before .before .before .before .before .before .before .before .before .loop .inv) (c .before .before .before .before .before .before .before .before .before .loop-test .taken) _ (c .before .before .before .before .before .before .before .ask-part .ensures) (c .before .before .before .before .before .before .match .keys2) _ (c .before .before .before .before .read-part .ensures) _ (c .before .before .o .given .1) .loop
+  loop-again c = again (c .before .before) .loop
 
   pub add-refused : lts.Need-add-refused (read-body-claims t) (read-body-at t) reads.Post Inv-loop μ-loop
   add-refused c = search needs

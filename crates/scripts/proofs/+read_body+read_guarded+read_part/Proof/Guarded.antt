@@ -1,9 +1,9 @@
 -- `read_guarded`: message, then body. Assumes nothing.
 use Prim.Native.Nat.{ℕ, suc, _+_, _-_, _≤_, _<_}
-use mathlib.Core.Path.{_≡_, refl, sym, ap, _∙_}
+use mathlib.Core.Path.{_≡_}
 use native.Mathlib.Omega.{arith}
-use borrow.Author.Needs.{needs, length-unmapped}
-use lib.ListN.{length, getD, drop}
+use borrow.Author.Needs.{needs}
+use lib.ListN.{length, drop}
 use Rattle.messages.proofs.Tails.{length-part}
 use Rattle.messages.proofs.Tails as Tails
 use Rattle.messages.proofs.Laws.{readOf}

@@ -1,15 +1,15 @@
 -- `read_part`: by what its first word is. Assumes nothing.
-use Prim.Native.Nat.{ℕ, suc, _+_, _-_, _≤_, _<_}
-use mathlib.Core.Path.{_≡_, refl, sym, ap, _∙_}
+use Prim.Native.Nat.{ℕ, suc, _+_}
+use mathlib.Core.Path.{_≡_, refl, sym, _∙_}
 use native.Mathlib.Omega.{arith}
-use borrow.Author.Needs.{needs, length-unmapped}
-use lib.ListN.{length, getD, drop}
+use borrow.Author.Needs.{needs}
+use lib.ListN.{length, drop}
 use Rattle.messages.proofs.Tails.{length-part}
 use Rattle.messages.proofs.Tails as Tails
 use Rattle.messages.proofs.Laws.{readOf}
 use Rattle.scripts.proofs.Steps.{lent, entered-next, asked-nest, part-unfit, part-close, receipt-law, output-law, output-refused}
 use Rattle.scripts.specs.Script.{fits, partFrom}
-use Rattle.scripts.specs.declared.PartWord.the-variants.{Close, Ambient, Action, Receipt, Output, No}
+use Rattle.scripts.specs.declared.PartWord.the-variants.{Ambient, Action, Receipt}
 use Rattle.scripts.proofs.+read_body+read_guarded+read_part.Lts-read_part as lts
 use Rattle.scripts.proofs.read_part.Reads as reads
 use Rattle.scripts.proofs.+read_body+read_guarded+read_part.Proof.Measures.{read-part-at, read-part-claims}
