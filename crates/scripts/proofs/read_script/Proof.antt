@@ -11,41 +11,20 @@ use Rattle.scripts.proofs.read_script.Tie as tie
 read : (c : tie.After-read-body) → BodyAsked (c .before .before .before .before .before .args .s .now) (c .read-body .result)
 read c = record { some = omega arith; most = omega arith; body = rw (c .before .vacant .ensures) at (c .read-body .ensures) }
 
-refused-requires : tie.Need-refused-requires
-refused-requires c κs = search needs
-
 returns : tie.Need-returns
 returns c = c .refused .ensures ∙ script-none (c .before .before .before .args .s .now) (c .before .if1 .taken)
-
-refused-requires-2 : tie.Need-refused-requires-2
-refused-requires-2 c κs = search needs
 
 returns-2 : tie.Need-returns-2
 returns-2 c = c .refused2 .ensures ∙ script-long (c .before .before .before .before .args .s .now) (c .before .if2 .taken)
 
-vacant-requires : tie.Need-vacant-requires
-vacant-requires c κs = search needs
-
 read-body-requires : tie.Need-read-body-requires
 read-body-requires c κs = omega (arith, ap (λ (x : Table). x .count) (c .vacant .ensures))
-
-enum-known-o : tie.Need-enum-known-o
-enum-known-o c = search needs
-
-enum-told : tie.Need-enum-told
-enum-told c = search needs
 
 returns-3 : tie.Need-returns-3
 returns-3 c = script-refused (read (c .before .before)) _ _ (c .enum-told .given .1)
 
-refused-requires-3 : tie.Need-refused-requires-3
-refused-requires-3 c κs = search needs
-
 returns-4 : tie.Need-returns-4
 returns-4 c = c .refused3 .ensures ∙ script-behind (read (c .before .before .before .before .before)) _ (c .before .before .before .o .given .1) (omega arith)
-
-refused-requires-4 : tie.Need-refused-requires-4
-refused-requires-4 c κs = search needs
 
 returns-5 : tie.Need-returns-5
 returns-5 c = c .refused4 .ensures ∙ script-many (read (c .before .before .before .before .before .before)) _ (c .before .before .before .before .o .given .1) (omega arith) (omega arith)
@@ -57,17 +36,17 @@ pub read-script-spec : {M : Type 1} → statement M
 read-script-spec =
     tie.close
     (tie.spec
-    refused-requires
+    (λ c κs. search needs)
     returns
-    refused-requires-2
+    (λ c κs. search needs)
     returns-2
-    vacant-requires
+    (λ c κs. search needs)
     read-body-requires
-    enum-known-o
-    enum-told
+    (λ c. search needs)
+    (λ c. search needs)
     returns-3
-    refused-requires-3
+    (λ c κs. search needs)
     returns-4
-    refused-requires-4
+    (λ c κs. search needs)
     returns-5
     returns-6)
