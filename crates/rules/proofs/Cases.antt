@@ -26,15 +26,15 @@ pub record Operand (somes : List ℕ) (w : ℕ) : Type 0 where
 pub record Cases (C : List ℕ → Cursor → Rule × Cursor → Type 0) : Type 0 where
   pub leaves : (somes : List ℕ) (c : Cursor) (q : ℕ × Cursor) → Next c q → C somes c (always (c .index), q .1) × C somes c (void (c .index), q .1)
   pub ones : (somes : List ℕ) (c : Cursor) (q : ℕ × Cursor) (p : Rule × Cursor) → Next c q → C somes (q .1) p
-    → C somes c (negation (c .index) (p .0), p .1) × C somes c (sometime (c .index) (p .0), p .1) × C somes c (somewhere (c .index) (p .0), p .1)
+      → C somes c (negation (c .index) (p .0), p .1) × C somes c (sometime (c .index) (p .0), p .1) × C somes c (somewhere (c .index) (p .0), p .1)
   pub twos : (somes : List ℕ) (c : Cursor) (q : ℕ × Cursor) (p r : Rule × Cursor) → Next c q → C somes (q .1) p → C somes (p .1) r
-    → C somes c (either (c .index) (p .0) (r .0), r .1) × C somes c (beside (c .index) (p .0) (r .0), r .1)
+      → C somes c (either (c .index) (p .0) (r .0), r .1) × C somes c (beside (c .index) (p .0) (r .0), r .1)
   pub ats : (somes : List ℕ) (c : Cursor) (q : ℕ × Cursor) (p : Rule × Cursor) → Next c q → ruleKind (q .0) ≡ AT → Operand somes (q .0) → C somes (q .1) p
-    → C somes c (at (c .index) (termOf (operand (q .0))) (p .0), p .1)
+      → C somes c (at (c .index) (termOf (operand (q .0))) (p .0), p .1)
   pub chooses : (somes : List ℕ) (c : Cursor) (q : ℕ × Cursor) (p : Rule × Cursor) → Next c q → suc (length somes) ≤ 8 → C (c .index ∷ somes) (q .1) p
-    → C somes c (some-name (c .index) (p .0), p .1)
+      → C somes c (some-name (c .index) (p .0), p .1)
   pub places : (somes : List ℕ) (c : Cursor) (q : ℕ × Cursor) (p : Rule × Cursor) → Next c q → ruleKind (q .0) ≡ PLACED → Operand somes (q .0) → C somes (nextPart (q .1)) p
-    → C somes c (placed (c .index) (q .1 .number) (termOf (operand (q .0))) (p .0), p .1)
+      → C somes c (placed (c .index) (q .1 .number) (termOf (operand (q .0))) (p .0), p .1)
 
 module _ (C : List ℕ → Cursor → Rule × Cursor → Type 0) (cases : Cases C) where
   -- a rule by the kind of its word

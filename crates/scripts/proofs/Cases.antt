@@ -25,17 +25,17 @@ pub record Cases (M : List ℕ → Cursor → Message × Cursor → Type 0) (B :
   pub messages : (f nest : ℕ) (around : List ℕ) (c : Cursor) (p : Message × Cursor) → readMessage f nest around c ≡ got p → M around c p
   pub closed : (around : List ℕ) (c : Cursor) (q : ℕ × Cursor) → Next c q → B around c (close, q .1)
   pub ambients : (around : List ℕ) (c : Cursor) (q : ℕ × Cursor) (m : Message × Cursor) (b r : Script × Cursor)
-    → Next c q → M around (nextPart (q .1)) m → B around (m .1) b → B around (b .1) r
-    → B around c (part (c .number) (at (c .index) (ambient (m .0))) (b .0) (r .0), r .1)
+      → Next c q → M around (nextPart (q .1)) m → B around (m .1) b → B around (b .1) r
+      → B around c (part (c .number) (at (c .index) (ambient (m .0))) (b .0) (r .0), r .1)
   pub actions : (around : List ℕ) (c : Cursor) (q : ℕ × Cursor) (m : Message × Cursor) (b r : Script × Cursor)
-    → Next c q → M around (nextPart (q .1)) m → B around (m .1) b → B around (b .1) r
-    → B around c (part (c .number) (at (c .index) (action (m .0))) (b .0) (r .0), r .1)
+      → Next c q → M around (nextPart (q .1)) m → B around (m .1) b → B around (b .1) r
+      → B around c (part (c .number) (at (c .index) (action (m .0))) (b .0) (r .0), r .1)
   pub receipts : (around : List ℕ) (c : Cursor) (q : ℕ × Cursor) (b r : Script × Cursor)
-    → Next c q → B (c .index ∷ around) (nextPart (q .1)) b → B around (b .1) r
-    → B around c (part (c .number) (at (c .index) (receipt (c .index))) (b .0) (r .0), r .1)
+      → Next c q → B (c .index ∷ around) (nextPart (q .1)) b → B around (b .1) r
+      → B around c (part (c .number) (at (c .index) (receipt (c .index))) (b .0) (r .0), r .1)
   pub outputs : (around : List ℕ) (c : Cursor) (q : ℕ × Cursor) (m : Message × Cursor) (r : Script × Cursor)
-    → Next c q → M around (nextPart (q .1)) m → B around (m .1) r
-    → B around c (part (c .number) (at (c .index) (output (m .0))) close (r .0), r .1)
+      → Next c q → M around (nextPart (q .1)) m → B around (m .1) r
+      → B around c (part (c .number) (at (c .index) (output (m .0))) close (r .0), r .1)
 
 module _ (M : List ℕ → Cursor → Message × Cursor → Type 0) (B : List ℕ → Cursor → Script × Cursor → Type 0) (cases : Cases M B) where
   -- a part that was read, with what stands behind it

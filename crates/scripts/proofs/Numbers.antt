@@ -31,18 +31,18 @@ module _ {H : Type 0} (j : ℕ) where
       let R = numbered-range (n + 1 + parts b) r (N .2) in
       byTest (eqb j i)
       (λ t.
-        let e : j ≡ i = eqb-true j i t in
-        let z : one (eqb j i) ≡ 1 = ap one t in
-        let i₀ : i ≡ n = N .0 in
-        let b₀ = B .under (omega arith) in
-        let r₀ = R .under (omega arith) in
-        record { once = omega arith; under = λ h. absurd (omega arith); over = λ h. absurd (omega arith) })
+      let e : j ≡ i = eqb-true j i t in
+      let z : one (eqb j i) ≡ 1 = ap one t in
+      let i₀ : i ≡ n = N .0 in
+      let b₀ = B .under (omega arith) in
+      let r₀ = R .under (omega arith) in
+      record { once = omega arith; under = λ h. absurd (omega arith); over = λ h. absurd (omega arith) })
       (λ t.
-        let z : one (eqb j i) ≡ 0 = ap one t in
-        record {
-          once = byTest (ltb j (n + 1 + parts b))
+      let z : one (eqb j i) ≡ 0 = ap one t in
+      record {
+        once = byTest (ltb j (n + 1 + parts b))
             (λ l. omega (arith, B .once, R .under (ltb-true j (n + 1 + parts b) l)))
             (λ l. omega (arith, R .once, B .over (ltb-false j (n + 1 + parts b) l)));
-          under = λ h. omega (arith, B .under (omega arith), R .under (omega arith));
-          over = λ h. omega (arith, B .over (omega arith), R .over (omega arith));
-        })
+        under = λ h. omega (arith, B .under (omega arith), R .under (omega arith));
+        over = λ h. omega (arith, B .over (omega arith), R .over (omega arith));
+      })
