@@ -9,13 +9,13 @@ use lib.Dec.{leb}
 use lib.ListN.{length}
 use Rattle.messages.specs.Reading.{Cursor, cursor, Reading, refuse, got, _>>=_, ask, isEmpty}
 use Rattle.messages.specs.declared.Outcome.the-variants.{Read, Refused}
-use Rattle.messages.proofs.Readings.{bind-got, bind-refuse, ask-yes, ask-no}
+use Rattle.messages.proofs.Readings.{bind-got, bind-refuse, ask-yes, ask-no, read≢refused}
 use Rattle.scripts.specs.Script.{Script, readScript}
 use Rattle.scripts.specs.Table.{vacant, tabulate, refusedAt, scanned}
 use Rattle.scripts.specs.declared.Table.{Table}
 use Rattle.scripts.specs.declared.Scan.{Scan}
 use Rattle.scripts.proofs.Laws.{BodyRead, body-advances}
-use Rattle.scripts.proofs.Steps.{bodyAt, tabulate-count, read≢refused}
+use Rattle.scripts.proofs.Steps.{bodyAt, tabulate-count}
 
 -- questions 5 and 6, once the body was read
 abbrev checked : Script × Cursor → Reading (Script × Cursor)
