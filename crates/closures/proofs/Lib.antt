@@ -1,0 +1,3 @@
+-- Laws of the moves that belong to no one function. Assumes nothing.
+pub mod Options
+pub mod Inversion
