@@ -64,6 +64,18 @@ module _ {G H : Type 0} (F : G → H) where
   holder-map n close = refl
   holder-map n (part i h b r) = rw (tops-map b, holder-map n r)
 
+-- heads changed twice, and in two ways that come to the same
+pub mapHeads-twice : {G H I J : Type 0} (F : H → J) (K : G → H) (L : I → J) (N : G → I) → ((h : G) → F (K h) ≡ L (N h)) →
+    (b : Body G) → mapHeads F (mapHeads K b) ≡ mapHeads L (mapHeads N b)
+unfolding mapHeads
+mapHeads-twice F K L N e close = refl
+mapHeads-twice F K L N e (part i h b r) = rw (e h, mapHeads-twice F K L N e b, mapHeads-twice F K L N e r)
+
+pub mapHeads-same : {H : Type 0} (F : H → H) → ((h : H) → F h ≡ h) → (b : Body H) → mapHeads F b ≡ b
+unfolding mapHeads
+mapHeads-same F e close = refl
+mapHeads-same F e (part i h b r) = rw (e h, mapHeads-same F e b, mapHeads-same F e r)
+
 -- settling, where the same heads count as actions with no items
 pub settle-map : {A B : Type 0} (F : Head A → Head B) (p : Head B → Bool) (q : Head A → Bool) →
     ((h : Head A) → p (F h) ≡ q h) → ((h : Head A) → isAmbient (F h) ≡ isAmbient h) →
