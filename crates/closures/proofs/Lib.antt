@@ -1,0 +1,6 @@
+-- Laws of the moves that belong to no one function. Assumes nothing.
+pub mod Options
+pub mod Inversion
+pub mod Sums
+pub mod Everywhere
+pub mod Naturality

@@ -1,0 +1,2 @@
+-- That the walk decides satisfaction, and what it needs. Assumes nothing.
+pub mod Renaming
