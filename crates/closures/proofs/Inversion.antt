@@ -9,15 +9,15 @@ use mathlib.Core.Option.{Option, none, some}
 use native.Mathlib.Omega.{arith}
 use lib.Dec.{eqb}
 use borrow.Author.Tests.{eqb-true, not-true}
-use Rattle.messages.specs.Message.{Message, name, variable, enter, exit, opens, empty, path, nameOf}
+use Rattle.messages.specs.Message.{Message, name, variable, enter, exit, opens, empty, path, nameOf, asks, firstItem}
 use Rattle.messages.specs.declared.Named.{Named}
 use Rattle.messages.specs.declared.Named.the-variants.{Called, Nameless}
 use Rattle.scripts.specs.Tree.{Head, ambient, action, receipt, output, Body, close, part, put, merge, Plain, settle}
 use Rattle.closures.specs.Bodies.{_>>=_, orElse, check, find, drop, alter, holder}
 use Rattle.closures.specs.Moves.{View, isNamed, isThat, sameName, toEnter, toExit, toOpen, Moved, variableOf, messageOf, quiet, onward, headName, firstOf, spentHead, spend, enterMove, exitMove, openMove, receiveMove, moveHere, inside, anywhere}
-use Rattle.closures.specs.PlainMachine.{asks, firstItem, plain, settled, settledBy, move}
-use Rattle.closures.specs.declared.First.{First}
-use Rattle.closures.specs.declared.First.the-variants.{Nothing, Enter, Exit, Open, Other}
+use Rattle.closures.specs.PlainMachine.{plain, settled, settledBy, move}
+use Rattle.messages.specs.declared.First.{First}
+use Rattle.messages.specs.declared.First.the-variants.{Nothing, Enter, Exit, Open, Other}
 use Rattle.closures.proofs.Options.{and-inv, some-is, none≢some, bind-inv, check-inv, cond-inv, orElse-inv, onward-inv}
 
 pub isNamed-inv : (x : Named) → isNamed x ≡ true → (n : ℕ) × (x ≡ Called n)

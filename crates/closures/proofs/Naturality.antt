@@ -14,8 +14,8 @@ use Rattle.messages.specs.declared.Named.the-variants.{Called, Nameless}
 use Rattle.scripts.specs.Tree.{Head, ambient, action, receipt, output, isAmbient, Body, close, part, tops, put, merge, mapHeads, settleBy}
 use Rattle.closures.specs.Bodies.{_>>=_, orElse, check, find, drop, alter, holder}
 use Rattle.closures.specs.Moves.{View, isNamed, isThat, sameName, toEnter, toExit, toOpen, Moved, variableOf, messageOf, quiet, onward, headName, firstOf, spentHead, spend, enterMove, exitMove, openMove, receiveMove, moveHere, inside, anywhere}
-use Rattle.closures.specs.declared.First.{First}
-use Rattle.closures.specs.declared.First.the-variants.{Nothing, Enter, Exit, Open, Other}
+use Rattle.messages.specs.declared.First.{First}
+use Rattle.messages.specs.declared.First.the-variants.{Nothing, Enter, Exit, Open, Other}
 use Rattle.closures.proofs.Options.{byTest, bind-map, bind-same, orElse-map, cond-inv, cond-map, onward-map}
 use Rattle.closures.proofs.Inversion.{isNamed-inv, variableOf-inv, messageOf-inv, found, Makes, inside-inv, anywhere-inv}
 

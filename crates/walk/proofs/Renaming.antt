@@ -9,11 +9,11 @@ use mathlib.Core.Option.{Option, none, some, Option·map}
 use native.Mathlib.Omega.{arith}
 use lib.Dec.{eqb}
 use borrow.Author.Tests.{eqb-true, eqb-false, eq-eqb, ne-eqb}
-use Rattle.messages.specs.Message.{Message, name, variable, enter, exit, opens, empty, path, items, nameOf, substitute, substituteItems}
+use Rattle.messages.specs.Message.{Message, name, variable, enter, exit, opens, empty, path, items, nameOf, substitute, substituteItems, asks, firstItem}
 use Rattle.messages.specs.declared.Named.the-variants.{Called, Nameless}
 use Rattle.scripts.specs.Tree.{Head, ambient, action, receipt, output, Body, close, part, mapHeads, settleBy, PlainHead, Plain, noItems, bare, settle}
 use Rattle.closures.specs.Moves.{Moved, headName, moveHere, anywhere}
-use Rattle.closures.specs.PlainMachine.{asks, firstItem, rest, substituteHead, substituteBody, plain, settledBy, move}
+use Rattle.closures.specs.PlainMachine.{rest, substituteHead, substituteBody, plain, settledBy, move}
 use Rattle.closures.proofs.Options.{byTest}
 use Rattle.closures.proofs.Naturality.{mapHeads-twice, mapHeads-same, settle-map, renamed, asked, Injective, mapHead, isAmbient-map, Translates, headName-map, mapMoved, moved-map}
 use Rattle.rules.specs.Rule.{Term, constant, chosen, Rule, always, negation, either, void, at, beside, some-name, sometime, somewhere, placed, Names, lookup, termName}
