@@ -1,0 +1,2 @@
+-- The theorems about the call.
+pub mod Runs
