@@ -1,2 +1,3 @@
 -- The theorems about the call.
 pub mod Runs
+pub mod Door
