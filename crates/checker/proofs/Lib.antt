@@ -1,3 +1,4 @@
 -- The theorems about the call.
 pub mod Runs
 pub mod Door
+pub mod Answers
