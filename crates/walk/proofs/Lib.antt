@@ -1,2 +1,4 @@
 -- That the walk decides satisfaction, and what it needs. Assumes nothing.
 pub mod Renaming
+pub mod Fits
+pub mod Listed
