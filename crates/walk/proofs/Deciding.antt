@@ -1,9 +1,9 @@
 -- The walk decides satisfaction: a yes means that the tree meets the rule, a no that it does not. The names 1 to G + d
 -- decide SOME, since a name beyond them can be exchanged for the last of them. Assumes nothing.
 use Prim.Native.Nat.{ℕ, zero, suc, _+_, _≤_, _<_}
-use mathlib.Core.Bool.{Bool, true, false, not, cond}
+use mathlib.Core.Bool.{Bool, true, false, cond}
 use mathlib.Core.List.{List, [], _∷_, List·Memᴰ, List·Memᴰ·head, List·Memᴰ·tail, List·Memᴰ·not-nil, List·Memᴰ·cases-cons}
-use mathlib.Core.Path.{_≡_, refl, sym, ap, ap₂, _∙_, subst}
+use mathlib.Core.Path.{_≡_, refl, sym, ap₂, _∙_, subst}
 use mathlib.Core.Logic.{_⊎_, inl, inr}
 use mathlib.Core.Option.{Option, none, some}
 use native.Mathlib.Omega.{arith}
@@ -11,16 +11,16 @@ use lib.Dec.{eqb, ltb}
 use lib.ListN.{length}
 use borrow.Author.Tests.{eqb-true, eqb-false, eq-eqb, ne-eqb, ltb-true, ltb-false}
 use Rattle.messages.specs.Message.{Message}
-use Rattle.scripts.specs.Tree.{Body, close, part, Plain}
+use Rattle.scripts.specs.Tree.{close, part, Plain}
 use Rattle.closures.specs.Moves.{Moved}
 use Rattle.closures.specs.PlainMachine.{move}
 use Rattle.closures.proofs.Options.{byTest, some-is, none≢some}
 use Rattle.rules.specs.Rule.{Term, Rule, always, negation, either, void, at, beside, some-name, sometime, somewhere, placed, Names, termName}
-use Rattle.calculus.specs.Satisfaction.{Divided, Inside, Within, here, deeper, Reaches, stay, go, Alone, wrapped, Sat}
-use Rattle.walk.specs.Walk.{Space, Count, Walked, stopped, says, Setting, range, onYes, onNo, turned, ifAny, firstYes, lastName, look, counted, walk}
+use Rattle.calculus.specs.Satisfaction.{Within, here, deeper, Reaches, stay, go, wrapped, Sat}
+use Rattle.walk.specs.Walk.{Count, Walked, stopped, says, Setting, range, onYes, onNo, turned, ifAny, firstYes, lastName, look, counted, walk}
 use Rattle.walk.specs.PlainWalk.{isVoid, only, divisions, insides, nexts, plainSpace}
 use Rattle.walk.proofs.Renaming.{renameNames, renameRule, renameTree, Permutation, Same, sat-rename}
-use Rattle.walk.proofs.Fits.{Fits, NamesAll, RuleAll, TermAll, move-fits, inside-fits, divided-fits, alone-fits, wrapped-fits, term-all, names-more, term-more, fits-more, tree-still, rule-still, names-still}
+use Rattle.walk.proofs.Fits.{Fits, NamesAll, RuleAll, move-fits, inside-fits, divided-fits, alone-fits, wrapped-fits, term-all, names-more, term-more, fits-more, tree-still, rule-still, names-still}
 use Rattle.walk.proofs.Listed.{in-range, of-range, Next, of-nexts, in-nexts, in-divisions, of-divisions, of-insides, in-insides, of-only, in-only}
 
 -- the answer is right about P
