@@ -1,19 +1,19 @@
 -- What holds of every part of a tree, at any depth: it is kept by every operation and by every move, if spending an item
 -- and delivering a message keep it. Assumes nothing.
 use Prim.Native.Nat.{ℕ}
-use mathlib.Core.Bool.{Bool, true, false, cond}
-use mathlib.Core.List.{List, [], _∷_}
-use mathlib.Core.Path.{_≡_, refl, sym, ap, _∙_, subst}
-use mathlib.Core.Option.{Option, none, some}
+use mathlib.Core.Bool.{Bool}
+use mathlib.Core.List.{List}
+use mathlib.Core.Path.{_≡_, refl, sym, subst}
+use mathlib.Core.Option.{some}
 use lib.Dec.{eqb, ltb}
 use borrow.Author.Tests.{eqb-true}
 use Rattle.messages.specs.Message.{Message}
-use Rattle.scripts.specs.Tree.{Head, ambient, action, receipt, output, isAmbient, Body, close, part, put, merge, mapHeads, settleBy, bare, Plain, settle}
+use Rattle.scripts.specs.Tree.{Head, receipt, output, isAmbient, Body, close, part, put, merge, mapHeads, settleBy, bare, Plain, settle}
 use Rattle.closures.specs.Bodies.{find, drop, alter}
 use Rattle.closures.specs.Moves.{View, Moved, spentHead, spend, moveHere}
 use Rattle.closures.specs.PlainMachine.{plain, move}
 use Rattle.closures.proofs.Options.{byTest, some-is, none≢some}
-use Rattle.closures.proofs.Inversion.{Opened, Received, Entered, Exited, Here, by-open, by-receive, by-enter, by-exit, here-inv, Makes, now, inner, outer, move-inv}
+use Rattle.closures.proofs.Inversion.{Here, by-open, by-receive, by-enter, by-exit, here-inv, Makes, now, inner, outer, move-inv}
 
 -- every part, by its number and its head, has Q
 abbrev pub Everywhere : {H : Type 0} → (ℕ → H → Type 0) → Body H → Type 0

@@ -1,13 +1,12 @@
 -- The numbers and the names of a tree, of a rule and of the names chosen: each number has one property and each name
 -- another, whatever these are. Moves, divisions, insides and wrapping keep it. Assumes nothing.
 use Prim.Native.Nat.{ℕ}
-use mathlib.Core.Bool.{Bool, true, false}
 use mathlib.Core.List.{List, [], _∷_, _++_}
-use mathlib.Core.Path.{_≡_, refl, sym, ap, ap₂, _∙_, subst}
-use mathlib.Core.Option.{Option, none, some}
+use mathlib.Core.Path.{_≡_, refl, ap, ap₂, subst}
+use mathlib.Core.Option.{some}
 use lib.Dec.{eqb}
 use Rattle.messages.specs.Message.{Message, name, variable, enter, exit, opens, empty, path, items, substitute, substituteItems}
-use Rattle.scripts.specs.Tree.{Head, ambient, action, receipt, output, Body, close, part, PlainHead, Plain}
+use Rattle.scripts.specs.Tree.{ambient, action, receipt, output, PlainHead, Plain}
 use Rattle.closures.specs.Moves.{Moved, spentHead}
 use Rattle.closures.specs.PlainMachine.{rest, substituteHead, substituteBody, plain, move}
 use Rattle.closures.proofs.Options.{byTest}

@@ -2,3 +2,4 @@
 pub mod Renaming
 pub mod Fits
 pub mod Listed
+pub mod Deciding

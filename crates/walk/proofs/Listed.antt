@@ -1,19 +1,17 @@
 -- What the walk's lists hold: the numbers of a range, the divisions of a tree, the insides of its named ambients, and what
 -- stands after each move, of which none is missing where every part number is below the limit. Assumes nothing.
 use Prim.Native.Nat.{ℕ, zero, suc, _+_, _≤_, _<_}
-use mathlib.Core.Bool.{Bool, true, false, cond, false≢true}
-use mathlib.Core.List.{List, [], _∷_, _++_, List·Memᴰ, List·Memᴰ·head, List·Memᴰ·tail, List·Memᴰ·not-nil, List·Memᴰ·cases-cons, List·Memᴰ·append-cases, Memᴰ·append-left, Memᴰ·append-right}
-use mathlib.Core.Path.{_≡_, refl, sym, ap, ap₂, _∙_, subst}
+use mathlib.Core.List.{List, [], _∷_, List·Memᴰ, List·Memᴰ·head, List·Memᴰ·tail, List·Memᴰ·not-nil, List·Memᴰ·cases-cons, List·Memᴰ·append-cases, Memᴰ·append-left, Memᴰ·append-right}
+use mathlib.Core.Path.{_≡_, refl, sym, ap, _∙_, subst}
 use mathlib.Core.Logic.{_⊎_, inl, inr}
 use mathlib.Core.Option.{Option, none, some}
 use native.Mathlib.Omega.{arith}
 use lib.Dec.{eqb}
 use borrow.Author.Tests.{eqb-true, eqb-false, eq-eqb}
 use Rattle.messages.specs.Message.{Message}
-use Rattle.messages.specs.declared.Named.{Named}
-use Rattle.messages.specs.declared.Named.the-variants.{Called, Nameless}
-use Rattle.scripts.specs.Tree.{Body, close, part, PlainHead, Plain}
-use Rattle.closures.specs.Moves.{Moved, headName, isNamed, isThat, sameName}
+use Rattle.messages.specs.declared.Named.the-variants.{Called}
+use Rattle.scripts.specs.Tree.{close, part, PlainHead, Plain}
+use Rattle.closures.specs.Moves.{Moved, headName, isNamed, sameName}
 use Rattle.closures.specs.PlainMachine.{plain, move}
 use Rattle.closures.proofs.Options.{byTest, some-is, none≢some, cond-inv}
 use Rattle.closures.proofs.Inversion.{isNamed-inv, sameName-inv}
@@ -85,12 +83,12 @@ module _ {S : Type 0} where
 
   pub of-order : (limit : ℕ) (make : ℕ → ℕ → Option S) (c : S) → List·Memᴰ c (inOrder limit make) → (a : ℕ) × (t : ℕ) × (make a t ≡ some c)
   unfolding inOrder
-  of-order limit make c m = of-moves-from make (range 0 limit) (range 0 limit) c m
+  of-order limit make c m = of-moves-from make _ _ c m
 
   pub in-order : (limit : ℕ) (make : ℕ → ℕ → Option S) (a t : ℕ) (c : S) → make a t ≡ some c → a < limit → t < limit → List·Memᴰ c (inOrder limit make)
   unfolding inOrder
   in-order limit make a t c e i j =
-      in-moves-from make a t (range 0 limit) (range 0 limit) c e (in-range 0 limit a (omega arith) (omega arith)) (in-range 0 limit t (omega arith) (omega arith))
+      in-moves-from make a t _ _ c e (in-range _ _ a (omega arith) (omega arith)) (in-range _ _ t (omega arith) (omega arith))
 
 -- what stands after one move
 

@@ -1,17 +1,15 @@
 -- Satisfaction does not change when names are permuted: moves commute with renaming, and so does everything that a rule
 -- looks at. Assumes nothing.
 use Prim.Native.Nat.{ℕ, _+_, _≤_}
-use mathlib.Core.Bool.{Bool, true, false}
 use mathlib.Core.List.{List, [], _∷_, _++_, map}
 use mathlib.Core.Path.{_≡_, refl, sym, ap, ap₂, _∙_, subst}
-use mathlib.Core.Logic.{_⊎_, inl, inr, _↔_}
+use mathlib.Core.Logic.{inl, inr, _↔_}
 use mathlib.Core.Option.{Option, none, some, Option·map}
-use native.Mathlib.Omega.{arith}
 use lib.Dec.{eqb}
 use borrow.Author.Tests.{eqb-true, eqb-false, eq-eqb, ne-eqb}
 use Rattle.messages.specs.Message.{Message, name, variable, enter, exit, opens, empty, path, items, nameOf, substitute, substituteItems, asks, firstItem}
-use Rattle.messages.specs.declared.Named.the-variants.{Called, Nameless}
-use Rattle.scripts.specs.Tree.{Head, ambient, action, receipt, output, Body, close, part, mapHeads, settleBy, PlainHead, Plain, noItems, bare, settle}
+use Rattle.messages.specs.declared.Named.the-variants.{Called}
+use Rattle.scripts.specs.Tree.{ambient, action, receipt, output, close, part, mapHeads, PlainHead, Plain, noItems, bare, settle}
 use Rattle.closures.specs.Moves.{Moved, headName, moveHere, anywhere}
 use Rattle.closures.specs.PlainMachine.{rest, substituteHead, substituteBody, plain, settledBy, move}
 use Rattle.closures.proofs.Options.{byTest}
