@@ -1,0 +1,5 @@
+-- That satisfaction as the checker reads it is the paper's: the laws that lead there. Assumes nothing.
+pub mod Variables
+pub mod Shapes
+pub mod Congruences
+pub mod Substitutions
