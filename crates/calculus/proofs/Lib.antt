@@ -3,3 +3,5 @@ pub mod Variables
 pub mod Shapes
 pub mod Congruences
 pub mod Substitutions
+pub mod Divisions
+pub mod Picks
