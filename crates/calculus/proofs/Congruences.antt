@@ -5,12 +5,12 @@ use mathlib.Core.List.{List, [], _∷_, _++_}
 use mathlib.Core.Path.{_≡_, refl, sym, ap, ap₂, _∙_, subst}
 use native.Mathlib.Omega.{arith}
 use lib.Dec.{eqb}
-use borrow.Author.Tests.{eqb-true, eqb-false, ne-eqb}
+use borrow.Author.Tests.{eqb-true, ne-eqb}
 use Rattle.messages.specs.Message.{Message, name, variable, enter, exit, opens, empty, path, items}
 use Rattle.messages.specs.Message as message
 use Rattle.closures.proofs.Options.{byTest}
 use Rattle.calculus.specs.Calculus.{Process, 𝟎, _∣_, ambient, action, input, output, _≅_, Refl, Alpha, Symm, Trans, Par, Amb, Action, Input, ParComm, ParAssoc, ZeroPar, Null, Path, prefix, substitute, mentions, occurs}
-use Rattle.calculus.proofs.Variables.{eqb-same, mentions-none, mentions-other, occurs-input, occurs-under, occurs-less}
+use Rattle.calculus.proofs.Variables.{eqb-same, eqb-flip, mentions-none, mentions-other, occurs-input, occurs-under, occurs-less}
 use Rattle.calculus.proofs.Shapes.{Tag, place, can, hear, say, Shape, nil, cell, _⊕_, chain, Pick, here, there, Same, done, match, same-refl, same-trans, same-sym, same-append, same-eq, append-nil, append-assoc, append-comm, chain-append, chain-same}
 
 -- the message with its variables renamed
@@ -81,9 +81,6 @@ rename-message σ τ x y (exit m) a h = ap exit (rename-message σ τ x y m a h)
 rename-message σ τ x y (opens m) a h = ap opens (rename-message σ τ x y m a h)
 rename-message σ τ x y empty a h = refl
 rename-message σ τ x y (path m k) a h = ap₂ path (rename-message σ τ x y m (omega arith) h) (rename-message σ τ x y k (omega arith) h)
-
-eqb-flip : (x y : ℕ) → eqb x y ≡ false → eqb y x ≡ false
-eqb-flip x y e = ne-eqb y x (λ g. eqb-false x y e (sym g))
 
 fresh-under : (σ τ : ℕ → ℕ) (x y z n : ℕ) → eqb z x ≡ false → eqb z y ≡ false → Fresh σ τ x y → Fresh (bound σ z n) (bound τ z n) x y
 fresh-under σ τ x y z n a b h = (

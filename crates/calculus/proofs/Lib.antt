@@ -5,3 +5,5 @@ pub mod Congruences
 pub mod Substitutions
 pub mod Divisions
 pub mod Picks
+pub mod Processes
+pub mod Reductions

@@ -5,7 +5,7 @@ use mathlib.Core.Bool.{true, false, cond}
 use mathlib.Core.Path.{_≡_, refl, sym, ap, ap₂, _∙_, subst}
 use native.Mathlib.Omega.{arith}
 use lib.Dec.{eqb}
-use borrow.Author.Tests.{eqb-true, eq-eqb}
+use borrow.Author.Tests.{eqb-true, eqb-false, eq-eqb, ne-eqb}
 use Rattle.messages.specs.Message.{Message, name, variable, enter, exit, opens, empty, path}
 use Rattle.messages.specs.Message as message
 use Rattle.closures.proofs.Options.{byTest}
@@ -13,6 +13,9 @@ use Rattle.calculus.specs.Calculus.{Process, 𝟎, _∣_, ambient, actio
 
 pub eqb-same : (x : ℕ) → eqb x x ≡ true
 eqb-same x = eq-eqb x x refl
+
+pub eqb-flip : (x y : ℕ) → eqb x y ≡ false → eqb y x ≡ false
+eqb-flip x y e = ne-eqb y x (λ g. eqb-false x y e (sym g))
 
 pub mentions-none : (u v : ℕ) → mentions v (variable u) ≡ 0 → eqb u v ≡ false
 unfolding mentions
