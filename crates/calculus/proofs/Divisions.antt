@@ -1,4 +1,5 @@
--- What is congruent to 0, to n[Q] and to P | Q (000, proposition 3.1), for the tree of a settled body. Assumes nothing.
+-- Settled trees, their shapes, and what is congruent to 0 and to P | Q (000, proposition 3.1) for such a tree. Assumes
+-- nothing.
 use Prim.Native.Nat.{ℕ, suc, _+_, _≤_}
 use mathlib.Core.List.{List, [], _∷_}
 use mathlib.Core.Path.{_≡_, refl, sym, ap, _∙_, subst}
@@ -8,7 +9,7 @@ use Rattle.messages.specs.Message.{Message, empty, items}
 use Rattle.scripts.specs.Tree.{Head, close, part, PlainHead, Plain}
 use Rattle.calculus.specs.Satisfaction.{Divided, nothing, left, right}
 use Rattle.calculus.specs.Calculus.{occurs, Process, 𝟎, _∣_, ambient, _≅_, Refl, Symm, Trans, ParAssoc, ZeroPar, prefix, piece, process}
-use Rattle.calculus.proofs.Shapes.{Tag, place, can, hear, say, Shape, nil, cell, _⊕_, chain, Same, done, match, same-sym, pick-sum, same-one}
+use Rattle.calculus.proofs.Shapes.{Tag, place, can, hear, say, Shape, nil, cell, _⊕_, chain, Same, done, match, same-sym, pick-sum}
 use Rattle.calculus.proofs.Congruences.{renamed-own, bound, own, shape, sound, complete, Below, top, top-below, par-both, par-swap}
 
 -- an item
@@ -123,13 +124,6 @@ module _ (n : ℕ) where
   only-nil close w h = refl
   only-nil (part k h b r) w e = absurd (same-nil (same-sym (subst (λ u. Same u nil) (settled-flat n k h b r w) e)) tt)
 
-  -- a body that is the same as one cell
-  only-cell : (b : Plain) → Settled b → (g : Tag) (s : Shape) → Same (flat n b) (cell g s nil) → (k : ℕ) × (h : PlainHead) × (c : Plain) × (b ≡ part k h c close) × (tag n h ≡ g) × Same (core n h (process c)) s × SettledPart h c
-  only-cell close w g s h = absurd (same-nil (subst (λ u. Same u (cell g s nil)) (flat-close n) h) tt)
-  only-cell (part k h b r) w g s e =
-      let x = same-one (subst (λ u. Same u (cell g s nil)) (settled-flat n k h b r w) e) in
-      (k, h, b, ap (part k h b) (only-nil r (settled-rest w) (x .2)), x .0, x .1, settled-part w)
-
   pub tag-place : (h : PlainHead) (m : Message) → tag n h ≡ place m → h ≡ Head.ambient m
   unfolding tag
   tag-place (Head.ambient k) m e = cc
@@ -152,28 +146,10 @@ divided-occurs v nothing = omega arith
 divided-occurs v (left x) = omega (arith, divided-occurs v x)
 divided-occurs v (right x) = omega (arith, divided-occurs v x)
 
--- 000, proposition 3.1: (1), (2), (3)
+-- 000, proposition 3.1: what is congruent to 0, and to P | Q
 pub as-nothing : (b : Plain) → Settled b → process b ≅ 𝟎 → b ≡ close
 unfolding shape
 as-nothing b w h = only-nil 0 b w (tree-sound 0 b h)
-
-below-inside : (n k : ℕ) (m : Message) (b c : Plain) → b ≡ part k (Head.ambient m) c close → Below n (process b) → Below n (process c)
-unfolding process piece occurs
-below-inside n k m b c e f = λ v h. let g : occurs v (process (part k (Head.ambient m) c close)) ≡ 0 = subst (λ (u : Plain). occurs v (process u) ≡ 0) e (f v h) in omega arith
-
-pub as-ambient : (b : Plain) → Settled b → (m : Message) (q : Process) → process b ≅ ambient m q → (k : ℕ) × (c : Plain) × (b ≡ part k (Head.ambient m) c close) × (process c ≅ q) × Settled c
-unfolding shape core flat
-as-ambient b w m q h =
-    let n : ℕ = top (process b) + top q in
-    let x = only-cell n b w (place m) (shape n own q) (subst (λ (u : Message). Same (flat n b) (cell (place u) (shape n own q) nil)) (renamed-own m) (tree-sound n b h)) in
-    let e : x .1 ≡ Head.ambient m = tag-place n (x .1) m (x .4) in
-    let f : b ≡ part (x .0) (Head.ambient m) (x .2) close = x .3 ∙ ap (λ g. part (x .0) g (x .2) close) e in (
-      x .0,
-      x .2,
-      f,
-      tree-complete n (x .2) (below-inside n (x .0) m b (x .2) f (top-below (process b) n (omega arith))) (top-below q n (omega arith)) (subst (λ g. Same (core n g (process (x .2))) (shape n own q)) e (x .5)),
-      settled-inside (subst (λ g. SettledPart g (x .2)) e (x .6)),
-    )
 
 pub as-both : (b : Plain) → Settled b → (p q : Process) → process b ≅ p ∣ q → (c : Plain) × (d : Plain) × Divided b c d × (process c ≅ p) × (process d ≅ q)
 unfolding shape

@@ -1,5 +1,5 @@
--- A part of a body, picked by what it is and not by its number; and what is congruent to a prime beside the rest.
--- Assumes nothing.
+-- A part of a body, picked by what it is and not by its number; and what is congruent to an ambient, an action, a receipt or
+-- an output beside others (000, proposition 3.1). Assumes nothing.
 use Prim.Native.Nat.{ℕ, suc, _+_, _≤_}
 use mathlib.Core.List.{List, [], _∷_}
 use mathlib.Core.Path.{_≡_, refl, sym, ap, _∙_, subst}
@@ -9,10 +9,10 @@ use Rattle.messages.specs.Message.{Message, items}
 use Rattle.scripts.specs.Tree.{Head, close, part, sum, PlainHead, Plain}
 use Rattle.calculus.specs.Satisfaction.{Divided, nothing, left, right}
 use Rattle.calculus.specs.Order.{Part, front, behind}
-use Rattle.calculus.specs.Calculus.{occurs, Process, _∣_, ambient, action, input, output, _≅_, prefix, piece, process}
+use Rattle.calculus.specs.Calculus.{occurs, Process, 𝟎, _∣_, ambient, action, input, output, _≅_, Symm, Trans, ZeroPar, prefix, piece, process}
 use Rattle.calculus.proofs.Shapes.{Tag, place, can, hear, say, Shape, nil, cell, _⊕_, chain, Pick, here, there, Same, done, match, same-sym}
-use Rattle.calculus.proofs.Congruences.{renamed, renamed-own, bound, own, shape, complete, Below, top, top-below}
-use Rattle.calculus.proofs.Divisions.{Settled, SettledPart, action-part, settled-part, settled-rest, settled-inside, settled-join, tag, core, flat, settled-flat, flat-close, tag-place, tree-sound, tree-complete}
+use Rattle.calculus.proofs.Congruences.{renamed-own, bound, own, shape, complete, Below, top, top-below}
+use Rattle.calculus.proofs.Divisions.{Item, Settled, SettledPart, action-part, settled-part, settled-rest, settled-inside, settled-join, tag, core, flat, settled-flat, flat-close, tag-place, tree-sound, tree-complete, as-nothing}
 
 pub part-sum : (f : ℕ → PlainHead → ℕ) {b i c : Plain} {k : ℕ} {h : PlainHead} → Part b k h i c → sum f b ≡ f k h + (sum f i + sum f c)
 unfolding sum
@@ -43,36 +43,79 @@ not-nil : {g : Tag} {s t u : Shape} → Pick u g s t → u ≡ nil → ⊥
 not-nil here e = let z : _≡_ {A = ℕ} 0 1 = cc in omega arith
 not-nil (there p) e = let z : _≡_ {A = ℕ} 0 1 = cc in omega arith
 
+-- a part of b with that head, beside what is congruent to q
+pub record Has (b : Plain) (head : PlainHead) (q : Process) : Type 0 where
+  pub number : ℕ
+  pub inside : Plain
+  pub others : Plain
+  pub at : Part b number head inside others
+  pub congruent : process others ≅ q
+  pub settled : Settled others
+
 module _ (n : ℕ) where
-  abbrev Picked : Plain → Tag → Shape → Shape → Type 0
-  Picked b g s t = (k : ℕ) × (h : PlainHead) × (i : Plain) × (c : Plain) × Part b k h i c × (tag n h ≡ g) × (core n h (process i) ≡ s) × (flat n c ≡ t) × SettledPart h i × Settled c
+  -- the cell of a shape is a part of the tree
+  record Picked (b : Plain) (g : Tag) (s t : Shape) : Type 0 where
+    number : ℕ
+    head : PlainHead
+    inside : Plain
+    others : Plain
+    at : Part b number head inside others
+    tagged : tag n head ≡ g
+    cored : core n head (process inside) ≡ s
+    left-over : flat n others ≡ t
+    whole : SettledPart head inside
+    settled : Settled others
 
   pick-part : (b : Plain) → Settled b → (g : Tag) (s t : Shape) → Pick (flat n b) g s t → Picked b g s t
   pick-part close w g s t p = absurd (not-nil p (flat-close n))
   pick-part (part k h b r) w g s t p = elim (pick-cases (subst (λ u. Pick u g s t) (settled-flat n k h b r w) p)) [
-    | inl x ↦ (k, h, b, r, front, x .0, x .1, x .2, settled-part w, settled-rest w)
-    | inr x ↦ let y = pick-part r (settled-rest w) g s (x .0) (x .1) in
-        (y .0, y .1, y .2, part k h b (y .3), behind (y .4), y .5, y .6, settled-flat n k h b (y .3) (settled-join (settled-part w) (y .9)) ∙ ap (cell (tag n h) (core n h (process b))) (y .7) ∙ sym (x .2), y .8, settled-join (settled-part w) (y .9))
+    | inl x ↦ record {
+        number = k;
+        head = h;
+        inside = b;
+        others = r;
+        at = front;
+        tagged = x .0;
+        cored = x .1;
+        left-over = x .2;
+        whole = settled-part w;
+        settled = settled-rest w;
+      }
+    | inr x ↦
+        let y = pick-part r (settled-rest w) g s (x .0) (x .1) in
+        let joined : Settled (part k h b (y .others)) = settled-join (settled-part w) (y .settled) in
+        record {
+          number = y .number;
+          head = y .head;
+          inside = y .inside;
+          others = part k h b (y .others);
+          at = behind (y .at);
+          tagged = y .tagged;
+          cored = y .cored;
+          left-over = settled-flat n k h b (y .others) joined ∙ ap (cell (tag n h) (core n h (process b))) (y .left-over) ∙ sym (x .2);
+          whole = y .whole;
+          settled = joined;
+        }
   ]
 
-  -- the part that a prime of the process stands for
-  abbrev Prime : Plain → Tag → Shape → Process → Type 0
-  Prime b g s q = (k : ℕ) × (h : PlainHead) × (i : Plain) × (c : Plain) × Part b k h i c × (tag n h ≡ g) × Same (core n h (process i)) s × (process c ≅ q) × SettledPart h i × Settled c
+  -- a part of b with that head, whose core is the same as s
+  abbrev Cored : Plain → Process → Shape → PlainHead → Type 0
+  Cored b q s h = (x : Has b h q) × Same (core n h (process (x .inside))) s × SettledPart h (x .inside)
 
-  prime-of : (b : Plain) → Settled b → Below n (process b) → (g : Tag) (s : Shape) (q : Process) → Below n q → Same (cell g s (shape n own q)) (flat n b) → Prime b g s q
-  prime-of b w low g s q high (match p a e) =
-      let x = pick-part b w g _ _ p in (
-        x .0,
-        x .1,
-        x .2,
-        x .3,
-        x .4,
-        x .5,
-        subst (λ u. Same u s) (sym (x .6)) (same-sym a),
-        tree-complete n (x .3) (λ v l. omega (arith, low v l, part-occurs v (x .4))) high (subst (λ u. Same u (shape n own q)) (sym (x .7)) (same-sym e)),
-        x .8,
-        x .9,
-      )
+  -- what stands first in a shape is a part of the tree
+  prime : (b : Plain) → Settled b → Below n (process b) → (g : Tag) (s : Shape) (q : Process) → Below n q → Same (cell g s (shape n own q)) (flat n b) →
+      (h : PlainHead) × (tag n h ≡ g) × Cored b q s h
+  prime b w low g s q high (match p a e) =
+      let x = pick-part b w g _ _ p in
+      let y : Has b (x .head) q = record {
+        number = x .number;
+        inside = x .inside;
+        others = x .others;
+        at = x .at;
+        congruent = tree-complete n (x .others) (λ v l. omega (arith, low v l, part-occurs v (x .at))) high (subst (λ u. Same u (shape n own q)) (sym (x .left-over)) (same-sym e));
+        settled = x .settled;
+      } in
+      (x .head, x .tagged, (y, subst (λ u. Same u s) (sym (x .cored)) (same-sym a), x .whole))
 
   tag-hear : (h : PlainHead) → tag n h ≡ hear n → (v : ℕ) × (h ≡ Head.receipt v)
   unfolding tag
@@ -105,67 +148,65 @@ occurs-action : (v : ℕ) (i : Message) (is : List Message) (p : Process) → oc
 unfolding occurs piece prefix
 occurs-action v i is p = omega arith
 
-pub has-ambient : (b : Plain) → Settled b → (m : Message) (p q : Process) → process b ≅ ambient m p ∣ q → (k : ℕ) × (i : Plain) × (c : Plain) × Part b k (Head.ambient m) i c × (process i ≅ p) × (process c ≅ q) × Settled i × Settled c
-unfolding shape _⊕_ core
-has-ambient b w m p q h =
-    let n : ℕ = top (process b) + (top p + top q) in
-    let low : Below n (process b) = top-below (process b) n (omega arith) in
-    let x = prime-of n b w low (place m) (shape n own p) q (top-below q n (omega arith)) (same-sym (subst (λ (u : Message). Same (flat n b) (cell (place u) (shape n own p) (shape n own q))) (renamed-own m) (tree-sound n b h))) in
-    let e : x .1 ≡ Head.ambient m = tag-place n (x .1) m (x .5) in
-    let at : Part b (x .0) (Head.ambient m) (x .2) (x .3) = subst (λ g. Part b (x .0) g (x .2) (x .3)) e (x .4) in (
-      x .0,
-      x .2,
-      x .3,
-      at,
-      complete n (λ v l. omega (arith, low v l, part-occurs v at, occurs-ambient v m (process (x .2)))) (top-below p n (omega arith)) (subst (λ g. Same (core n g (process (x .2))) (shape n own p)) e (x .6)),
-      x .7,
-      settled-inside (subst (λ g. SettledPart g (x .2)) e (x .8)),
-      x .9,
-    )
+module _ (b : Plain) (w : Settled b) where
+  -- a number above every variable of b and of q
+  abbrev above : Process → ℕ
+  above q = top (process b) + top q
 
-pub has-receipt : (b : Plain) → Settled b → (v : ℕ) (p q : Process) → process b ≅ input v p ∣ q → (k : ℕ) × (u : ℕ) × (i : Plain) × (c : Plain) × Part b k (Head.receipt u) i c × (input u (process i) ≅ input v p) × (process c ≅ q) × Settled c
-unfolding shape _⊕_ core piece
-has-receipt b w v p q h =
-    let n : ℕ = top (process b) + (top (input v p) + top q) in
-    let low : Below n (process b) = top-below (process b) n (omega arith) in
-    let x = prime-of n b w low (hear n) (shape (suc n) (bound own v n) p) q (top-below q n (omega arith)) (same-sym (tree-sound n b h)) in
-    let f = tag-hear n (x .1) (x .5) in
-    let at : Part b (x .0) (Head.receipt (f .0)) (x .2) (x .3) = subst (λ g. Part b (x .0) g (x .2) (x .3)) (f .1) (x .4) in (
-      x .0,
-      f .0,
-      x .2,
-      x .3,
-      at,
-      complete n (λ u l. omega (arith, low u l, part-occurs u at)) (top-below (input v p) n (omega arith)) (match here (subst (λ g. Same (core n g (process (x .2))) (shape (suc n) (bound own v n) p)) (f .1) (x .6)) done),
-      x .7,
-      x .9,
-    )
+  low : (q : Process) → Below (above q) (process b)
+  low q = top-below (process b) (above q) (omega arith)
 
-pub has-output : (b : Plain) → Settled b → (m : Message) (q : Process) → process b ≅ output m ∣ q → (k : ℕ) × (i : Plain) × (c : Plain) × Part b k (Head.output m) i c × (process c ≅ q) × Settled c
-unfolding shape _⊕_
-has-output b w m q h =
-    let n : ℕ = top (process b) + top q in
-    let low : Below n (process b) = top-below (process b) n (omega arith) in
-    let x = prime-of n b w low (say m) nil q (top-below q n (omega arith)) (same-sym (subst (λ (u : Message). Same (flat n b) (cell (say u) nil (shape n own q))) (renamed-own m) (tree-sound n b h))) in
-    let e : x .1 ≡ Head.output m = tag-say n (x .1) m (x .5) in
-    (x .0, x .2, x .3, subst (λ g. Part b (x .0) g (x .2) (x .3)) e (x .4), x .7, x .9)
+  pub has-ambient : (m : Message) (p q : Process) → process b ≅ ambient m p ∣ q → (x : Has b (Head.ambient m) q) × (process (x .inside) ≅ p) × Settled (x .inside)
+  unfolding shape _⊕_ core top
+  has-ambient m p q h =
+      let n : ℕ = above (p ∣ q) in
+      let y = prime n b w (low (p ∣ q)) (place m) (shape n own p) q (top-below q n (omega arith))
+          (same-sym (subst (λ (u : Message). Same (flat n b) (cell (place u) (shape n own p) (shape n own q))) (renamed-own m) (tree-sound n b h))) in
+      let z : Cored n b q (shape n own p) (Head.ambient m) = subst (Cored n b q (shape n own p)) (tag-place n (y .0) m (y .1)) (y .2) in (
+        z .0,
+        complete n (λ v l. omega (arith, low (p ∣ q) v l, part-occurs v (z .0 .at), occurs-ambient v m (process (z .0 .inside)))) (top-below p n (omega arith)) (z .1),
+        settled-inside (z .2),
+      )
 
-pub has-action : (b : Plain) → Settled b → (i : Message) → items i ≡ i ∷ [] → (p q : Process) → process b ≅ action i p ∣ q
-    → (k : ℕ) × (is : List Message) × (j : Plain) × (c : Plain) × Part b k (Head.action (i ∷ is)) j c × (prefix is (process j) ≅ p) × (process c ≅ q) × Settled c
-unfolding shape _⊕_ core chain
-has-action b w i u p q h =
-    let n : ℕ = top (process b) + (top p + top q) in
-    let low : Below n (process b) = top-below (process b) n (omega arith) in
-    let e : items (renamed own i) ≡ i ∷ [] = ap items (renamed-own i) ∙ u in
-    let x = prime-of n b w low (can i) (shape n own p) q (top-below q n (omega arith)) (same-sym (subst (λ l. Same (flat n b) (chain l (shape n own p) ⊕ shape n own q)) e (tree-sound n b h))) in
-    let f = tag-can n (x .1) (x .2) i (x .8) (x .5) in
-    let at : Part b (x .0) (Head.action (i ∷ f .0)) (x .2) (x .3) = subst (λ g. Part b (x .0) g (x .2) (x .3)) (f .1) (x .4) in (
-      x .0,
-      f .0,
-      x .2,
-      x .3,
-      at,
-      complete n (λ v l. omega (arith, low v l, part-occurs v at, occurs-action v i (f .0) (process (x .2)))) (top-below p n (omega arith)) (subst (λ g. Same (core n g (process (x .2))) (shape n own p)) (f .1) (x .6)),
-      x .7,
-      x .9,
-    )
+  pub has-receipt : (v : ℕ) (p q : Process) → process b ≅ input v p ∣ q → (u : ℕ) × (x : Has b (Head.receipt u) q) × (input u (process (x .inside)) ≅ input v p)
+  unfolding shape _⊕_ core piece top
+  has-receipt v p q h =
+      let n : ℕ = above (input v p ∣ q) in
+      let s : Shape = shape (suc n) (bound own v n) p in
+      let y = prime n b w (low (input v p ∣ q)) (hear n) s q (top-below q n (omega arith)) (same-sym (tree-sound n b h)) in
+      let f = tag-hear n (y .0) (y .1) in
+      let z : Cored n b q s (Head.receipt (f .0)) = subst (Cored n b q s) (f .1) (y .2) in (
+        f .0,
+        z .0,
+        complete n (λ u l. omega (arith, low (input v p ∣ q) u l, part-occurs u (z .0 .at))) (top-below (input v p) n (omega arith)) (match here (z .1) done),
+      )
+
+  pub has-output : (m : Message) (q : Process) → process b ≅ output m ∣ q → Has b (Head.output m) q
+  unfolding shape _⊕_
+  has-output m q h =
+      let n : ℕ = above q in
+      let y = prime n b w (low q) (say m) nil q (top-below q n (omega arith)) (same-sym (subst (λ (u : Message). Same (flat n b) (cell (say u) nil (shape n own q))) (renamed-own m) (tree-sound n b h))) in
+      subst (λ g. Has b g q) (tag-say n (y .0) m (y .1)) (y .2 .0)
+
+  pub has-action : (i : Message) → Item i → (p q : Process) → process b ≅ action i p ∣ q → (is : List Message) × (x : Has b (Head.action (i ∷ is)) q) × (prefix is (process (x .inside)) ≅ p)
+  unfolding shape _⊕_ core chain top
+  has-action i u p q h =
+      let n : ℕ = above (p ∣ q) in
+      let y = prime n b w (low (p ∣ q)) (can i) (shape n own p) q (top-below q n (omega arith))
+          (same-sym (subst (λ l. Same (flat n b) (chain l (shape n own p) ⊕ shape n own q)) (ap items (renamed-own i) ∙ u) (tree-sound n b h))) in
+      let f = tag-can n (y .0) (y .2 .0 .inside) i (y .2 .2) (y .1) in
+      let z : Cored n b q (shape n own p) (Head.action (i ∷ f .0)) = subst (Cored n b q (shape n own p)) (f .1) (y .2) in (
+        f .0,
+        z .0,
+        complete n (λ v l. omega (arith, low (p ∣ q) v l, part-occurs v (z .0 .at), occurs-action v i (f .0) (process (z .0 .inside)))) (top-below p n (omega arith)) (z .1),
+      )
+
+only-part : {b i c : Plain} {k : ℕ} {h : PlainHead} → Part b k h i c → c ≡ close → b ≡ part k h i close
+only-part (front {k = k} {h = h} {i = i}) e = ap (part k h i) e
+only-part (behind p) e = let z : _≡_ {A = ℕ} 0 1 = cc in absurd (omega arith)
+
+-- 000, proposition 3.1: what is congruent to n[Q]
+pub as-ambient : (b : Plain) → Settled b → (m : Message) (q : Process) → process b ≅ ambient m q → (k : ℕ) × (c : Plain) × (b ≡ part k (Head.ambient m) c close) × (process c ≅ q)
+as-ambient b w m q h =
+    let x = has-ambient b w m q 𝟎 (Trans h (Symm ZeroPar)) in
+    (x .0 .number, x .0 .inside, only-part (x .0 .at) (as-nothing (x .0 .others) (x .0 .settled) (x .0 .congruent)), x .1)
