@@ -7,3 +7,4 @@ pub mod Divisions
 pub mod Picks
 pub mod Processes
 pub mod Reductions
+pub mod Steps
