@@ -14,7 +14,7 @@ use Rattle.closures.specs.Bodies.{find, drop, alter}
 use Rattle.closures.specs.Moves.{Moved, headName, firstOf, spentHead, spend, moveHere}
 use Rattle.closures.specs.PlainMachine.{rest, substituteHead, substituteBody, plain, move}
 use Rattle.closures.specs.declared.First.the-variants.{Enter, Exit, Open}
-use Rattle.closures.proofs.Inversion.{Opened, Received, Entered, Exited, Here, by-open, by-receive, by-enter, by-exit, here-inv, Makes, now, inner, outer, plain-name, First-is, plain-enter, plain-exit, plain-open, move-inv}
+use Rattle.closures.proofs.Inversion.{Opened, Received, Entered, Exited, Here, by-open, by-receive, by-enter, by-exit, here-inv, Makes, now, inner, outer, plain-name, plain-enter, plain-exit, plain-open, move-inv}
 use Rattle.closures.proofs.Sums.{find-drop, apart, find-sum, drop-sum, alter-sum, map-sum, entered-target, received-target, spend-sum, made-sum, by-numbers}
 use Rattle.calculus.specs.Calculus.{Process, 𝟎, _∣_, ambient, action, input, output, _≅_, Refl, Symm, Trans, Par, Amb, ParComm, ParAssoc, prefix, piece, process, _⟶_, RedIn, RedOut, RedOpen, RedIO, RedPar, RedAmb, RedCong}
 use Rattle.calculus.proofs.Congruences.{par-both, par-swap}
@@ -40,21 +40,15 @@ module _ (t : ℕ) (b : Plain) {n : ℕ} {goal : PlainHead} {room : Plain} (d : 
   unfolding piece
   alter-named G = rw (plain-name goal n w) at (alter-process t (λ h. h) G b (goal, room) d e)
 
--- an action of b whose first item is i: what it guards, and what stands beside it
-record Acts (i : Message) (a : ℕ) (b : Plain) : Type 0 where
-  guarded : Process
-  beside : Process
-  before : process b ≅ action i guarded ∣ beside
-  after : process (spend plain a b) ≅ guarded ∣ beside
+-- an action with the first item i, beside the others; and with that item spent
+module _ (a : ℕ) (b : Plain) {i : Message} {is : List Message} {doer : PlainHead} {after : Plain} (d : count a b ≤ 1) (e : find a b ≡ some (doer, after)) (f : doer ≡ Head.action (i ∷ is)) where
+  find-action : process b ≅ action i (prefix is (process after)) ∣ process (drop a b)
+  unfolding piece prefix
+  find-action = rw f at (find-process a b (doer, after) d e)
 
-acts : (a : ℕ) (b : Plain) {n : ℕ} {doer : PlainHead} {after : Plain} (c : Message → Message) → count a b ≤ 1 → find a b ≡ some (doer, after) → First-is c n doer → Acts (c (name n)) a b
-unfolding piece prefix spentHead rest
-acts a b {n} {doer} {after} c d e f = record {
-  guarded = prefix (f .0) (process after);
-  beside = process (drop a b);
-  before = rw (f .1) at (find-process a b (doer, after) d e);
-  after = rw (f .1) at (alter-process a (spentHead plain) (λ s. s) b (doer, after) d e);
-}
+  spend-action : process (spend plain a b) ≅ prefix is (process after) ∣ process (drop a b)
+  unfolding piece spentHead rest
+  spend-action = rw f at (alter-process a (spentHead plain) (λ s. s) b (doer, after) d e)
 
 -- p | (q | r) to (q | p) | r
 pull : {p q r : Process} → p ∣ (q ∣ r) ≅ (q ∣ p) ∣ r
@@ -63,73 +57,104 @@ pull = Trans par-swap (Symm ParAssoc)
 action≢ambient : {is : List Message} {m : Message} → ¬ (_≡_ {A = PlainHead} (Head.action is) (Head.ambient m))
 action≢ambient e = let z : _≡_ {A = ℕ} 0 1 = cc in omega arith
 
+-- What stands before and after each move: the left and the right side of a reduction rule, beside what is not concerned.
 module _ {a t : ℕ} {b c : Plain} (d : Distinct b) where
-  -- OPEN: the actor stands beside the target, not inside it
-  opened-actor : (x : Opened plain a t b c) → find a (drop t b) ≡ some (x .doer, x .after)
-  opened-actor x =
-      let f = plain-open (x .doer) (x .place) (x .asked) in
-      find-drop a t b (apart a t b (x .actor) (x .target) (λ z.
-      action≢ambient (sym (f .1) ∙ ap (λ (p : PlainHead × Plain). p .0) z ∙ plain-name (x .goal) (x .place) (x .named)))) ∙ x .actor
+  module _ (x : Opened plain a t b c) (is : List Message) (f : x .doer ≡ Head.action (opens (name (x .place)) ∷ is)) where
+    -- the actor stands beside the target, not inside it
+    opened-actor : find a (drop t b) ≡ some (x .doer, x .after)
+    opened-actor =
+        find-drop a t b (apart a t b (x .actor) (x .target) (λ z.
+        action≢ambient (sym f ∙ ap (λ (p : PlainHead × Plain). p .0) z ∙ plain-name (x .goal) (x .place) (x .named)))) ∙ x .actor
 
-  open-reduces : Opened plain a t b c → process b ⟶ process c
-  open-reduces x =
-      let y = counted a t b _ (x .target) in
-      let z = counted a a (drop t b) _ (opened-actor x) in
-      let clear : count a (x .room) ≡ 0 = omega (arith, d a, own-count a) in
-      let w = acts a (drop t b) opens (omega (arith, d a)) (opened-actor x) (plain-open (x .doer) (x .place) (x .asked)) in
-      let apart : (j : ℕ) → count j (x .room) + count j (spend plain a (drop t b)) ≤ 1 = λ j. omega (arith, d j, counted j t b _ (x .target), spends-count j a (drop t b)) in
-      rw (x .result, alter-merge a (spentHead plain) (λ s. s) (x .room) (drop t b) clear)
-      (RedCong (Trans (find-named t b (d t) (x .target) (x .named)) (Trans (par-both Refl (w .before)) pull)) (RedPar RedOpen)
-      (Trans (Trans ParAssoc par-swap) (Symm (Trans (merge-process (x .room) (spend plain a (drop t b)) apart) (par-both Refl (w .after))))))
+    opened-before : process b ≅ (action (opens (name (x .place))) (prefix is (process (x .after))) ∣ ambient (name (x .place)) (process (x .room))) ∣ process (drop a (drop t b))
+    opened-before =
+        Trans (find-named t b (d t) (x .target) (x .named))
+        (Trans (par-both Refl (find-action a (drop t b) (omega (arith, d a, dropped a t b)) opened-actor f)) pull)
 
-  -- a receipt is made: its variable is bound nowhere inside
-  receive-reduces : {news : List (ℕ × Message)} → Once b → Received plain a t b c news → process b ⟶ process c
-  unfolding piece substituteBody
-  receive-reduces u x =
-      let clear : bindings (x .bound) (x .after) ≡ 0 = omega (arith, u (x .bound), find-sum (λ k h. binds (x .bound) h) a b _ (x .actor), own-binds (x .bound)) in
-      let apart : (j : ℕ) → count j (substituteBody (x .bound) (x .sent) (x .after)) + count j (drop t (drop a b)) ≤ 1 =
-          λ j. omega (arith, d j, counted j a b _ (x .actor), dropped j t (drop a b), map-sum (λ k h. one (eqb j k)) (substituteHead (x .bound) (x .sent)) (x .after)) in
-      rw (x .result)
-      (RedCong (Trans (find-process a b _ (d a) (x .actor)) (Trans (par-both Refl (find-process t (drop a b) _ (omega (arith, d t, dropped t a b)) (received-target plain x))) pull)) (RedPar RedIO)
-      (Symm (Trans (merge-process (substituteBody (x .bound) (x .sent) (x .after)) (drop t (drop a b)) apart) (par-both (substitute-process (x .bound) (x .sent) (x .after) clear) Refl))))
+    pub opened-after : process c ≅ (prefix is (process (x .after)) ∣ process (x .room)) ∣ process (drop a (drop t b))
+    opened-after =
+        let y = counted a t b _ (x .target) in
+        let z = counted a a (drop t b) _ opened-actor in
+        let clear : count a (x .room) ≡ 0 = omega (arith, d a, own-count a) in
+        rw (x .result, alter-merge a (spentHead plain) (λ s. s) (x .room) (drop t b) clear)
+        (Trans (merge-process (x .room) (spend plain a (drop t b)) (λ j. omega (arith, d j, counted j t b _ (x .target), spends-count j a (drop t b))))
+        (Trans (par-both Refl (spend-action a (drop t b) (omega (arith, d a)) opened-actor f)) pull))
 
-  -- IN
-  enter-reduces : Entered plain a t b c → process b ⟶ process c
-  unfolding piece
-  enter-reduces x =
-      let k : ℕ = x .mover in
-      let y = counted k k b _ (x .around) in
-      let z = counted k t (drop k b) _ (entered-target plain x) in
-      let clear : count k (x .room) ≡ 0 = omega (arith, d k, own-count k) in
-      let w = acts a (x .inside) enter (omega (arith, d a, counted a k b _ (x .around))) (x .actor) (plain-enter (x .doer) (x .place) (x .asked)) in
-      let dt : count t (drop k b) ≤ 1 = omega (arith, d t, dropped t k b) in
-      let e : x .shell ≡ Head.ambient (name (x .own)) = plain-name (x .shell) (x .own) (x .shell-named) in
-      rw (x .result, e)
-      (RedCong (Trans (find-named k b (d k) (x .around) (x .shell-named)) (Trans (par-both (Amb (w .before)) (find-named t (drop k b) dt (entered-target plain x) (x .named))) (Symm ParAssoc))) (RedPar RedIn)
-      (Symm (Trans (alter-named t (drop k b) dt (entered-target plain x) (x .named) (put k (Head.ambient (name (x .own))) (spend plain a (x .inside))))
-      (Par (Amb (Trans (put-process k (Head.ambient (name (x .own))) (spend plain a (x .inside)) (x .room) clear) (Par (Amb (w .after)))))))))
+  module _ {news : List (ℕ × Message)} (x : Received plain a t b c news) where
+    received-before : process b ≅ (output (x .sent) ∣ input (x .bound) (process (x .after))) ∣ process (drop t (drop a b))
+    unfolding piece
+    received-before =
+        Trans (find-process a b _ (d a) (x .actor))
+        (Trans (par-both Refl (find-process t (drop a b) _ (omega (arith, d t, dropped t a b)) (received-target plain x))) pull)
 
-  -- EXIT
-  exit-reduces : Exited plain a t b c → process b ⟶ process c
-  unfolding piece
-  exit-reduces x =
-      let k : ℕ = x .mover in
-      let y : (j : ℕ) → one (eqb j t) + (count j (x .room) + count j (drop t b)) ≤ count j b = λ j. counted j t b _ (x .target) in
-      let z = counted k k (x .room) _ (x .around) in
-      let moved = alter-sum (λ i h. one (eqb k i)) t (λ g. g) (drop k) b _ (x .target) in
-      let clear : count k (alter t (λ g. g) (drop k) b) ≡ 0 = omega (arith, d k, y k, own-count k) in
-      let w = acts a (x .inside) exit (omega (arith, d a, y a, counted a k (x .room) _ (x .around))) (x .actor) (plain-exit (x .doer) (x .place) (x .asked)) in
-      let e : x .shell ≡ Head.ambient (name (x .own)) = plain-name (x .shell) (x .own) (x .shell-named) in
-      rw (x .result, e)
-      (RedCong (Trans (find-named t b (d t) (x .target) (x .named)) (Par (Amb (Trans (find-named k (x .room) (omega (arith, d k, y k)) (x .around) (x .shell-named)) (Par (Amb (w .before))))))) (RedPar RedOut)
-      (Trans ParAssoc (Symm (Trans (put-process k (Head.ambient (name (x .own))) (spend plain a (x .inside)) (alter t (λ g. g) (drop k) b) clear)
-      (par-both (Amb (w .after)) (alter-named t b (d t) (x .target) (x .named) (drop k)))))))
+    pub received-after : process c ≅ process (substituteBody (x .bound) (x .sent) (x .after)) ∣ process (drop t (drop a b))
+    unfolding substituteBody
+    received-after =
+        rw (x .result) (merge-process (substituteBody (x .bound) (x .sent) (x .after)) (drop t (drop a b)) (λ j. omega (
+          arith,
+          d j,
+          counted j a b _ (x .actor),
+          dropped j t (drop a b),
+          map-sum (λ k h. one (eqb j k)) (substituteHead (x .bound) (x .sent)) (x .after),
+        )))
+
+  module _ (x : Entered plain a t b c) (is : List Message) (f : x .doer ≡ Head.action (enter (name (x .place)) ∷ is)) where
+    target-once : count t (drop (x .mover) b) ≤ 1
+    target-once = omega (arith, d t, dropped t (x .mover) b)
+
+    actor-entering : count a (x .inside) ≤ 1
+    actor-entering = omega (arith, d a, counted a (x .mover) b _ (x .around))
+
+    entered-before : process b ≅
+        (ambient (name (x .own)) (action (enter (name (x .place))) (prefix is (process (x .after))) ∣ process (drop a (x .inside))) ∣ ambient (name (x .place)) (process (x .room))) ∣ process (drop t (drop (x .mover) b))
+    entered-before =
+        Trans (find-named (x .mover) b (d (x .mover)) (x .around) (x .shell-named))
+        (Trans (par-both (Amb (find-action a (x .inside) actor-entering (x .actor) f)) (find-named t (drop (x .mover) b) target-once (entered-target plain x) (x .named))) (Symm ParAssoc))
+
+    pub entered-after : process c ≅
+        ambient (name (x .place)) (ambient (name (x .own)) (prefix is (process (x .after)) ∣ process (drop a (x .inside))) ∣ process (x .room)) ∣ process (drop t (drop (x .mover) b))
+    unfolding piece
+    entered-after =
+        let k : ℕ = x .mover in
+        let s : Plain = spend plain a (x .inside) in
+        let y = counted k k b _ (x .around) in
+        let z = counted k t (drop k b) _ (entered-target plain x) in
+        let clear : count k (x .room) ≡ 0 = omega (arith, d k, own-count k) in
+        rw (x .result, plain-name (x .shell) (x .own) (x .shell-named))
+        (Trans (alter-named t (drop k b) target-once (entered-target plain x) (x .named) (put k (Head.ambient (name (x .own))) s))
+        (Par (Amb (Trans (put-process k (Head.ambient (name (x .own))) s (x .room) clear) (Par (Amb (spend-action a (x .inside) actor-entering (x .actor) f)))))))
+
+  module _ (x : Exited plain a t b c) (is : List Message) (f : x .doer ≡ Head.action (exit (name (x .place)) ∷ is)) where
+    actor-leaving : count a (x .inside) ≤ 1
+    actor-leaving = omega (arith, d a, counted a t b _ (x .target), counted a (x .mover) (x .room) _ (x .around))
+
+    exited-before : process b ≅
+        ambient (name (x .place)) (ambient (name (x .own)) (action (exit (name (x .place))) (prefix is (process (x .after))) ∣ process (drop a (x .inside))) ∣ process (drop (x .mover) (x .room))) ∣ process (drop t b)
+    exited-before =
+        Trans (find-named t b (d t) (x .target) (x .named))
+        (Par (Amb (Trans (find-named (x .mover) (x .room) (omega (arith, d (x .mover), counted (x .mover) t b _ (x .target))) (x .around) (x .shell-named))
+        (Par (Amb (find-action a (x .inside) actor-leaving (x .actor) f))))))
+
+    pub exited-after : process c ≅
+        (ambient (name (x .own)) (prefix is (process (x .after)) ∣ process (drop a (x .inside))) ∣ ambient (name (x .place)) (process (drop (x .mover) (x .room)))) ∣ process (drop t b)
+    unfolding piece
+    exited-after =
+        let k : ℕ = x .mover in
+        let y = counted k t b _ (x .target) in
+        let z = counted k k (x .room) _ (x .around) in
+        let moved = alter-sum (λ i h. one (eqb k i)) t (λ g. g) (drop k) b _ (x .target) in
+        let clear : count k (alter t (λ g. g) (drop k) b) ≡ 0 = omega (arith, d k, own-count k) in
+        rw (x .result, plain-name (x .shell) (x .own) (x .shell-named))
+        (Trans (put-process k (Head.ambient (name (x .own))) (spend plain a (x .inside)) (alter t (λ g. g) (drop k) b) clear)
+        (Trans (par-both (Amb (spend-action a (x .inside) actor-leaving (x .actor) f)) (alter-named t b (d t) (x .target) (x .named) (drop k))) (Symm ParAssoc)))
 
   here-reduces : {news : List (ℕ × Message)} → Once b → Here plain a t b c news → process b ⟶ process c
-  here-reduces u (by-open x e) = open-reduces x
-  here-reduces u (by-receive x) = receive-reduces u x
-  here-reduces u (by-enter x e) = enter-reduces x
-  here-reduces u (by-exit x e) = exit-reduces x
+  here-reduces u (by-open x e) = let (is, f) = plain-open (x .doer) (x .place) (x .asked) in RedCong (opened-before x is f) (RedPar RedOpen) (Symm (opened-after x is f))
+  here-reduces u (by-receive x) =
+      let clear : bindings (x .bound) (x .after) ≡ 0 = omega (arith, u (x .bound), find-sum (λ k h. binds (x .bound) h) a b _ (x .actor), own-binds (x .bound)) in
+      RedCong (received-before x) (RedPar RedIO) (Symm (Trans (received-after x) (Par (substitute-process (x .bound) (x .sent) (x .after) clear))))
+  here-reduces u (by-enter x e) = let (is, f) = plain-enter (x .doer) (x .place) (x .asked) in RedCong (entered-before x is f) (RedPar RedIn) (Symm (entered-after x is f))
+  here-reduces u (by-exit x e) = let (is, f) = plain-exit (x .doer) (x .place) (x .asked) in RedCong (exited-before x is f) (RedPar RedOut) (Symm (exited-after x is f))
 
 makes-reduces : (a t : ℕ) {b c : Plain} {news : List (ℕ × Message)} → Distinct b → Once b → Makes plain (moveHere plain a t) b c news → process b ⟶ process c
 unfolding process piece sum
