@@ -59,14 +59,14 @@ toOpen-inv (Open m) n e = ap Open e
 toOpen-inv Other n e = cc
 
 module _ {A : Type 0} where
-  variableOf-inv : (h : Head A) (v : ℕ) → variableOf h ≡ some v → h ≡ receipt v
+  pub variableOf-inv : (h : Head A) (v : ℕ) → variableOf h ≡ some v → h ≡ receipt v
   unfolding variableOf
   variableOf-inv (ambient m) v e = none≢some e
   variableOf-inv (action a) v e = none≢some e
   variableOf-inv (receipt u) v e = ap receipt (some-is e)
   variableOf-inv (output m) v e = none≢some e
 
-  messageOf-inv : (h : Head A) (m : Message) → messageOf h ≡ some m → h ≡ output m
+  pub messageOf-inv : (h : Head A) (m : Message) → messageOf h ≡ some m → h ≡ output m
   unfolding messageOf
   messageOf-inv (ambient k) m e = none≢some e
   messageOf-inv (action a) m e = none≢some e
@@ -74,7 +74,7 @@ module _ {A : Type 0} where
   messageOf-inv (output k) m e = ap output (some-is e)
 
   -- a part found, by what its head is
-  found : {x : Option (Head A × Body (Head A))} {p : Head A × Body (Head A)} {h : Head A} → x ≡ some p → p .0 ≡ h → x ≡ some (h, p .1)
+  pub found : {x : Option (Head A × Body (Head A))} {p : Head A × Body (Head A)} {h : Head A} → x ≡ some p → p .0 ≡ h → x ≡ some (h, p .1)
   found {p = p} e f = e ∙ ap (λ g. some (g, p .1)) f
 
 module _ {A : Type 0} (view : View A) where

@@ -2,3 +2,4 @@
 pub mod Options
 pub mod Inversion
 pub mod Sums
+pub mod Naturality

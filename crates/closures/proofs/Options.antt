@@ -60,23 +60,30 @@ onward-inv w (some l) m e = (l, refl, ap (λ (k : Moved _). k .body) (sym (some-
 
 -- a look-up in a mapped thing, where what follows it is mapped too
 pub bind-map : {A B C D : Type 0} (f : A → B) (g : C → D) (x : Option A) (y : Option B) (k : B → Option D) (l : A → Option C) →
-    y ≡ Option·map f x → ((a : A) → k (f a) ≡ Option·map g (l a)) → (y >>= k) ≡ Option·map g (x >>= l)
+    y ≡ Option·map f x → ((a : A) → x ≡ some a → k (f a) ≡ Option·map g (l a)) → (y >>= k) ≡ Option·map g (x >>= l)
 unfolding _>>=_
 bind-map f g none y k l e h = rw e
-bind-map f g (some a) y k l e h = rw e (h a)
+bind-map f g (some a) y k l e h = rw e (h a refl)
 
 -- the same look-up, where what follows it is mapped
 pub bind-same : {A C D : Type 0} (g : C → D) (x y : Option A) (k : A → Option D) (l : A → Option C) →
-    y ≡ x → ((a : A) → k a ≡ Option·map g (l a)) → (y >>= k) ≡ Option·map g (x >>= l)
+    y ≡ x → ((a : A) → x ≡ some a → k a ≡ Option·map g (l a)) → (y >>= k) ≡ Option·map g (x >>= l)
 unfolding _>>=_
 bind-same g none y k l e h = rw e
-bind-same g (some a) y k l e h = rw e (h a)
+bind-same g (some a) y k l e h = rw e (h a refl)
 
 pub orElse-map : {A B : Type 0} (f : A → B) (x y : Option A) → orElse (Option·map f x) (Option·map f y) ≡ Option·map f (orElse x y)
 unfolding orElse
 orElse-map f none y = refl
 orElse-map f (some a) y = refl
 
-pub cond-map : {A B : Type 0} (f : A → B) (t : Bool) (x : Option A) → cond t (Option·map f x) none ≡ Option·map f (cond t x none)
-cond-map f true x = refl
-cond-map f false x = refl
+pub cond-map : {A B : Type 0} (f : A → B) (t : Bool) (x : Option A) (y : Option B) → (t ≡ true → y ≡ Option·map f x) → cond t y none ≡ Option·map f (cond t x none)
+cond-map f true x y h = h refl
+cond-map f false x y h = refl
+
+pub onward-map : {A B : Type 0} (K : Moved A → Moved B) (v : Body (Head A) → Body (Head A)) (w : Body (Head B) → Body (Head B)) (x : Option (Moved A)) →
+    ((m : Moved A) → x ≡ some m → record { body = w (K m .body); news = K m .news } ≡ K (record { body = v (m .body); news = m .news })) →
+    onward w (Option·map K x) ≡ Option·map K (onward v x)
+unfolding onward
+onward-map K v w none h = refl
+onward-map K v w (some m) h = ap some (h m refl)
