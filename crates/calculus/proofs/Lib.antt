@@ -8,3 +8,4 @@ pub mod Picks
 pub mod Processes
 pub mod Reductions
 pub mod Steps
+pub mod Runs

@@ -30,6 +30,12 @@ part-divided (left x) front = (_, front, x)
 part-divided (left x) (behind p) = let y = part-divided x p in (_, behind (y .1), left (y .2))
 part-divided (right x) p = let y = part-divided x p in (_, behind (y .1), right (y .2))
 
+-- two parts of one body, in either order
+pub part-swap : {b c d i j : Plain} {k l : ℕ} {h g : PlainHead} → Part b k h i c → Part c l g j d → (e : Plain) × Part b l g j e × Part e k h i d
+part-swap front q = (_, behind q, front)
+part-swap (behind p) front = (_, front, p)
+part-swap (behind p) (behind q) = let x = part-swap p q in (_, behind (x .1), behind (x .2))
+
 pub part-occurs : (v : ℕ) {b i c : Plain} {k : ℕ} {h : PlainHead} → Part b k h i c → occurs v (process b) ≡ occurs v (piece h (process i)) + occurs v (process c)
 unfolding process occurs
 part-occurs v front = refl

@@ -19,7 +19,7 @@ use Rattle.calculus.proofs.Processes.{Once, bindings, binds, own-binds,
 
 -- one step of the tree, and the process that then stands
 pub data Step : Plain → Process → Type 0 where
-  opening : {b b₁ b₂ i j : Plain} {a t n : ℕ} {is : List Message} → Part b a (Head.action (opens (name n) ∷ is)) j b₁ → Part b₁ t (Head.ambient (name n)) i b₂ →
+  opening : {b b₁ b₂ i j : Plain} {a t n : ℕ} {is : List Message} → Part b t (Head.ambient (name n)) i b₁ → Part b₁ a (Head.action (opens (name n) ∷ is)) j b₂ →
       Step b ((prefix is (process j) ∣ process i) ∣ process b₂)
   taking : {b b₁ b₂ i j : Plain} {a t v : ℕ} {m : Message} → Part b a (Head.receipt v) j b₁ → Part b₁ t (Head.output m) i b₂ →
       Step b (process (substituteBody v m j) ∣ process b₂)
@@ -40,7 +40,7 @@ beside x = Trans (par-both Refl (divided-congruent x)) (Symm ParAssoc)
 
 -- a step of a share is a step of the whole
 step-divided : {b c d : Plain} {p : Process} → Divided b c d → Step c p → Stepped b (p ∣ process d)
-step-divided x (opening a t) = let y = part-divided x a in let z = part-divided (y .2) t in (_, opening (y .1) (z .1), beside (z .2))
+step-divided x (opening t a) = let y = part-divided x t in let z = part-divided (y .2) a in (_, opening (y .1) (z .1), beside (z .2))
 step-divided x (taking a t) = let y = part-divided x a in let z = part-divided (y .2) t in (_, taking (y .1) (z .1), beside (z .2))
 step-divided x (entering k a t) = let y = part-divided x k in let z = part-divided (y .2) t in (_, entering (y .1) a (z .1), beside (z .2))
 step-divided x (leaving t k a) = let y = part-divided x t in (_, leaving (y .1) k a, beside (y .2))
@@ -87,9 +87,9 @@ reduction-step (RedOut {n = n} {m = m} {p = p} {q = q} {r = r}) b w u c e =
     let z = has-action (y .0 .inside) (y .2) (exit (name m)) (item-exit (name m)) p q (y .1) in
     (_, leaving (x .0 .at) (y .0 .at) (z .1 .at), Trans (par-both (par-both (Amb (par-both (z .2) (z .1 .congruent))) (Amb (y .0 .congruent))) (x .0 .congruent)) ZeroPar)
 reduction-step (RedOpen {n = n} {p = p} {q = q}) b w u c e =
-    let x = has-action b w (opens (name n)) (item-opens (name n)) p (ambient (name n) q) e in
-    let y = has-ambient (x .1 .others) (x .1 .settled) (name n) q 𝟎 (alone (x .1 .congruent)) in
-    (_, opening (x .1 .at) (y .0 .at), Trans (par-both (par-both (x .2) (y .1)) (y .0 .congruent)) ZeroPar)
+    let x = has-ambient b w (name n) q (action (opens (name n)) p) (Trans e ParComm) in
+    let y = has-action (x .0 .others) (x .0 .settled) (opens (name n)) (item-opens (name n)) p 𝟎 (alone (x .0 .congruent)) in
+    (_, opening (x .0 .at) (y .1 .at), Trans (par-both (par-both (y .2) (x .1)) (y .1 .congruent)) ZeroPar)
 reduction-step (RedIO {x = v} {m = m} {p = p}) b w u c e =
     let x = has-receipt b w v p (output m) (Trans e ParComm) in
     let y = has-output (x .1 .others) (x .1 .settled) m 𝟎 (alone (x .1 .congruent)) in

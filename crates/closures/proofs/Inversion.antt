@@ -281,12 +281,12 @@ module _ {A : Type 0} (view : View A) where
     outer : {k : ℕ} {h : Head A} {b c r : Body (Head A)} {news : List (ℕ × Message)} → Makes g r c news → Makes g (part k h b r) (part k h b c) news
 
   module _ (g : Body (Head A) → Option (Moved A)) where
-    inside-part : (i : ℕ) (h : Head A) (b r : Body (Head A)) → inside view g (part i h b r) ≡
+    pub inside-part : (i : ℕ) (h : Head A) (b r : Body (Head A)) → inside view g (part i h b r) ≡
         orElse (onward (λ c. part i h c r) (cond (isNamed (headName view h)) (anywhere view g b) none)) (onward (λ q. part i h b q) (inside view g r))
     unfolding inside
     inside-part i h b r = refl
 
-    inside-close : inside view g close ≡ none
+    pub inside-close : inside view g close ≡ none
     unfolding inside
     inside-close = refl
 
