@@ -9,3 +9,4 @@ pub mod Processes
 pub mod Reductions
 pub mod Steps
 pub mod Runs
+pub mod Kept

@@ -9,9 +9,9 @@ use Rattle.messages.specs.Message.{Message, items}
 use Rattle.scripts.specs.Tree.{Head, close, part, sum, PlainHead, Plain}
 use Rattle.calculus.specs.Satisfaction.{Divided, nothing, left, right}
 use Rattle.calculus.specs.Order.{Part, front, behind}
-use Rattle.calculus.specs.Calculus.{occurs, Process, 𝟎, _∣_, ambient, action, input, output, _≅_, Symm, Trans, ZeroPar, prefix, piece, process}
+use Rattle.calculus.specs.Calculus.{occurs, Process, 𝟎, _∣_, ambient, action, input, output, _≅_, Refl, Symm, Trans, ZeroPar, prefix, piece, process}
 use Rattle.calculus.proofs.Shapes.{Tag, place, can, hear, say, Shape, nil, cell, _⊕_, chain, Pick, here, there, Same, done, match, same-sym}
-use Rattle.calculus.proofs.Congruences.{renamed-own, bound, own, shape, complete, Below, top, top-below}
+use Rattle.calculus.proofs.Congruences.{renamed-own, bound, own, shape, complete, Below, top, top-below, par-both, par-swap}
 use Rattle.calculus.proofs.Divisions.{Item, Settled, SettledPart, action-part, settled-part, settled-rest, settled-inside, settled-join, tag, core, flat, settled-flat, flat-close, tag-place, tree-sound, tree-complete, as-nothing}
 
 pub part-sum : (f : ℕ → PlainHead → ℕ) {b i c : Plain} {k : ℕ} {h : PlainHead} → Part b k h i c → sum f b ≡ f k h + (sum f i + sum f c)
@@ -35,6 +35,16 @@ pub part-swap : {b c d i j : Plain} {k l : ℕ} {h g : PlainHead} → Part b k h
 part-swap front q = (_, behind q, front)
 part-swap (behind p) front = (_, front, p)
 part-swap (behind p) (behind q) = let x = part-swap p q in (_, behind (x .1), behind (x .2))
+
+-- the process of the body, by one of its parts
+pub part-process : {b i c : Plain} {k : ℕ} {h : PlainHead} → Part b k h i c → process b ≅ piece h (process i) ∣ process c
+unfolding process
+part-process front = Refl
+part-process (behind p) = Trans (par-both Refl (part-process p)) par-swap
+
+pub part-settled : {b i c : Plain} {k : ℕ} {h : PlainHead} → Part b k h i c → Settled b → SettledPart h i
+part-settled front s = settled-part s
+part-settled (behind p) s = part-settled p (settled-rest s)
 
 pub part-occurs : (v : ℕ) {b i c : Plain} {k : ℕ} {h : PlainHead} → Part b k h i c → occurs v (process b) ≡ occurs v (piece h (process i)) + occurs v (process c)
 unfolding process occurs
