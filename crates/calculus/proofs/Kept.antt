@@ -19,7 +19,7 @@ use Rattle.calculus.specs.Satisfaction.{Divided, wrapped}
 use Rattle.calculus.specs.Order.{Part}
 use Rattle.calculus.specs.Calculus.{Process, _∣_, ambient, _≅_, piece, process, mentions}
 use Rattle.calculus.proofs.Variables.{free}
-use Rattle.calculus.proofs.Substitutions.{Closed, free-cong, free-red}
+use Rattle.calculus.proofs.Substitutions.{Closed, closed-cong, closed-both, closed-ambient, reduction-closed}
 use Rattle.calculus.proofs.Divisions.{Item, Settled, closed, settled-ambient, settled-action, settled-receipt, settled-output, SettledPart, ambient-part, action-part, receipt-part, output-part, settled-part, settled-rest, settled-join, settled-inside, divided-settled, divided-congruent}
 use Rattle.calculus.proofs.Picks.{part-sum, divided-sum, part-process, part-settled}
 use Rattle.calculus.proofs.Processes.{Distinct, Once, binds, bindings}
@@ -186,27 +186,20 @@ moved-settled b a t m z e = let x = move-inv a t b m e in rw (x .2) (settle-sett
 
 pub good-move : (n : ℕ) (b : Plain) (a t : ℕ) (m : Moved (List Message)) → Good n b → move a t b ≡ some m → Good n (m .body)
 good-move n b a t m g e =
-    good-less n b (m .body) g (moved-settled b a t m (g .itemised) e) (free-red (move-reduces a t b m (g .distinct) (g .once) e) (g .unbound))
+    good-less n b (m .body) g (moved-settled b a t m (g .itemised) e) (reduction-closed (move-reduces a t b m (g .distinct) (g .once) e) (g .unbound))
     (λ f w. omega (arith, move-sum f 0 w a t b m e))
-
-closed-both : (p q r : Process) → Closed p → p ≅ q ∣ r → Closed q × Closed r
-unfolding free
-closed-both p q r c h = (λ v. omega (arith, c v, free-cong v h), λ v. omega (arith, c v, free-cong v h))
 
 pub good-divided : (n : ℕ) (b c d : Plain) → Good n b → Divided b c d → Good n c × Good n d
 good-divided n b c d g x =
     let s = divided-settled x (g .settled) in
-    let o = closed-both (process b) (process c) (process d) (g .unbound) (divided-congruent x) in
+    let o = closed-both (process c) (process d) (closed-cong (divided-congruent x) (g .unbound)) in
     (good-less n b c g (s .0) (o .0) (λ f w. omega (arith, divided-sum f x)), good-less n b d g (s .1) (o .1) (λ f w. omega (arith, divided-sum f x)))
 
-closed-inside : (m : Message) (p : Process) → Closed (piece (Head.ambient m) p) → Closed p
-unfolding piece free
-closed-inside m p c v = omega (arith, c v)
-
 pub good-part : (n : ℕ) (b c i : Plain) (k : ℕ) (m : Message) → Good n b → Part b k (Head.ambient m) i c → Good n i
+unfolding piece
 good-part n b c i k m g p =
     good-less n b i g (settled-inside (part-settled p (g .settled)))
-    (closed-inside m (process i) (closed-both (process b) (piece (Head.ambient m) (process i)) (process c) (g .unbound) (part-process p) .0)) (λ f w. omega (arith, part-sum f p))
+    (closed-ambient m (process i) (closed-both (ambient m (process i)) (process c) (closed-cong (part-process p) (g .unbound)) .0)) (λ f w. omega (arith, part-sum f p))
 
 pub good-placed : (n k j : ℕ) (b : Plain) → Good n b → n ≤ k → Good (suc k) (wrapped k j b)
 unfolding sum untidy binds process piece free mentions

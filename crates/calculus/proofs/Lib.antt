@@ -10,3 +10,4 @@ pub mod Reductions
 pub mod Steps
 pub mod Runs
 pub mod Kept
+pub mod Agreement

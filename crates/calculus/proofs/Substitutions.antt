@@ -99,17 +99,33 @@ free-cong v ZeroPar = omega arith
 free-cong v Null = omega arith
 free-cong v Path = omega arith
 
+pub closed-cong : {p q : Process} → p ≅ q → Closed p → Closed q
+closed-cong h c v = sym (free-cong v h) ∙ c v
+
+pub closed-both : (p q : Process) → Closed (p ∣ q) → Closed p × Closed q
+unfolding free
+closed-both p q c = (λ v. omega (arith, c v), λ v. omega (arith, c v))
+
+pub closed-ambient : (m : Message) (p : Process) → Closed (ambient m p) → Closed p
+unfolding free
+closed-ambient m p c v = omega (arith, c v)
+
+pub closed-output : (m : Message) → Closed (output m) → Ground m
+unfolding free
+closed-output m c v = c v
+
 free-received : (v x : ℕ) (m : Message) (p : Process) → mentions v m ≡ 0 → free v (input x p) ≡ 0 → free v (substitute x m p) ≡ 0
 free-received v x m p z f = byTest (eqb x v)
     (λ t. subst (λ w. free w (substitute x m p) ≡ 0) (eqb-true x v t) (free-gone x m p (subst (λ w. mentions w m ≡ 0) (sym (eqb-true x v t)) z)))
     (λ t. omega (arith, free-less v x m p z, free-other x v p t))
 
-pub free-red : {p q : Process} → p ⟶ q → Closed p → Closed q
+-- what a closed process reduces to is closed
+pub reduction-closed : {p q : Process} → p ⟶ q → Closed p → Closed q
 unfolding free mentions
-free-red RedIn c v = omega (arith, c v)
-free-red RedOut c v = omega (arith, c v)
-free-red RedOpen c v = omega (arith, c v)
-free-red (RedIO {x = x} {m = m} {p = p}) c v = free-received v x m p (omega (arith, c v)) (omega (arith, c v))
-free-red (RedPar h) c v = omega (arith, c v, free-red h (λ u. omega (arith, c u)) v)
-free-red (RedAmb h) c v = omega (arith, c v, free-red h (λ u. omega (arith, c u)) v)
-free-red (RedCong i h j) c v = sym (free-cong v j) ∙ free-red h (λ u. sym (free-cong u i) ∙ c u) v
+reduction-closed RedIn c v = omega (arith, c v)
+reduction-closed RedOut c v = omega (arith, c v)
+reduction-closed RedOpen c v = omega (arith, c v)
+reduction-closed (RedIO {x = x} {m = m} {p = p}) c v = free-received v x m p (omega (arith, c v)) (omega (arith, c v))
+reduction-closed (RedPar h) c v = omega (arith, c v, reduction-closed h (λ u. omega (arith, c u)) v)
+reduction-closed (RedAmb h) c v = omega (arith, c v, reduction-closed h (λ u. omega (arith, c u)) v)
+reduction-closed (RedCong i h j) c v = closed-cong j (λ u. reduction-closed h (closed-cong i c) u) v
