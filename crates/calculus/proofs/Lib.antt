@@ -11,3 +11,4 @@ pub mod Steps
 pub mod Runs
 pub mod Kept
 pub mod Agreement
+pub mod Orders
