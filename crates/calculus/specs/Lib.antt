@@ -1,3 +1,5 @@
--- Satisfaction on trees, and the paper's calculus and logic. Assumes nothing: these are definitions.
+-- Satisfaction on trees, the paper's calculus and logic, and trees that differ in order only. Assumes nothing: these are
+-- definitions.
 pub mod Satisfaction
 pub mod Calculus
+pub mod Order
