@@ -14,7 +14,7 @@ use Rattle.closures.specs.Moves.{Moved, spentHead, moveHere}
 use Rattle.closures.specs.PlainMachine.{rest, substituteHead, substituteBody, plain, move}
 use Rattle.closures.proofs.Options.{byTest}
 use Rattle.closures.proofs.Inversion.{move-inv}
-use Rattle.closures.proofs.Sums.{map-sum, Shrinks, made-sum, move-sum, by-numbers}
+use Rattle.closures.proofs.Sums.{map-sum, Shrinks, made-sum, move-sum, plain-numbers}
 use Rattle.calculus.specs.Satisfaction.{Divided, wrapped}
 use Rattle.calculus.specs.Order.{Part}
 use Rattle.calculus.specs.Calculus.{Process, _∣_, ambient, _≅_, piece, process, mentions}
@@ -158,7 +158,7 @@ untidy-shrinks : Shrinks plain (λ k h. untidy h) 0
 untidy-shrinks = by-heads untidy untidy-spent untidy-substitute
 
 count-shrinks : (j : ℕ) → Shrinks plain (λ k h. one (eqb j k)) 0
-count-shrinks j = by-numbers (λ k. one (eqb j k)) 0 (λ k l. omega arith)
+count-shrinks j = plain-numbers (λ k. one (eqb j k)) 0 (λ k l. omega arith)
 
 -- A tree that is settled, its actions held as items, its parts numbered apart and below n, its receipts' variables apart,
 -- and no variable free.

@@ -16,7 +16,7 @@ use Rattle.closures.specs.Moves as moves
 use Rattle.closures.specs.PlainMachine.{substituteBody, plain, settled, settledBy, move}
 use Rattle.closures.proofs.Options.{byTest, none≢some, bind-some, bind-none}
 use Rattle.closures.proofs.Inversion.{Opened, Received, Entered, Exited, inside-part, inside-close}
-use Rattle.closures.proofs.Sums.{find-none, drop-none, made-sum, by-numbers, anywhere-sum}
+use Rattle.closures.proofs.Sums.{find-none, drop-none, made-sum, plain-numbers, anywhere-sum}
 use Rattle.calculus.specs.Order.{Part, front, behind}
 use Rattle.calculus.specs.Calculus.{Process, _∣_, ambient, _≅_, Refl, Symm, Trans, Par, Amb, prefix, piece, process}
 use Rattle.calculus.proofs.Variables.{eqb-same}
@@ -367,5 +367,5 @@ pub step-move : {b : Plain} {p : Process} → Step b p → Distinct b → (a : �
 unfolding move
 step-move {b} g d =
     let x = step-run g d in
-    let less : Distinct (x .moved .body) = λ j. omega (arith, d j, anywhere-sum plain (λ k h. one (eqb j k)) 0 (by-numbers (λ k. one (eqb j k)) 0 (λ k l. omega arith)) (x .actor) (x .target) b (x .moved) (x .is-made)) in
+    let less : Distinct (x .moved .body) = λ j. omega (arith, d j, anywhere-sum plain (λ k h. one (eqb j k)) 0 (plain-numbers (λ k. one (eqb j k)) 0 (λ k l. omega arith)) (x .actor) (x .target) b (x .moved) (x .is-made)) in
     (x .actor, x .target, settled (x .moved), settled-some _ (x .moved) (x .is-made), Trans (settle-process (x .moved .body) less) (x .congruent))

@@ -220,7 +220,7 @@ pub by-numbers : {A : Type 0} (view : View A) (u : ℕ → ℕ) (w : ℕ) → ((
     ((k l : ℕ) → w ≤ u k + u l) → Shrinks view (λ k h. u k) w
 by-numbers view u w delivers least = record { spends = λ k h. omega arith; delivers = delivers; takes = λ k l v m. least k l }
 
-plain-numbers : (u : ℕ → ℕ) (w : ℕ) → ((k l : ℕ) → w ≤ u k + u l) → Shrinks plain (λ k h. u k) w
+pub plain-numbers : (u : ℕ → ℕ) (w : ℕ) → ((k l : ℕ) → w ≤ u k + u l) → Shrinks plain (λ k h. u k) w
 unfolding substituteBody
 plain-numbers u w = by-numbers plain u w (λ v m b. omega (arith, map-sum (λ k h. u k) (substituteHead v m) b))
 
