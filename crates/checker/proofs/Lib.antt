@@ -1,4 +1,5 @@
 -- The theorems about the call.
 pub mod Runs
 pub mod Door
+pub mod Begun
 pub mod Answers

@@ -230,6 +230,19 @@ script-tabled ws =
     (let b = body-advances (length ws) 0 [] (cursor 0 0 ws) q e in
     tabled ws (q .0) (b .numbered) (b .placed ws refl) (omega (arith, b .numbers, leb-true (q .1 .number) 64 (ask-inv 6 0 _ u e₆))))))))
 
+-- the cursor's number is the number of parts
+abbrev Counts : Script × Cursor → Type 0
+Counts p = p .1 .number ≡ parts (p .0)
+
+pub script-number : (ws : List ℕ) (p : Script × Cursor) → readScript ws ≡ got p → p .1 .number ≡ parts (p .0)
+unfolding readScript
+script-number ws =
+    bind-all Counts (ask 1 0 (leb 1 (length ws) && leb (length ws) 1024)) _
+    (λ _ _. bind-all Counts (readBody (length ws) 0 [] (cursor 0 0 ws)) _
+    (λ q e. bind-all Counts (ask 5 (q .1 .index) (isEmpty (q .1 .left))) _
+    (λ _ _. bind-all Counts (ask 6 0 (leb (q .1 .number) 64)) _
+    (λ _ _. got-all Counts q (omega (arith, body-advances (length ws) 0 [] (cursor 0 0 ws) q e .numbers))))))
+
 -- what the reader answers, and so what its table holds
 abbrev pub Answers : List ℕ → Scan → Type 0
 Answers ws r = (r ≡ scanned 64 vacant (readScript ws)) × ((p : Script × Cursor) → readScript ws ≡ got p → Tabled ws (r .table) (p .0))
