@@ -3,3 +3,4 @@ pub mod Runs
 pub mod Door
 pub mod Begun
 pub mod Answers
+pub mod Verdict
