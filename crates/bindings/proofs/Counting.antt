@@ -135,7 +135,7 @@ sizes-first σ l (suc p) h =
     let q : suc p - 1 ≡ p = omega arith in
     rw (q, firsts-first (suc p) l) (sizes-word σ (firstWord l) p (spelled (drop 1 l)))
 
-pub size-free : (σ : List (ℕ × Message)) (m : MessageWord) → Free σ m → ownSize σ m ≡ 1
+size-free : (σ : List (ℕ × Message)) (m : MessageWord) → Free σ m → ownSize σ m ≡ 1
 unfolding ownSize size
 size-free σ (Name n) f = refl
 size-free σ (Variable v) f = rw (f v refl)
@@ -145,6 +145,10 @@ size-free σ Open f = refl
 size-free σ Empty f = refl
 size-free σ Path f = refl
 size-free σ Unfit f = refl
+
+pub capped-one : (σ : List (ℕ × Message)) (m : MessageWord) → Free σ m → 1 ≡ capped (ownSize σ m)
+unfolding capped
+capped-one σ m f = omega (arith, size-free σ m f)
 
 pub given-size : (script vs ps : List ℕ) → length ps ≡ length vs → (k : ℕ) → k < length vs → (m : MessageWord) → k ≡ boundAt m vs → size (given script vs ps k) ≡ ownSize (bindingsIn script vs ps) m
 unfolding ownSize

@@ -343,7 +343,7 @@ pub fn words_of(script: &[u32], at: usize, variables: &[u32], places: &[u32], si
 
 // The bulk of those from the offset on of the items that the first of the words has of its own.
 fn own_bulk(script: &[u32], words: &[u32], offset: u32, variables: &[u32], places: &[u32], counts: &[u32], sizes: &[u32], bulks: &[u32]) -> u32
-    requires { ⌜ Cached (now script) (now variables) (now places) (now counts) (now sizes) (now bulks) × (length (now words) < 2 ^ 64 - 1) × (offset < 4294967295) × (offset < length (ownItems (bindingsIn (now script) (now variables) (now places)) (now words))) ⌝ }
+    requires { ⌜ Cached (now script) (now variables) (now places) (now counts) (now sizes) (now bulks) × (offset < 4294967295) × (offset < length (ownItems (bindingsIn (now script) (now variables) (now places)) (now words))) ⌝ }
     ensures { λ r. ⌜ r ≡ capped (bulk (drop offset (ownItems (bindingsIn (now (script .entry)) (now (variables .entry)) (now (places .entry))) (now (words .entry))))) ⌝ }
 {
     let k = bound(first_word(words), variables);
