@@ -8,9 +8,9 @@ use native.Mathlib.Omega.{arith}
 use Rattle.messages.specs.Message.{Message, name, nameOf}
 use Rattle.messages.specs.declared.Named.the-variants.{Called}
 use Rattle.scripts.specs.Tree.{Head, close, part, PlainHead, Plain}
-use Rattle.closures.specs.Moves.{Moved, headName}
-use Rattle.closures.specs.PlainMachine.{plain, move}
-use Rattle.closures.proofs.Inversion.{plain-name}
+use Rattle.machine.specs.Moves.{Moved, headName}
+use Rattle.machine.specs.PlainMachine.{plain, move}
+use Rattle.machine.proofs.Inversion.{plain-name}
 use Rattle.rules.specs.Rule.{Names, termName, Rule, always, negation, either, void, at, beside, some-name, sometime, somewhere, placed}
 use Rattle.calculus.specs.Satisfaction.{Divided, Inside, first, later, Within, here, deeper, Reaches, stay, go, Alone, wrapped, Sat}
 use Rattle.calculus.specs.Order.{Part, front, behind}

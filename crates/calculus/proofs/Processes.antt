@@ -11,10 +11,10 @@ use borrow.Author.Tests.{eqb-true}
 use Rattle.messages.specs.Message.{Message, items, substituteItems}
 use Rattle.messages.specs.Message as message
 use Rattle.scripts.specs.Tree.{Head, Body, close, part, one, isAmbient, sum, count, put, merge, mapHeads, settleBy, bare, PlainHead, Plain, settle}
-use Rattle.closures.specs.Bodies.{find, drop, alter}
-use Rattle.closures.specs.PlainMachine.{substituteHead, substituteBody}
-use Rattle.closures.proofs.Options.{byTest, some-is, none≢some}
-use Rattle.closures.proofs.Sums.{drop-none, merge-sum, settle-sum}
+use Rattle.machine.specs.Bodies.{find, drop, alter}
+use Rattle.machine.specs.PlainMachine.{substituteHead, substituteBody}
+use Rattle.machine.proofs.Options.{byTest, some-is, none≢some}
+use Rattle.machine.proofs.Sums.{drop-none, merge-sum, settle-sum}
 use Rattle.calculus.specs.Calculus.{Process, 𝟎, _∣_, ambient, action, input, output, _≅_, Refl, Symm, Trans, Par, Amb, Action, Input, ParComm, ParAssoc, ZeroPar, prefix, piece, process, substitute}
 use Rattle.calculus.proofs.Variables.{eqb-same, eqb-flip}
 use Rattle.calculus.proofs.Congruences.{par-both, par-swap, action-items, prefix-cong, prefix-append}

@@ -10,8 +10,8 @@ use lib.ListN.{length}
 use Rattle.messages.specs.Reading.{Cursor, Reading, refuse, got}
 use Rattle.messages.proofs.Readings.{got-inj}
 use Rattle.scripts.specs.Script.{Script, readScript}
-use Rattle.closures.specs.PlainMachine.{Machine}
-use Rattle.closures.proofs.Options.{byTest}
+use Rattle.machine.specs.PlainMachine.{Machine}
+use Rattle.machine.proofs.Options.{byTest}
 use Rattle.rules.specs.Rule.{Rule}
 use Rattle.rules.specs.ReadRule.{readWholeRule}
 use Rattle.walk.specs.Walk.{Count, Walked, stopped, says, walkFrom}

@@ -17,8 +17,8 @@ use Rattle.scripts.specs.Script.{Written, Script, readScript, holdHead, hold, s
 use Rattle.scripts.proofs.Numbers.{Range, numbered-range}
 use Rattle.scripts.proofs.Cases as body
 use Rattle.scripts.proofs.Tabled.{script-tabled, script-number}
-use Rattle.closures.proofs.Options.{byTest}
-use Rattle.closures.proofs.Sums.{map-sum, settle-sum}
+use Rattle.machine.proofs.Options.{byTest}
+use Rattle.machine.proofs.Sums.{map-sum, settle-sum}
 use Rattle.rules.specs.Rule.{Rule, always, negation, either, void, at, beside, some-name, sometime, somewhere, placed}
 use Rattle.rules.specs.ReadRule.{readWholeRule}
 use Rattle.rules.proofs.Cases as rule

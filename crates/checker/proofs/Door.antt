@@ -21,8 +21,8 @@ use Rattle.scripts.specs.Tree.{Head, ambient, action, receipt, output, Body, cl
 use Rattle.scripts.specs.Script.{Written, Script, readScript, holdHead, hold, started}
 use Rattle.scripts.specs.Measures.{greatestName}
 use Rattle.scripts.proofs.Cases as body
-use Rattle.closures.proofs.Options.{byTest}
-use Rattle.closures.proofs.Everywhere.{Everywhere, map-everywhere, more-everywhere, settle-everywhere}
+use Rattle.machine.proofs.Options.{byTest}
+use Rattle.machine.proofs.Everywhere.{Everywhere, map-everywhere, more-everywhere, settle-everywhere}
 use Rattle.rules.specs.Rule.{Term, constant, chosen, Rule, always, negation, either, void, at, beside, some-name, sometime, somewhere, placed, ruleName, greatestRuleName}
 use Rattle.rules.specs.ReadRule.{RuleKind, TRUE, NOT, OR, VOID, AT, BESIDE, SOME, SOMETIME, SOMEWHERE, PLACED, OTHER, ruleKind, isChosen, termOf, readWholeRule}
 use Rattle.rules.proofs.Cases as rule

@@ -10,10 +10,10 @@ use Rattle.messages.specs.Message.{Message}
 use Rattle.messages.specs.Reading.{Cursor, got}
 use Rattle.scripts.specs.Tree.{Plain, sum, parts, mapHeads, settle, bare}
 use Rattle.scripts.specs.Script.{Written, Script, readScript, holdHead, hold, started}
-use Rattle.closures.specs.Moves.{Moved}
-use Rattle.closures.specs.PlainMachine.{move, Machine, weightOf}
-use Rattle.closures.proofs.Options.{byTest}
-use Rattle.closures.proofs.Sums.{map-sum, settle-sum, weight}
+use Rattle.machine.specs.Moves.{Moved}
+use Rattle.machine.specs.PlainMachine.{move, Machine, weightOf}
+use Rattle.machine.proofs.Options.{byTest}
+use Rattle.machine.proofs.Sums.{map-sum, settle-sum, weight}
 use Rattle.checker.specs.Call.{Call, Ran, halted, moved, actor, target, moveFits, afterMove, ifMade, run, begun}
 use Rattle.checker.specs.Standing.{After, WeightHolds}
 

@@ -11,7 +11,7 @@ use lib.ListN.{length}
 use Rattle.messages.specs.Reading.{Cursor}
 use Rattle.scripts.specs.Script.{Script, started}
 use Rattle.scripts.specs.Measures.{greatestName}
-use Rattle.closures.specs.PlainMachine.{Machine}
+use Rattle.machine.specs.PlainMachine.{Machine}
 use Rattle.rules.specs.Rule.{Rule, greatestRuleName}
 use Rattle.calculus.specs.Satisfaction.{Sat}
 use Rattle.calculus.specs.Calculus.{Satisfies, process}

@@ -7,7 +7,7 @@ use lib.ListN.{take}
 use Rattle.messages.specs.Reading.{Cursor, got}
 use Rattle.scripts.specs.Script.{Script, readScript}
 use Rattle.scripts.specs.Tree.{parts}
-use Rattle.closures.specs.PlainMachine.{Machine, weightOf}
+use Rattle.machine.specs.PlainMachine.{Machine, weightOf}
 use Rattle.rules.specs.Rule.{Rule}
 use Rattle.rules.specs.ReadRule.{readWholeRule}
 use Rattle.calculus.specs.Satisfaction.{Sat}

@@ -6,7 +6,7 @@ use mathlib.Core.Option.{Option, none, some}
 use lib.ListN.{length}
 use Rattle.messages.specs.Message.{Message, nameOf, firstItem, substitute, substituteItems}
 use Rattle.scripts.specs.Tree.{Head, ambient, action, receipt, output, Body, close, part, mapHeads, parts, PlainHead, Plain, settle}
-use Rattle.closures.specs.Moves.{View, Moved, moveHere, anywhere}
+use Rattle.machine.specs.Moves.{View, Moved, moveHere, anywhere}
 
 -- the items behind the first
 unfoldable pub rest : List Message → List Message

@@ -13,12 +13,12 @@ use Rattle.messages.specs.Message.{Message, name, variable, enter, exit, opens,
 use Rattle.messages.specs.declared.Named.{Named}
 use Rattle.messages.specs.declared.Named.the-variants.{Called, Nameless}
 use Rattle.scripts.specs.Tree.{Head, ambient, action, receipt, output, Body, close, part, put, merge, Plain, settle}
-use Rattle.closures.specs.Bodies.{orElse, check, find, drop, alter, holder}
-use Rattle.closures.specs.Moves.{View, isNamed, isThat, sameName, toEnter, toExit, toOpen, Moved, variableOf, messageOf, quiet, onward, headName, firstOf, spend, enterMove, exitMove, openMove, receiveMove, moveHere, inside, anywhere}
-use Rattle.closures.specs.PlainMachine.{plain, settledBy, move}
+use Rattle.machine.specs.Bodies.{orElse, check, find, drop, alter, holder}
+use Rattle.machine.specs.Moves.{View, isNamed, isThat, sameName, toEnter, toExit, toOpen, Moved, variableOf, messageOf, quiet, onward, headName, firstOf, spend, enterMove, exitMove, openMove, receiveMove, moveHere, inside, anywhere}
+use Rattle.machine.specs.PlainMachine.{plain, settledBy, move}
 use Rattle.messages.specs.declared.First.{First}
 use Rattle.messages.specs.declared.First.the-variants.{Nothing, Enter, Exit, Open, Other}
-use Rattle.closures.proofs.Options.{and-inv, some-is, none≢some, bind-inv, check-inv, cond-inv, orElse-inv, onward-inv}
+use Rattle.machine.proofs.Options.{and-inv, some-is, none≢some, bind-inv, check-inv, cond-inv, orElse-inv, onward-inv}
 
 pub isNamed-inv : (x : Named) → isNamed x ≡ true → (n : ℕ) × (x ≡ Called n)
 unfolding isNamed

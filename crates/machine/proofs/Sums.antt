@@ -12,11 +12,11 @@ use lib.ListN.{length}
 use borrow.Author.Tests.{eqb-true, eqb-false, eq-eqb, ne-eqb}
 use Rattle.messages.specs.Message.{Message}
 use Rattle.scripts.specs.Tree.{Head, receipt, output, Body, close, part, one, isAmbient, sum, parts, count, put, merge, mapHeads, settleBy, bare, Plain, settle}
-use Rattle.closures.specs.Bodies.{find, drop, alter}
-use Rattle.closures.specs.Moves.{View, Moved, spentHead, spend, moveHere, anywhere}
-use Rattle.closures.specs.PlainMachine.{substituteHead, substituteBody, plain, move, weightOf}
-use Rattle.closures.proofs.Options.{byTest, some-is, none≢some}
-use Rattle.closures.proofs.Inversion.{Received, Entered, Here, by-open, by-receive, by-enter, by-exit, here-inv, Makes, now, inner, outer, anywhere-inv, move-inv}
+use Rattle.machine.specs.Bodies.{find, drop, alter}
+use Rattle.machine.specs.Moves.{View, Moved, spentHead, spend, moveHere, anywhere}
+use Rattle.machine.specs.PlainMachine.{substituteHead, substituteBody, plain, move, weightOf}
+use Rattle.machine.proofs.Options.{byTest, some-is, none≢some}
+use Rattle.machine.proofs.Inversion.{Received, Entered, Here, by-open, by-receive, by-enter, by-exit, here-inv, Makes, now, inner, outer, anywhere-inv, move-inv}
 
 -- one where the numbers are the same
 one-same : (i : ℕ) → one (eqb i i) ≡ 1

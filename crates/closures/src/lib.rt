@@ -1,1 +1,0 @@
-// Closures and moves. It rests on the promises of scripts, messages and sets.
