@@ -4,6 +4,7 @@
 //! receipt puts a whole copy of the message in each place of its variable, and the tree of parts is plain owned data.
 //! Sentences in quotation marks in the comments are document 01's.
 
+pub mod generate;
 pub mod machine;
 pub mod program;
 pub mod rule;
