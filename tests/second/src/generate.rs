@@ -127,8 +127,9 @@ fn few_names(random: &mut Random) -> Vec<u32> {
     match random.below(12) {
         0 => vec![1, 255],
         1 => vec![1 + random.below(20) as u32, 1 + random.below(20) as u32],
-        2..=5 => vec![1, 2],
-        6..=9 => vec![1, 2, 3],
+        2..=3 => vec![1],
+        4..=8 => vec![1, 2],
+        9..=10 => vec![1, 2, 3],
         _ => vec![1, 2, 3, 4],
     }
 }
@@ -140,6 +141,8 @@ struct Scripts<'a> {
     words: Vec<u32>,
     /// The indices of the RECs around the next word.
     receipts: Vec<u32>,
+    /// The first message words of the AMBs around the next word.
+    ambients: Vec<u32>,
     parts_left: u32,
     most_words: usize,
 }
@@ -177,20 +180,40 @@ impl Scripts<'_> {
 
     fn ambient(&mut self, depth: usize) {
         self.begin(AMB);
-        match self.random.below(20) {
+        let message = self.words.len();
+        match self.random.below(25) {
             0 => self.capability(2),
             1 => self.path(2, 2),
             2 => self.word(EMPTY),
-            3..=6 => self.variable_or_name(),
+            3 => self.nearly_a_name(),
+            4..=7 => self.variable_or_name(),
             _ => self.name(),
         }
+        self.ambients.push(self.words[message]);
         self.body(depth + 1);
+        self.ambients.pop();
+    }
+
+    /// EMPTY beside NAME, or NAME beside EMPTY.
+    fn nearly_a_name(&mut self) {
+        self.word(PATH);
+        if self.random.one_in(2) {
+            self.word(EMPTY);
+            self.variable_or_name();
+        } else {
+            self.variable_or_name();
+            self.word(EMPTY);
+        }
     }
 
     fn action(&mut self, depth: usize) {
         self.begin(ACT);
-        let count = *self.random.pick(&[1, 1, 1, 2, 2, 3, 4]);
-        self.path(count, 2);
+        if self.random.one_in(15) {
+            self.words.extend(*self.random.pick(&[&[EMPTY][..], &[PATH, EMPTY, EMPTY]]));
+        } else {
+            let count = *self.random.pick(&[1, 1, 1, 2, 2, 3, 4]);
+            self.path(count, 2);
+        }
         self.body(depth + 1);
     }
 
@@ -208,7 +231,7 @@ impl Scripts<'_> {
     /// A part in which this variable is used for certain.
     fn use_of(&mut self, index: u32, depth: usize) {
         let variable = VAR | index;
-        match self.random.below(5) {
+        match self.random.below(6) {
             0 => {
                 self.begin(AMB);
                 self.word(variable);
@@ -230,6 +253,14 @@ impl Scripts<'_> {
                 self.begin(OUT);
                 self.words.extend([PATH, variable, variable]);
             }
+            4 => {
+                self.begin(ACT);
+                self.words.extend([PATH, EMPTY, variable]);
+                self.begin(ACT);
+                self.word(variable);
+                self.body(depth + 3);
+                self.body(depth + 2);
+            }
             _ => {
                 self.begin(AMB);
                 self.name();
@@ -243,11 +274,12 @@ impl Scripts<'_> {
 
     fn output(&mut self) {
         self.begin(OUT);
-        match self.random.below(10) {
-            0..=3 => self.name(),
-            4..=5 => self.capability(2),
-            6 => self.word(EMPTY),
-            7 => self.variable_or_name(),
+        match self.random.below(20) {
+            0..=6 => self.name(),
+            7..=10 => self.capability(2),
+            11..=13 => self.word(EMPTY),
+            14..=15 => self.variable_or_name(),
+            16 => self.nearly_a_name(),
             _ => self.path(2, 2),
         }
     }
@@ -268,6 +300,14 @@ impl Scripts<'_> {
         self.word(NAME | name);
     }
 
+    /// For EXIT mostly what the ambient two around is called, for the others any name.
+    fn fitting_name(&mut self, capability: u32) {
+        match self.ambients.as_slice() {
+            [.., outer, _] if capability == EXIT && outer >> 28 == NAME >> 28 && !self.random.one_in(4) => self.word(*outer),
+            _ => self.name(),
+        }
+    }
+
     fn variable_or_name(&mut self) {
         if self.receipts.is_empty() {
             return self.name();
@@ -279,12 +319,13 @@ impl Scripts<'_> {
     fn capability(&mut self, deep: usize) {
         let capability = *self.random.pick(&[IN, EXIT, OPEN]);
         self.word(capability);
-        match self.random.below(20) {
+        match self.random.below(30) {
             0 if deep > 0 => self.capability(deep - 1),
             1 if deep > 0 => self.path(2, deep - 1),
             2 => self.word(EMPTY),
-            3..=6 => self.variable_or_name(),
-            _ => self.name(),
+            3 => self.nearly_a_name(),
+            4..=8 => self.variable_or_name(),
+            _ => self.fitting_name(capability),
         }
     }
 
@@ -317,7 +358,8 @@ impl Scripts<'_> {
 fn random_script(random: &mut Random, names: &[u32], size: Size) -> Vec<u32> {
     let parts_left = 1 + random.below(size.parts as usize) as u32;
     let most_words = size.script_words;
-    let mut scripts = Scripts { random, names, words: Vec::new(), receipts: Vec::new(), parts_left, most_words };
+    let (words, receipts, ambients) = (Vec::new(), Vec::new(), Vec::new());
+    let mut scripts = Scripts { random, names, words, receipts, ambients, parts_left, most_words };
     scripts.body(0);
     scripts.words
 }
@@ -453,7 +495,7 @@ impl Rules<'_> {
         if self.random.one_in(6) {
             self.word(NOT);
         }
-        match self.random.below(6) {
+        match self.random.below(8) {
             0 => self.fitting(tree, 0),
             1 => {
                 self.word(SOMEWHERE);
@@ -476,6 +518,7 @@ impl Rules<'_> {
                 self.word(AT | name);
                 self.fitting(tree, 3);
             }
+            3 if self.placed_left > 1 => self.about_two_placed(),
             _ => {
                 let more = 1 + self.random.below(4);
                 let (_, later) = random_moves(self.random, tree.clone(), more);
@@ -483,6 +526,21 @@ impl Rules<'_> {
                 self.fitting(&later, 1);
             }
         }
+    }
+}
+
+impl Rules<'_> {
+    /// The process in one name inside another one, and the two of them beside each other after some moves.
+    fn about_two_placed(&mut self) {
+        self.placed_left -= 2;
+        let (inner, outer) = (*self.random.pick(self.names), *self.random.pick(self.names));
+        self.words.extend([PLACED | inner, PLACED | outer, SOMETIME, BESIDE]);
+        if self.random.one_in(2) {
+            self.words.extend([AT | inner, TRUE, AT | outer]);
+        } else {
+            self.words.extend([AT | outer, VOID, AT | inner]);
+        }
+        self.any(7);
     }
 }
 
@@ -497,16 +555,48 @@ fn random_rule(random: &mut Random, names: &[u32], tree: &Body, placed_left: u32
     rules.words
 }
 
+/// Some ambients beside each other, each with actions that take it into the others and out again.
+fn crowd(random: &mut Random, names: &[u32]) -> Vec<u32> {
+    let mut words = Vec::new();
+    for _ in 0..2 + random.below(3) {
+        words.extend([AMB, NAME | random.pick(names)]);
+        for _ in 0..random.below(3) {
+            let name = NAME | random.pick(names);
+            words.extend([ACT, PATH, IN, name, PATH, *random.pick(&[EXIT, IN]), name, *random.pick(&[OPEN, IN, EXIT]), name, CLOSE]);
+        }
+        words.push(CLOSE);
+        if random.one_in(4) {
+            words.extend([ACT, OPEN, NAME | random.pick(names), CLOSE]);
+        }
+    }
+    words.push(CLOSE);
+    words
+}
+
+/// A script that passes the door, with its tree and its parts: the one of a few that has the most moves to begin with.
+fn moving_script(random: &mut Random, names: &[u32], size: Size) -> (Vec<u32>, Body, u32) {
+    let mut best = None;
+    let mut tries = *random.pick(&[1, 1, 3, 8]);
+    while tries > 0 || best.is_none() {
+        tries = usize::saturating_sub(tries, 1);
+        let words = if random.one_in(8) { crowd(random, names) } else { random_script(random, names, size) };
+        let Ok(script) = read_script(&words) else {
+            continue;
+        };
+        let tree = settle(script.tree);
+        let moves = possible_moves(&tree).len();
+        if best.as_ref().is_none_or(|(most, _)| moves > *most) {
+            best = Some((moves, (words, tree, script.parts)));
+        }
+    }
+    best.expect("there is one").1
+}
+
 /// A script that passes the door, moves that can be made (the last one perhaps not), a rule that passes the door.
 fn ordinary(random: &mut Random, size: Size) -> Case {
     let names = few_names(random);
-    let (script, tree, parts) = loop {
-        let words = random_script(random, &names, size);
-        if let Ok(script) = read_script(&words) {
-            break (words, settle(script.tree), script.parts);
-        }
-    };
-    let most = random.below(size.moves + 1);
+    let (script, tree, parts) = moving_script(random, &names, size);
+    let most = if random.one_in(2) { random.below(4) } else { random.below(size.moves + 1) };
     let (mut moves, tree) = random_moves(random, tree, most);
     if random.one_in(5) {
         let (actor, target) = (random.below(parts as usize + 1) as u32, random.below(parts as usize + 1) as u32);
@@ -560,9 +650,11 @@ fn random_buffer(random: &mut Random, case: &Case) -> Vec<u32> {
 fn damaged(random: &mut Random, size: Size) -> Case {
     let mut case = ordinary(random, size);
     for _ in 0..1 + random.below(2) {
-        match random.below(7) {
+        match random.below(9) {
             0..=2 => damage(random, &mut case.script),
             3..=4 => damage(random, &mut case.rule),
+            7 => unbind(random, &mut case.script, REC, &[NAME, VAR], VAR),
+            8 => unbind(random, &mut case.rule, SOME, &[AT, PLACED], AT | VARIABLE),
             5 => damage(random, &mut case.moves),
             _ => case.patience = *random.pick(&[0, 1, 2, size.visits, 16_777_217, u32::MAX]),
         }
@@ -572,6 +664,15 @@ fn damaged(random: &mut Random, size: Size) -> Case {
         case.patience = size.visits;
     }
     case
+}
+
+/// One of the words of such kinds becomes a variable of a word that stands somewhere, around it or not.
+fn unbind(random: &mut Random, words: &mut [u32], binder: u32, users: &[u32], variable: u32) {
+    let binders: Vec<usize> = (0..words.len()).filter(|at| words[*at] == binder).collect();
+    let fitting: Vec<usize> = (0..words.len()).filter(|at| users.contains(&(words[*at] & 0xF000_0000))).collect();
+    if !binders.is_empty() && !fitting.is_empty() {
+        words[*random.pick(&fitting)] = variable | *random.pick(&binders) as u32;
+    }
 }
 
 fn damage(random: &mut Random, words: &mut Vec<u32>) {
@@ -603,7 +704,7 @@ fn damage(random: &mut Random, words: &mut Vec<u32>) {
 fn limit(random: &mut Random) -> Case {
     let beyond = random.below(2);
     let mut case = Case { script: vec![CLOSE], moves: Vec::new(), rule: vec![TRUE], patience: 1_000, buffer: Vec::new() };
-    match random.below(14) {
+    match random.below(15) {
         0 => case.script = long_script(random, 1024 + beyond),
         1 => case.script = nested_bodies(random, 64 + beyond),
         2 => case.script = nested_message(random, 64 + beyond),
@@ -617,6 +718,7 @@ fn limit(random: &mut Random) -> Case {
         10 => deep_walk(random, beyond, &mut case),
         11 => many_shares(random, &mut case),
         12 => doubling(random, &mut case),
+        13 => two_placed(random, &mut case),
         _ => match random.below(3) {
             0 => case.script = Vec::new(),
             1 => case.rule = Vec::new(),
@@ -793,6 +895,8 @@ fn deep_walk(random: &mut Random, beyond: usize, case: &mut Case) {
     case.moves = vec![move_word(1, 0)];
     case.moves.extend(vec![move_word(3, 4); 310 - left]);
     case.patience = 50_000;
+    let visits = answer(case).map_or(50_000, |answer| answer.visits);
+    case.patience = *random.pick(&[visits, visits - 1, visits + 1, 50_000]);
 }
 
 /// BESIDE over many top parts.
@@ -806,6 +910,21 @@ fn many_shares(random: &mut Random, case: &mut Case) {
         _ => vec![BESIDE, NOT, BESIDE, NOT, VOID, NOT, VOID, VOID],
     };
     case.patience = 3_000;
+}
+
+/// A process that comes out of one PLACED ambient and stands beside it with the other.
+fn two_placed(random: &mut Random, case: &mut Case) {
+    let names = [1, 2, 3];
+    let script = random_script(random, &names, Size::SMALL);
+    case.script = [vec![ACT, PATH, EXIT, NAME | 2, *random.pick(&[IN, OPEN, EXIT]), NAME | 2, CLOSE], script].concat();
+    let ways = [
+        vec![AT | 1, TRUE, AT | 2, TRUE],
+        vec![AT | 2, TRUE, AT | 1, TRUE],
+        vec![AT | 1, VOID, TRUE],
+        vec![SOMEWHERE, AT | 1, TRUE, NOT, VOID],
+    ];
+    case.rule = [vec![PLACED | 1, PLACED | 2, SOMETIME, BESIDE], random.pick(&ways).clone()].concat();
+    case.patience = 2_000;
 }
 
 /// Receipts each of which doubles the message and gives it on; the last one may use it as an action.
