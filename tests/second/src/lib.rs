@@ -1,0 +1,154 @@
+//! A second checker: the plain machine of document 01 with full copying, written from that document alone.
+//!
+//! It shares nothing with the proved checker and is what the tests hold that one against. A message is an owned tree, a
+//! receipt puts a whole copy of the message in each place of its variable, and the tree of parts is plain owned data.
+//! Sentences in quotation marks in the comments are document 01's.
+
+pub mod generate;
+pub mod machine;
+pub mod program;
+pub mod rule;
+pub mod script;
+pub mod walk;
+pub mod writer;
+
+use machine::{count_parts, make_move, possible_moves, settle};
+use script::Body;
+use walk::{Stop, Walk};
+
+/// What a call is lent, without the buffer.
+#[derive(Clone, Copy, Debug)]
+pub struct Call<'a> {
+    pub script: &'a [u32],
+    pub moves: &'a [u32],
+    pub rule: &'a [u32],
+    pub patience: u32,
+}
+
+#[derive(Clone, Copy, Debug, PartialEq, Eq)]
+pub enum Verdict {
+    /// Yes or no.
+    Accepted(bool),
+    Refused { question: u32, place: u32 },
+}
+
+#[derive(Clone, Copy, Debug, PartialEq, Eq)]
+pub struct Answer {
+    pub verdict: Verdict,
+    pub moves: u32,
+    pub visits: u32,
+    pub deepest: u32,
+    pub weight: u32,
+    pub words: u32,
+}
+
+/// "The first no ends the call with its number and place."
+#[derive(Clone, Copy, Debug, PartialEq, Eq)]
+pub struct Refusal {
+    pub question: u32,
+    pub place: u32,
+}
+
+impl Refusal {
+    pub fn new(question: u32, place: usize) -> Refusal {
+        Refusal { question, place: place as u32 }
+    }
+
+    /// "A refused one gives number, place, moves and visits made (0 if none); deepest, weight and words are 0".
+    fn answer(self, moves: u32, visits: u32) -> Answer {
+        let verdict = Verdict::Refused { question: self.question, place: self.place };
+        Answer { verdict, moves, visits, deepest: 0, weight: 0, words: 0 }
+    }
+}
+
+/// The answer to a call; the buffer is written as document 01 says.
+///
+/// `None` where a tree would become too large for full copying (`machine::MOST_MESSAGE_WORDS`): such a call has an answer,
+/// but not from this checker. The buffer is then not written.
+pub fn call(c: &Call, out: &mut [u32]) -> Option<Answer> {
+    let start = match door(c) {
+        Ok(start) => start,
+        Err(refusal) => return Some(refusal.answer(0, 0)),
+    };
+    let mut walk = start.walk;
+    let moved = match make_list(start.tree, c.moves, walk.parts) {
+        Ok(moved) => moved,
+        Err((Stop::Refused(refusal), moves)) => return Some(refusal.answer(moves, 0)),
+        Err((Stop::TooLarge, _)) => return None,
+    };
+    let moves = c.moves.len() as u32;
+    let yes = match walk.visit(&start.rule, &moved.tree, 1) {
+        Ok(yes) => yes,
+        Err(Stop::Refused(refusal)) => return Some(refusal.answer(moves, walk.visits)),
+        Err(Stop::TooLarge) => return None,
+    };
+    let words = writer::written(&moved.tree);
+    if words.len() > out.len().min(1 << 28) {
+        return Some(Refusal::new(19, 0).answer(moves, walk.visits));
+    }
+    out[..words.len()].copy_from_slice(&words);
+    Some(Answer {
+        verdict: Verdict::Accepted(yes),
+        moves,
+        visits: walk.visits,
+        deepest: walk.deepest,
+        weight: count_parts(&moved.tree) + 2 * moved.receipts,
+        words: words.len() as u32,
+    })
+}
+
+/// What the questions before the moves leave.
+struct Start {
+    tree: Body,
+    rule: rule::Rule,
+    walk: Walk,
+}
+
+/// Questions 1 to 14.
+fn door(c: &Call) -> Result<Start, Refusal> {
+    let script = script::read_script(c.script)?;
+    let read = rule::read_rule(c.rule)?;
+    if script.parts + read.placed > 64 {
+        return Err(Refusal::new(12, 0));
+    }
+    if !(1..=16_777_216).contains(&c.patience) {
+        return Err(Refusal::new(13, 0));
+    }
+    if c.moves.len() > 4096 {
+        return Err(Refusal::new(14, 0));
+    }
+    let walk = Walk {
+        patience: c.patience,
+        greatest_name: script.greatest_name.max(read.greatest_name),
+        parts: script.parts,
+        visits: 0,
+        deepest: 0,
+        names: Vec::new(),
+    };
+    Ok(Start { tree: settle(script.tree), rule: read.rule, walk })
+}
+
+/// "the tree that stands after the moves", and the receipts made.
+struct Moved {
+    tree: Body,
+    receipts: u32,
+}
+
+/// Questions 15 and 16: "Each word of the list, in turn, is asked its questions on the tree that the moves before it left".
+/// A stop comes with the number of moves made before it.
+fn make_list(tree: Body, moves: &[u32], parts: u32) -> Result<Moved, (Stop, u32)> {
+    let mut moved = Moved { tree, receipts: 0 };
+    for (index, &word) in moves.iter().enumerate() {
+        let stop = |question| (Stop::Refused(Refusal::new(question, index)), index as u32);
+        let (actor, target) = (word >> 8 & 0xFF, word & 0xFF);
+        if word >> 16 != 0x1000 || actor >= parts || target >= parts {
+            return Err(stop(15));
+        }
+        if !possible_moves(&moved.tree).contains(&(actor, target)) {
+            return Err(stop(16));
+        }
+        let (tree, received) = make_move(moved.tree, (actor, target)).map_err(|large| (large.into(), index as u32))?;
+        moved = Moved { tree, receipts: moved.receipts + received as u32 };
+    }
+    Ok(moved)
+}
