@@ -1,20 +1,18 @@
 -- Satisfaction read on trees is the paper's satisfaction of the process that the tree stands for (000, section 2.2).
 -- Assumes nothing.
 use Prim.Native.Nat.{ℕ, suc, _+_, _≤_}
-use mathlib.Core.List.{List, _∷_}
+use mathlib.Core.List.{_∷_}
 use mathlib.Core.Path.{_≡_, refl, sym, ap, _∙_, subst}
 use mathlib.Core.Logic.{inl, inr, _↔_}
 use native.Mathlib.Omega.{arith}
-use Rattle.messages.specs.Message.{Message, name, nameOf}
-use Rattle.messages.specs.declared.Named.the-variants.{Called}
+use Rattle.messages.specs.Message.{name, nameOf}
 use Rattle.scripts.specs.Tree.{Head, close, part, PlainHead, Plain}
-use Rattle.closures.specs.Moves.{Moved, headName}
-use Rattle.closures.specs.PlainMachine.{plain, move}
+use Rattle.closures.specs.Moves.{headName}
 use Rattle.closures.proofs.Inversion.{plain-name}
 use Rattle.rules.specs.Rule.{Names, termName, Rule, always, negation, either, void, at, beside, some-name, sometime, somewhere, placed}
-use Rattle.calculus.specs.Satisfaction.{Divided, Inside, first, later, Within, here, deeper, Reaches, stay, go, Alone, wrapped, Sat}
+use Rattle.calculus.specs.Satisfaction.{Inside, first, later, Within, here, deeper, Reaches, stay, go, Alone, wrapped, Sat}
 use Rattle.calculus.specs.Order.{Part, front, behind}
-use Rattle.calculus.specs.Calculus.{Process, 𝟎, _∣_, ambient, _≅_, Refl, Symm, Trans, Amb, ZeroPar, piece, process, RedCong, _⟶*_, _↓_, Loc, _↓*_, Satisfies}
+use Rattle.calculus.specs.Calculus.{Process, 𝟎, ambient, _≅_, Refl, Symm, Trans, Amb, ZeroPar, piece, process, RedCong, _⟶*_, _↓_, Loc, _↓*_, Satisfies}
 use Rattle.calculus.specs.Calculus
 use Rattle.calculus.proofs.Divisions.{as-nothing, as-both, divided-congruent}
 use Rattle.calculus.proofs.Picks.{has-ambient, as-ambient, part-process}
@@ -44,7 +42,7 @@ congruent-satisfies (beside i r t) e p q h s = (s .0, s .1, Trans (Symm h) (s .2
 congruent-satisfies (some-name i r) e p q h s = (s .0, s .1, congruent-satisfies r ((i, s .0) ∷ e) p q h (s .2))
 congruent-satisfies (sometime i r) e p q h s = let x = later-congruent (s .1) h in (x .0, x .1, congruent-satisfies r e (s .0) (x .0) (x .2) (s .2))
 congruent-satisfies (somewhere i r) e p q h s = let x = lower-congruent (s .1) h in (x .0, x .1, congruent-satisfies r e (s .0) (x .0) (x .2) (s .2))
-congruent-satisfies (placed i j t r) e p q h s = congruent-satisfies r e (ambient (name (termName e t)) p) (ambient (name (termName e t)) q) (Amb h) s
+congruent-satisfies (placed i j t r) e p q h s = congruent-satisfies r e _ _ (Amb h) s
 
 -- the PLACED words of a rule have places from q up, each deeper one a greater
 abbrev pub Places : ℕ → Rule → Type 0

@@ -36,11 +36,11 @@ shape n σ (action m p) = chain (items (renamed σ m)) (shape n σ p)
 shape n σ (input x p) = cell (hear n) (shape (suc n) (bound σ x n) p) nil
 shape n σ (output m) = cell (say (renamed σ m)) nil nil
 
-pub bound-same : (σ : ℕ → ℕ) (x n z : ℕ) → eqb z x ≡ true → bound σ x n z ≡ n
+bound-same : (σ : ℕ → ℕ) (x n z : ℕ) → eqb z x ≡ true → bound σ x n z ≡ n
 unfolding bound
 bound-same σ x n z t = rw t
 
-pub bound-other : (σ : ℕ → ℕ) (x n z : ℕ) → eqb z x ≡ false → bound σ x n z ≡ σ z
+bound-other : (σ : ℕ → ℕ) (x n z : ℕ) → eqb z x ≡ false → bound σ x n z ≡ σ z
 unfolding bound
 bound-other σ x n z t = rw t
 
@@ -119,13 +119,13 @@ sound (Null {p = p}) n σ = same-refl (shape n σ p)
 sound (Path {m = m} {k = k} {p = p}) n σ = same-eq (chain-append (items (renamed σ m)) (items (renamed σ k)) (shape n σ p))
 
 -- the process of a shape
-unfoldable pub prime : Tag → Process → Process
+unfoldable prime : Tag → Process → Process
 prime (place m) p = ambient m p
 prime (can m) p = action m p
 prime (hear x) p = input x p
 prime (say m) p = output m
 
-unfoldable pub written : Shape → Process
+unfoldable written : Shape → Process
 written nil = 𝟎
 written (cell g i r) = prime g (written i) ∣ written r
 
@@ -139,24 +139,24 @@ par-both h k = Trans (Par h) (par-right k)
 pub par-swap : {p q r : Process} → p ∣ (q ∣ r) ≅ q ∣ (p ∣ r)
 par-swap = Trans (Symm ParAssoc) (Trans (Par ParComm) ParAssoc)
 
-pub prime-cong : (g : Tag) {p q : Process} → p ≅ q → prime g p ≅ prime g q
+prime-cong : (g : Tag) {p q : Process} → p ≅ q → prime g p ≅ prime g q
 unfolding prime
 prime-cong (place m) h = Amb h
 prime-cong (can m) h = Action h
 prime-cong (hear x) h = Input h
 prime-cong (say m) h = Refl
 
-pub pick-written : {d q j : Shape} {g : Tag} → Pick d g j q → written d ≅ prime g (written j) ∣ written q
+pick-written : {d q j : Shape} {g : Tag} → Pick d g j q → written d ≅ prime g (written j) ∣ written q
 unfolding written
 pick-written here = Refl
 pick-written (there p) = Trans (par-right (pick-written p)) par-swap
 
-pub same-written : {s t : Shape} → Same s t → written s ≅ written t
+same-written : {s t : Shape} → Same s t → written s ≅ written t
 unfolding written
 same-written done = Refl
 same-written (match {g = g} p a h) = Trans (par-both (prime-cong g (same-written a)) (same-written h)) (Symm (pick-written p))
 
-pub written-append : (s t : Shape) → written (s ⊕ t) ≅ written s ∣ written t
+written-append : (s t : Shape) → written (s ⊕ t) ≅ written s ∣ written t
 unfolding written _⊕_
 written-append nil t = Symm (Trans ParComm ZeroPar)
 written-append (cell g i r) t = Trans (par-right (written-append r t)) (Symm ParAssoc)
@@ -182,7 +182,7 @@ unfolding prefix
 prefix-cong [] h = h
 prefix-cong (i ∷ is) h = Action (prefix-cong is h)
 
-pub written-chain : (is : List Message) (s : Shape) → written (chain is s) ≅ prefix is (written s)
+written-chain : (is : List Message) (s : Shape) → written (chain is s) ≅ prefix is (written s)
 unfolding written chain prefix prime
 written-chain [] s = Refl
 written-chain (i ∷ is) s = Trans ZeroPar (Action (written-chain is s))
@@ -205,7 +205,7 @@ renamed-own (path m k) = ap₂ path (renamed-own m) (renamed-own k)
 abbrev pub Below : ℕ → Process → Type 0
 Below n p = (v : ℕ) → n ≤ v → occurs v p ≡ 0
 
-unfoldable pub size : Process → ℕ
+unfoldable size : Process → ℕ
 size 𝟎 = 0
 size (p ∣ q) = suc (size p + size q)
 size (ambient m p) = suc (size p)

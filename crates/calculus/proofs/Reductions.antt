@@ -1,22 +1,20 @@
 -- A move of the plain machine is a reduction of the process (000, proposition 3.4, one way), where no number stands twice and
 -- no variable is bound twice. Assumes nothing.
 use Prim.Native.Nat.{ℕ, _+_, _≤_}
-use mathlib.Core.Bool.{true, false}
-use mathlib.Core.List.{List, [], _∷_}
-use mathlib.Core.Path.{_≡_, refl, sym, ap, _∙_, subst}
+use mathlib.Core.List.{List, _∷_}
+use mathlib.Core.Path.{_≡_, sym, ap, _∙_}
 use mathlib.Core.Option.{some}
 use native.Mathlib.Omega.{arith}
 use lib.Dec.{eqb}
 use Rattle.messages.specs.Message.{Message, name, enter, exit, opens}
 use Rattle.messages.specs.declared.Named.the-variants.{Called}
-use Rattle.scripts.specs.Tree.{Head, Body, close, part, one, sum, count, put, merge, PlainHead, Plain, settle}
+use Rattle.scripts.specs.Tree.{Head, one, sum, count, put, PlainHead, Plain}
 use Rattle.closures.specs.Bodies.{find, drop, alter}
-use Rattle.closures.specs.Moves.{Moved, headName, firstOf, spentHead, spend, moveHere}
+use Rattle.closures.specs.Moves.{Moved, headName, spentHead, spend, moveHere}
 use Rattle.closures.specs.PlainMachine.{rest, substituteHead, substituteBody, plain, move}
-use Rattle.closures.specs.declared.First.the-variants.{Enter, Exit, Open}
 use Rattle.closures.proofs.Inversion.{Opened, Received, Entered, Exited, Here, by-open, by-receive, by-enter, by-exit, here-inv, Makes, now, inner, outer, plain-name, plain-enter, plain-exit, plain-open, move-inv}
 use Rattle.closures.proofs.Sums.{find-drop, apart, find-sum, drop-sum, alter-sum, map-sum, entered-target, received-target, spend-sum, made-sum, by-numbers}
-use Rattle.calculus.specs.Calculus.{Process, 𝟎, _∣_, ambient, action, input, output, _≅_, Refl, Symm, Trans, Par, Amb, ParComm, ParAssoc, prefix, piece, process, _⟶_, RedIn, RedOut, RedOpen, RedIO, RedPar, RedAmb, RedCong}
+use Rattle.calculus.specs.Calculus.{Process, _∣_, ambient, action, input, output, _≅_, Refl, Symm, Trans, Par, Amb, ParComm, ParAssoc, prefix, piece, process, _⟶_, RedIn, RedOut, RedOpen, RedIO, RedPar, RedAmb, RedCong}
 use Rattle.calculus.proofs.Congruences.{par-both, par-swap}
 use Rattle.calculus.proofs.Processes.{Distinct, Once, own-count, put-process, merge-process, alter-process, alter-merge, find-process, settle-process, binds, bindings, own-binds, substitute-process}
 
@@ -32,11 +30,11 @@ spends-count j a b = spend-sum plain (λ k h. one (eqb j k)) 0 (by-numbers (λ k
 
 module _ (t : ℕ) (b : Plain) {n : ℕ} {goal : PlainHead} {room : Plain} (d : count t b ≤ 1) (e : find t b ≡ some (goal, room)) (w : headName plain goal ≡ Called n) where
   -- a named ambient found, beside the others; and with its inside altered
-  pub find-named : process b ≅ ambient (name n) (process room) ∣ process (drop t b)
+  find-named : process b ≅ ambient (name n) (process room) ∣ process (drop t b)
   unfolding piece
   find-named = rw (plain-name goal n w) at (find-process t b (goal, room) d e)
 
-  pub alter-named : (G : Plain → Plain) → process (alter t (λ h. h) G b) ≅ ambient (name n) (process (G room)) ∣ process (drop t b)
+  alter-named : (G : Plain → Plain) → process (alter t (λ h. h) G b) ≅ ambient (name n) (process (G room)) ∣ process (drop t b)
   unfolding piece
   alter-named G = rw (plain-name goal n w) at (alter-process t (λ h. h) G b (goal, room) d e)
 

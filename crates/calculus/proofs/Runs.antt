@@ -1,6 +1,6 @@
 -- A step told without numbers is a move of the plain machine, where no two parts have one number. Assumes nothing.
 use Prim.Native.Nat.{ℕ, _+_, _≤_}
-use mathlib.Core.Bool.{Bool, true, false, not, _&&_, cond}
+use mathlib.Core.Bool.{Bool, true, false, cond}
 use mathlib.Core.List.{List, [], _∷_}
 use mathlib.Core.Path.{_≡_, refl, sym, ap, ap₂, _∙_, subst}
 use mathlib.Core.Option.{Option, none, some}
@@ -9,16 +9,16 @@ use lib.Dec.{eqb}
 use Rattle.sets.specs.Sets.{elem}
 use Rattle.messages.specs.Message.{Message, name, enter, exit, opens, nameOf}
 use Rattle.messages.specs.declared.Named.the-variants.{Called}
-use Rattle.scripts.specs.Tree.{Head, close, part, one, sum, tops, count, put, merge, PlainHead, Plain, settle}
+use Rattle.scripts.specs.Tree.{Head, close, part, one, sum, tops, count, put, merge, PlainHead, Plain}
 use Rattle.closures.specs.Bodies.{_>>=_, orElse, check, find, drop, alter, holder}
 use Rattle.closures.specs.Moves.{isNamed, sameName, toEnter, toExit, toOpen, Moved, variableOf, messageOf, quiet, onward, headName, firstOf, spend, enterMove, exitMove, openMove, receiveMove, moveHere, anywhere}
 use Rattle.closures.specs.Moves as moves
 use Rattle.closures.specs.PlainMachine.{asks, firstItem, substituteBody, plain, settled, settledBy, move}
 use Rattle.closures.proofs.Options.{byTest, none≢some, bind-some, bind-none}
 use Rattle.closures.proofs.Inversion.{Opened, Received, Entered, Exited, inside-part, inside-close}
-use Rattle.closures.proofs.Sums.{find-none, drop-none, made-sum, by-numbers, anywhere-sum}
+use Rattle.closures.proofs.Sums.{find-none, drop-none, by-numbers, anywhere-sum}
 use Rattle.calculus.specs.Order.{Part, front, behind}
-use Rattle.calculus.specs.Calculus.{Process, _∣_, ambient, _≅_, Refl, Symm, Trans, Par, Amb, prefix, piece, process}
+use Rattle.calculus.specs.Calculus.{Process, _∣_, ambient, _≅_, Refl, Trans, Par, Amb, prefix, piece, process}
 use Rattle.calculus.proofs.Variables.{eqb-same}
 use Rattle.calculus.proofs.Congruences.{par-both, par-swap}
 use Rattle.calculus.proofs.Picks.{part-sum, part-swap}
