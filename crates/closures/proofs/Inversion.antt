@@ -1,10 +1,10 @@
 -- What a move that is made says: which parts were found where, which names they had, and the tree that stands after it.
 -- Over any view; then what names and first items are in the plain machine. Assumes nothing.
 use Prim.Native.Nat.{ℕ}
-use mathlib.Core.Bool.{Bool, true, false, not, _&&_, cond, false≢true}
+use mathlib.Core.Bool.{true, false, not, _&&_, false≢true}
 use mathlib.Core.List.{List, [], _∷_}
-use mathlib.Core.Path.{_≡_, refl, sym, ap, ap₂, _∙_, subst, subst₂}
-use mathlib.Core.Logic.{_⊎_, inl, inr}
+use mathlib.Core.Path.{_≡_, refl, sym, ap, _∙_, subst, subst₂}
+use mathlib.Core.Logic.{inl, inr}
 use mathlib.Core.Option.{Option, none, some}
 use native.Mathlib.Omega.{arith}
 use lib.Dec.{eqb}
@@ -13,9 +13,9 @@ use Rattle.messages.specs.Message.{Message, name, variable, enter, exit, opens,
 use Rattle.messages.specs.declared.Named.{Named}
 use Rattle.messages.specs.declared.Named.the-variants.{Called, Nameless}
 use Rattle.scripts.specs.Tree.{Head, ambient, action, receipt, output, Body, close, part, put, merge, Plain, settle}
-use Rattle.closures.specs.Bodies.{_>>=_, orElse, check, find, drop, alter, holder}
-use Rattle.closures.specs.Moves.{View, isNamed, isThat, sameName, toEnter, toExit, toOpen, Moved, variableOf, messageOf, quiet, onward, headName, firstOf, spentHead, spend, enterMove, exitMove, openMove, receiveMove, moveHere, inside, anywhere}
-use Rattle.closures.specs.PlainMachine.{asks, firstItem, plain, settled, settledBy, move}
+use Rattle.closures.specs.Bodies.{check, find, drop, alter, holder}
+use Rattle.closures.specs.Moves.{View, isNamed, isThat, sameName, toEnter, toExit, toOpen, Moved, variableOf, messageOf, quiet, headName, firstOf, spend, enterMove, exitMove, openMove, receiveMove, moveHere, inside, anywhere}
+use Rattle.closures.specs.PlainMachine.{asks, firstItem, plain, settledBy, move}
 use Rattle.closures.specs.declared.First.{First}
 use Rattle.closures.specs.declared.First.the-variants.{Nothing, Enter, Exit, Open, Other}
 use Rattle.closures.proofs.Options.{and-inv, some-is, none≢some, bind-inv, check-inv, cond-inv, orElse-inv, onward-inv}
@@ -281,18 +281,10 @@ module _ {A : Type 0} (view : View A) where
     outer : {k : ℕ} {h : Head A} {b c r : Body (Head A)} {news : List (ℕ × Message)} → Makes g r c news → Makes g (part k h b r) (part k h b c) news
 
   module _ (g : Body (Head A) → Option (Moved A)) where
-    pub inside-part : (i : ℕ) (h : Head A) (b r : Body (Head A)) → inside view g (part i h b r) ≡
-        orElse (onward (λ c. part i h c r) (cond (isNamed (headName view h)) (anywhere view g b) none)) (onward (λ q. part i h b q) (inside view g r))
-    unfolding inside
-    inside-part i h b r = refl
-
-    pub inside-close : inside view g close ≡ none
-    unfolding inside
-    inside-close = refl
-
     pub inside-inv : (b : Body (Head A)) (m : Moved A) → inside view g b ≡ some m → Makes g b (m .body) (m .news)
-    inside-inv close m e = none≢some (sym inside-close ∙ e)
-    inside-inv (part i h b r) m e = elim (orElse-inv _ _ m (sym (inside-part i h b r) ∙ e)) [
+    unfolding inside
+    inside-inv close m e = none≢some e
+    inside-inv (part i h b r) m e = elim (orElse-inv _ _ m e) [
       | inl x ↦
           let y = onward-inv _ _ m x in
           let z = cond-inv (isNamed (headName view h)) _ (y .0) (y .1) in

@@ -2,4 +2,5 @@
 pub mod Options
 pub mod Inversion
 pub mod Sums
+pub mod Everywhere
 pub mod Naturality

@@ -2,18 +2,17 @@
 -- ones, names being changed by a map that keeps different names different, the same moves can be made, and lead to the
 -- changed trees. Renaming names and unfolding closures are two such changes. Assumes nothing.
 use Prim.Native.Nat.{ℕ}
-use mathlib.Core.Bool.{Bool, true, false, not, _&&_, cond}
+use mathlib.Core.Bool.{Bool, not, _&&_}
 use mathlib.Core.List.{List, [], _∷_, map}
-use mathlib.Core.Path.{_≡_, refl, sym, ap, ap₂, _∙_, subst}
-use mathlib.Core.Option.{Option, none, some, Option·map}
+use mathlib.Core.Path.{_≡_, refl, ap, ap₂, _∙_}
+use mathlib.Core.Option.{Option, some, Option·map}
 use lib.Dec.{eqb, ltb}
-use Rattle.sets.specs.Sets.{elem}
 use Rattle.messages.specs.Message.{Message}
 use Rattle.messages.specs.declared.Named.{Named}
 use Rattle.messages.specs.declared.Named.the-variants.{Called, Nameless}
 use Rattle.scripts.specs.Tree.{Head, ambient, action, receipt, output, isAmbient, Body, close, part, tops, put, merge, mapHeads, settleBy}
-use Rattle.closures.specs.Bodies.{_>>=_, orElse, check, find, drop, alter, holder}
-use Rattle.closures.specs.Moves.{View, isNamed, isThat, sameName, toEnter, toExit, toOpen, Moved, variableOf, messageOf, quiet, onward, headName, firstOf, spentHead, spend, enterMove, exitMove, openMove, receiveMove, moveHere, inside, anywhere}
+use Rattle.closures.specs.Bodies.{orElse, check, find, drop, alter, holder}
+use Rattle.closures.specs.Moves.{View, isNamed, sameName, toEnter, toExit, toOpen, Moved, variableOf, messageOf, quiet, onward, headName, firstOf, spentHead, spend, enterMove, exitMove, openMove, receiveMove, moveHere, inside, anywhere}
 use Rattle.closures.specs.declared.First.{First}
 use Rattle.closures.specs.declared.First.the-variants.{Nothing, Enter, Exit, Open, Other}
 use Rattle.closures.proofs.Options.{byTest, bind-map, bind-same, orElse-map, cond-inv, cond-map, onward-map}
@@ -63,6 +62,18 @@ module _ {G H : Type 0} (F : G → H) where
   unfolding holder mapHeads
   holder-map n close = refl
   holder-map n (part i h b r) = rw (tops-map b, holder-map n r)
+
+-- heads changed twice, and in two ways that come to the same
+pub mapHeads-twice : {G H I J : Type 0} (F : H → J) (K : G → H) (L : I → J) (N : G → I) → ((h : G) → F (K h) ≡ L (N h)) →
+    (b : Body G) → mapHeads F (mapHeads K b) ≡ mapHeads L (mapHeads N b)
+unfolding mapHeads
+mapHeads-twice F K L N e close = refl
+mapHeads-twice F K L N e (part i h b r) = rw (e h, mapHeads-twice F K L N e b, mapHeads-twice F K L N e r)
+
+pub mapHeads-same : {H : Type 0} (F : H → H) → ((h : H) → F h ≡ h) → (b : Body H) → mapHeads F b ≡ b
+unfolding mapHeads
+mapHeads-same F e close = refl
+mapHeads-same F e (part i h b r) = rw (e h, mapHeads-same F e b, mapHeads-same F e r)
 
 -- settling, where the same heads count as actions with no items
 pub settle-map : {A B : Type 0} (F : Head A → Head B) (p : Head B → Bool) (q : Head A → Bool) →

@@ -1,22 +1,22 @@
 -- Sums over the parts of a tree: no operation and no move makes one greater, if spending an item and delivering a message
 -- don't; and what it comes to exactly where no number stands twice. So the weight does not rise, and numbers stay distinct.
 -- Assumes nothing.
-use Prim.Native.Nat.{ℕ, zero, suc, _+_, _*_, _≤_}
-use mathlib.Core.Bool.{Bool, true, false, cond}
-use mathlib.Core.List.{List, [], _∷_}
-use mathlib.Core.Path.{_≡_, refl, sym, ap, ap₂, _∙_, subst}
+use Prim.Native.Nat.{ℕ, _+_, _*_, _≤_}
+use mathlib.Core.Bool.{Bool, false, cond}
+use mathlib.Core.List.{List}
+use mathlib.Core.Path.{_≡_, refl, sym, ap, _∙_}
 use mathlib.Core.Option.{Option, none, some}
 use native.Mathlib.Omega.{arith}
 use lib.Dec.{eqb, ltb}
 use lib.ListN.{length}
 use borrow.Author.Tests.{eqb-true, eqb-false, eq-eqb, ne-eqb}
 use Rattle.messages.specs.Message.{Message}
-use Rattle.scripts.specs.Tree.{Head, ambient, action, receipt, output, Body, close, part, one, isAmbient, sum, parts, count, put, merge, mapHeads, settleBy, bare, Plain, settle}
+use Rattle.scripts.specs.Tree.{Head, receipt, output, Body, close, part, one, isAmbient, sum, parts, count, put, merge, mapHeads, settleBy, bare, Plain, settle}
 use Rattle.closures.specs.Bodies.{find, drop, alter}
 use Rattle.closures.specs.Moves.{View, Moved, spentHead, spend, moveHere, anywhere}
-use Rattle.closures.specs.PlainMachine.{substituteHead, substituteBody, plain, move}
+use Rattle.closures.specs.PlainMachine.{substituteHead, substituteBody, plain, move, weightOf}
 use Rattle.closures.proofs.Options.{byTest, some-is, none≢some}
-use Rattle.closures.proofs.Inversion.{Opened, Received, Entered, Exited, Here, by-open, by-receive, by-enter, by-exit, here-inv, Makes, now, inner, outer, anywhere-inv, move-inv}
+use Rattle.closures.proofs.Inversion.{Received, Entered, Here, by-open, by-receive, by-enter, by-exit, here-inv, Makes, now, inner, outer, anywhere-inv, move-inv}
 
 -- one where the numbers are the same
 one-same : (i : ℕ) → one (eqb i i) ≡ 1
@@ -216,18 +216,23 @@ move-sum f w s a t b m e =
     rw q (omega (arith, settle-sum f bare c, made-sum plain f w s a t x))
 
 -- what depends on the numbers alone
-pub by-numbers : (u : ℕ → ℕ) (w : ℕ) → ((k l : ℕ) → w ≤ u k + u l) → Shrinks plain (λ k h. u k) w
+pub by-numbers : {A : Type 0} (view : View A) (u : ℕ → ℕ) (w : ℕ) → ((v : ℕ) (m : Message) (b : Body (Head A)) → sum (λ k h. u k) (view .delivered v m b) ≤ sum (λ k h. u k) b) →
+    ((k l : ℕ) → w ≤ u k + u l) → Shrinks view (λ k h. u k) w
+by-numbers view u w delivers least = record { spends = λ k h. omega arith; delivers = delivers; takes = λ k l v m. least k l }
+
+plain-numbers : (u : ℕ → ℕ) (w : ℕ) → ((k l : ℕ) → w ≤ u k + u l) → Shrinks plain (λ k h. u k) w
 unfolding substituteBody
-by-numbers u w least = record {
-  spends = λ k h. omega arith;
-  delivers = λ v m b. omega (arith, map-sum (λ k h. u k) (substituteHead v m) b);
-  takes = λ k l v m. least k l;
-}
+plain-numbers u w = by-numbers plain u w (λ v m b. omega (arith, map-sum (λ k h. u k) (substituteHead v m) b))
 
 -- THEOREM: a move does not raise the weight, and a receipt takes two parts away.
 pub weight : (a t : ℕ) (b : Plain) (m : Moved (List Message)) → move a t b ≡ some m → parts (m .body) + 2 * length (m .news) ≤ parts b
-weight a t b m e = move-sum (λ k h. 1) 2 (by-numbers (λ k. 1) 2 (λ k l. omega arith)) a t b m e
+weight a t b m e = move-sum (λ k h. 1) 2 (plain-numbers (λ k. 1) 2 (λ k l. omega arith)) a t b m e
+
+pub weight-falls : (a t receipts : ℕ) (b : Plain) (m : Moved (List Message)) → move a t b ≡ some m →
+    weightOf (record { tree = m .body; receipts = receipts + length (m .news) }) ≤ weightOf (record { tree = b; receipts = receipts })
+unfolding weightOf
+weight-falls a t receipts b m e = omega (arith, weight a t b m e)
 
 -- A number does not stand more often after a move: distinct numbers stay distinct.
 pub move-count : (j a t : ℕ) (b : Plain) (m : Moved (List Message)) → move a t b ≡ some m → count j (m .body) ≤ count j b
-move-count j a t b m e = omega (arith, move-sum (λ k h. one (eqb j k)) 0 (by-numbers (λ k. one (eqb j k)) 0 (λ k l. omega arith)) a t b m e)
+move-count j a t b m e = omega (arith, move-sum (λ k h. one (eqb j k)) 0 (plain-numbers (λ k. one (eqb j k)) 0 (λ k l. omega arith)) a t b m e)
