@@ -14,7 +14,7 @@ use Rattle.closures.specs.Moves.{Moved, spentHead}
 use Rattle.closures.specs.PlainMachine.{rest, substituteHead, substituteBody, plain, move}
 use Rattle.closures.proofs.Options.{byTest}
 use Rattle.closures.proofs.Inversion.{move-inv}
-use Rattle.closures.proofs.Sums.{map-sum, Shrinks, made-sum, move-sum, by-numbers}
+use Rattle.closures.proofs.Sums.{map-sum, Shrinks, made-sum, move-sum}
 use Rattle.calculus.specs.Satisfaction.{Divided, wrapped}
 use Rattle.calculus.specs.Order.{Part}
 use Rattle.calculus.specs.Calculus.{ambient, piece, process, mentions}
@@ -22,7 +22,7 @@ use Rattle.calculus.proofs.Variables.{free}
 use Rattle.calculus.proofs.Substitutions.{Closed, closed-cong, closed-both, closed-ambient, reduction-closed}
 use Rattle.calculus.proofs.Divisions.{Item, Settled, closed, settled-ambient, SettledPart, ambient-part, action-part, receipt-part, output-part, settled-part, settled-rest, settled-join, settled-inside, divided-settled, divided-congruent}
 use Rattle.calculus.proofs.Picks.{part-sum, divided-sum, part-process, part-settled}
-use Rattle.calculus.proofs.Processes.{Distinct, Once, binds}
+use Rattle.calculus.proofs.Processes.{Distinct, Once, binds, count-shrinks}
 use Rattle.calculus.proofs.Reductions.{move-reduces}
 
 -- one where the message is no item
@@ -156,9 +156,6 @@ untidy-substitute u m (Head.output n) = omega arith
 
 untidy-shrinks : Shrinks plain (λ k h. untidy h) 0
 untidy-shrinks = by-heads untidy untidy-spent untidy-substitute
-
-count-shrinks : (j : ℕ) → Shrinks plain (λ k h. one (eqb j k)) 0
-count-shrinks j = by-numbers (λ k. one (eqb j k)) 0 (λ k l. omega arith)
 
 -- A tree that is settled, its actions held as items, its parts numbered apart and below n, its receipts' variables apart,
 -- and no variable free.

@@ -12,9 +12,9 @@ use Rattle.messages.specs.Message.{Message, items, substituteItems}
 use Rattle.messages.specs.Message as message
 use Rattle.scripts.specs.Tree.{Head, close, part, one, isAmbient, sum, count, put, merge, mapHeads, settleBy, bare, PlainHead, Plain, settle}
 use Rattle.closures.specs.Bodies.{find, drop, alter}
-use Rattle.closures.specs.PlainMachine.{substituteHead, substituteBody}
+use Rattle.closures.specs.PlainMachine.{substituteHead, substituteBody, plain}
 use Rattle.closures.proofs.Options.{byTest, some-is, none≢some}
-use Rattle.closures.proofs.Sums.{drop-none, merge-sum, settle-sum}
+use Rattle.closures.proofs.Sums.{drop-none, merge-sum, map-sum, settle-sum, Shrinks, by-numbers}
 use Rattle.calculus.specs.Calculus.{Process, _∣_, ambient, action, output, _≅_, Refl, Symm, Trans, Amb, Input, ParComm, ParAssoc, ZeroPar, prefix, piece, process, substitute}
 use Rattle.calculus.proofs.Variables.{eqb-same, eqb-flip}
 use Rattle.calculus.proofs.Congruences.{par-both, par-swap, action-items, prefix-cong, prefix-append}
@@ -29,6 +29,11 @@ own-count k = rw (eqb-same k)
 -- a number that does not stand in the tree is not the first part's
 pub count-other : (n k : ℕ) → one (eqb n k) ≡ 0 → eqb n k ≡ false
 count-other n k z = byTest (eqb n k) (λ t. absurd (omega (arith, rw t at z))) (λ t. t)
+
+-- moves don't make a number stand more often
+pub count-shrinks : (j : ℕ) → Shrinks plain (λ k h. one (eqb j k)) 0
+unfolding substituteBody
+count-shrinks j = by-numbers plain (λ k. one (eqb j k)) 0 (λ v m b. omega (arith, map-sum (λ k h. one (eqb j k)) (substituteHead v m) b)) (λ k l. omega arith)
 
 pub piece-cong : (h : PlainHead) {p q : Process} → p ≅ q → piece h p ≅ piece h q
 unfolding piece

@@ -13,10 +13,10 @@ use Rattle.closures.specs.Bodies.{find, drop, alter}
 use Rattle.closures.specs.Moves.{Moved, headName, spentHead, spend, moveHere}
 use Rattle.closures.specs.PlainMachine.{rest, substituteHead, substituteBody, plain, move}
 use Rattle.closures.proofs.Inversion.{Opened, Received, Entered, Exited, Here, by-open, by-receive, by-enter, by-exit, here-inv, Makes, now, inner, outer, plain-name, plain-enter, plain-exit, plain-open, move-inv}
-use Rattle.closures.proofs.Sums.{find-drop, apart, find-sum, drop-sum, alter-sum, map-sum, entered-target, received-target, spend-sum, made-sum, by-numbers}
+use Rattle.closures.proofs.Sums.{find-drop, apart, find-sum, drop-sum, alter-sum, map-sum, entered-target, received-target, spend-sum, made-sum}
 use Rattle.calculus.specs.Calculus.{Process, _∣_, ambient, action, input, output, _≅_, Refl, Symm, Trans, Par, Amb, ParComm, ParAssoc, prefix, piece, process, _⟶_, RedIn, RedOut, RedOpen, RedIO, RedPar, RedAmb, RedCong}
 use Rattle.calculus.proofs.Congruences.{par-both, par-swap}
-use Rattle.calculus.proofs.Processes.{Distinct, Once, own-count, put-process, merge-process, alter-process, alter-merge, find-process, settle-process, binds, bindings, own-binds, substitute-process}
+use Rattle.calculus.proofs.Processes.{Distinct, Once, own-count, count-shrinks, put-process, merge-process, alter-process, alter-merge, find-process, settle-process, binds, bindings, own-binds, substitute-process}
 
 -- what a count of numbers sees of a part that is found
 counted : (j a : ℕ) (b : Plain) (p : PlainHead × Plain) → find a b ≡ some p → one (eqb j a) + (count j (p .1) + count j (drop a b)) ≤ count j b
@@ -26,7 +26,7 @@ dropped : (j a : ℕ) (b : Plain) → count j (drop a b) ≤ count j b
 dropped j a b = drop-sum (λ k h. one (eqb j k)) a b
 
 spends-count : (j a : ℕ) (b : Plain) → count j (spend plain a b) ≤ count j b
-spends-count j a b = spend-sum plain (λ k h. one (eqb j k)) 0 (by-numbers (λ k. one (eqb j k)) 0 (λ k l. omega arith)) a b
+spends-count j a b = spend-sum plain (λ k h. one (eqb j k)) 0 (count-shrinks j) a b
 
 module _ (t : ℕ) (b : Plain) {n : ℕ} {goal : PlainHead} {room : Plain} (d : count t b ≤ 1) (e : find t b ≡ some (goal, room)) (w : headName plain goal ≡ Called n) where
   -- a named ambient found, beside the others; and with its inside altered
@@ -164,5 +164,5 @@ makes-reduces a t d u (outer x) = RedCong ParComm (RedPar (makes-reduces a t (λ
 pub move-reduces : (a t : ℕ) (b : Plain) (m : Moved (List Message)) → Distinct b → Once b → move a t b ≡ some m → process b ⟶ process (m .body)
 move-reduces a t b m d u e =
     let x = move-inv a t b m e in
-    let less : Distinct (x .0) = λ j. omega (arith, d j, made-sum plain (λ k h. one (eqb j k)) 0 (by-numbers (λ k. one (eqb j k)) 0 (λ k l. omega arith)) a t (x .1)) in
+    let less : Distinct (x .0) = λ j. omega (arith, d j, made-sum plain (λ k h. one (eqb j k)) 0 (count-shrinks j) a t (x .1)) in
     rw (x .2) (RedCong Refl (makes-reduces a t d u (x .1)) (Symm (settle-process (x .0) less)))
