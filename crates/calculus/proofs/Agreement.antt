@@ -58,7 +58,7 @@ Places q (somewhere i r) = Places q r
 Places q (placed i j t r) = (q ≤ j) × Places (suc j) r
 
 module _ (n : ℕ) where
-  -- moves and reductions
+  -- moves and reductions (000, proposition 3.4)
   reaches-reduction : {b c : Plain} → Reaches b c → Good n b → (process b ⟶* process c) × Good n c
   reaches-reduction stay g = (Calculus.stop, g)
   reaches-reduction (go {b = b} a t m e x) g =
@@ -77,7 +77,7 @@ module _ (n : ℕ) where
       let z = reduction-reaches y (w .2 .body) (good-move n b (w .0) (w .1) (w .2) g (w .3)) (Trans (w .4) (u .2)) in
       (z .0, go (w .0) (w .1) (w .2) (w .3) (z .1), z .2)
 
-  -- insides and sublocations
+  -- insides and sublocations (000, proposition 3.3)
   part-inside : {b i c : Plain} {k m : ℕ} → Part b k (Head.ambient (name m)) i c → Inside b i
   unfolding headName nameOf
   part-inside front = first refl

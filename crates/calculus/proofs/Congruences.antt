@@ -23,7 +23,7 @@ renamed σ (opens m) = opens (renamed σ m)
 renamed σ empty = empty
 renamed σ (path m k) = path (renamed σ m) (renamed σ k)
 
--- x is named n
+-- the naming σ, but x is named n
 unfoldable pub bound : (ℕ → ℕ) → ℕ → ℕ → ℕ → ℕ
 bound σ x n z = cond (eqb z x) n (σ z)
 
@@ -44,7 +44,7 @@ bound-other : (σ : ℕ → ℕ) (x n z : ℕ) → eqb z x ≡ false → bound �
 unfolding bound
 bound-other σ x n z t = rw t
 
--- two namings that agree but for an absent variable
+-- namings that agree but for a variable y, where y does not occur
 bound-alike : (σ τ : ℕ → ℕ) (x n y : ℕ) → ((z : ℕ) → eqb z x ≡ false → eqb z y ≡ false → σ z ≡ τ z) → (z : ℕ) → eqb z y ≡ false → bound σ x n z ≡ bound τ x n z
 bound-alike σ τ x n y h z e = byTest (eqb z x) (λ t. bound-same σ x n z t ∙ sym (bound-same τ x n z t)) (λ t. bound-other σ x n z t ∙ h z t e ∙ sym (bound-other τ x n z t))
 
@@ -67,6 +67,7 @@ shape-alike n σ τ y (action m p) a h = ap₂ (λ (k : Message) (s : Shape). ch
 shape-alike n σ τ y (input x p) a h = let w = occurs-input x y p a in ap (λ (s : Shape). cell (hear n) s nil) (shape-alike (suc n) (bound σ x n) (bound τ x n) y p (w .1) (bound-alike σ τ x n y (λ z _ e. h z e)))
 shape-alike n σ τ y (output m) a h = ap (λ (k : Message). cell (say k) nil nil) (message-alike σ τ y m a h)
 
+-- τ names y as σ names x, and they agree on the others
 abbrev pub Fresh : (ℕ → ℕ) → (ℕ → ℕ) → ℕ → ℕ → Type 0
 Fresh σ τ x y = (σ x ≡ τ y) × ((z : ℕ) → eqb z x ≡ false → eqb z y ≡ false → σ z ≡ τ z)
 
@@ -102,6 +103,7 @@ rename-shape n σ τ x y (output m) a h = ap (λ (k : Message). cell (say k) nil
 bound-fresh : (σ : ℕ → ℕ) (x y n : ℕ) → Fresh (bound σ x n) (bound σ y n) x y
 bound-fresh σ x y n = (bound-same σ x n x (eqb-same x) ∙ sym (bound-same σ y n y (eqb-same y)), λ z a b. bound-other σ x n z a ∙ sym (bound-other σ y n z b))
 
+-- THEOREM: the shapes of congruent processes are the same.
 pub sound : {p q : Process} → p ≅ q → (n : ℕ) (σ : ℕ → ℕ) → Same (shape n σ p) (shape n σ q)
 unfolding shape items chain renamed
 sound (Refl {p = p}) n σ = same-refl (shape n σ p)
@@ -244,7 +246,7 @@ shape-written (suc f) n (input x p) l b =
     rw e (Trans (Alpha {x = x} {y = n} (c n (omega arith))) (Trans (Input (shape-written f (suc n) (substitute x (variable n) p) (omega (arith, size-substitute x (variable n) p)) (below-renamed n x p c))) (Symm ZeroPar)))
 shape-written (suc f) n (output m) l b = rw (renamed-own m) (Symm ZeroPar)
 
--- two processes are congruent where their shapes are the same
+-- THEOREM: processes are congruent where their shapes are the same, n being above all their variables.
 pub complete : (n : ℕ) {p q : Process} → Below n p → Below n q → Same (shape n own p) (shape n own q) → p ≅ q
 complete n {p} {q} a b h = Trans (shape-written (suc (size p)) n p (omega arith) a) (Trans (same-written h) (Symm (shape-written (suc (size q)) n q (omega arith) b)))
 

@@ -12,11 +12,11 @@ use Rattle.calculus.specs.Calculus.{occurs, Process, 𝟎, _∣_, ambien
 use Rattle.calculus.proofs.Shapes.{Tag, place, can, hear, say, Shape, nil, cell, _⊕_, chain, Same, done, match, same-sym, pick-sum}
 use Rattle.calculus.proofs.Congruences.{renamed-own, bound, own, shape, sound, complete, Below, top, top-below, par-both, par-swap}
 
--- an item
+-- a message that is one item
 abbrev pub Item : Message → Type 0
 Item i = items i ≡ i ∷ []
 
--- no action without items at the top or in ambients, and a first item there is an item
+-- settled: under no action and no receipt is there an action without items, and the first that one holds is an item
 pub data Settled : Plain → Type 0 where
   closed : Settled close
   settled-ambient : {k : ℕ} {m : Message} {b r : Plain} → Settled b → Settled r → Settled (part k (Head.ambient m) b r)
@@ -51,6 +51,7 @@ settled-join output-part y = settled-output y
 pub settled-inside : {m : Message} {b : Plain} → SettledPart (Head.ambient m) b → Settled b
 settled-inside (ambient-part x) = x
 
+-- the cell that a settled part is: its tag and the shape inside it
 unfoldable pub tag : ℕ → PlainHead → Tag
 tag n (Head.ambient m) = place m
 tag n (Head.action []) = can empty

@@ -86,14 +86,13 @@ module _ {a t : ℕ} {b c : Plain} (d : Distinct b) where
         (Trans (par-both Refl (find-process t (drop a b) _ (omega (arith, d t, dropped t a b)) (received-target plain x))) pull)
 
     pub received-after : process c ≅ process (substituteBody (x .bound) (x .sent) (x .after)) ∣ process (drop t (drop a b))
-    unfolding substituteBody
     received-after =
         rw (x .result) (merge-process (substituteBody (x .bound) (x .sent) (x .after)) (drop t (drop a b)) (λ j. omega (
           arith,
           d j,
           counted j a b _ (x .actor),
           dropped j t (drop a b),
-          map-sum (λ k h. one (eqb j k)) (substituteHead (x .bound) (x .sent)) (x .after),
+          count-shrinks j .delivers (x .bound) (x .sent) (x .after),
         )))
 
   module _ (x : Entered plain a t b c) (is : List Message) (f : x .doer ≡ Head.action (enter (name (x .place)) ∷ is)) where

@@ -6,30 +6,35 @@ use mathlib.Core.Path.{_≡_, refl, sym, ap, subst}
 use mathlib.Core.Logic.{_⊎_, inl, inr}
 use Rattle.messages.specs.Message.{Message}
 
+-- what a process is that is no product: an ambient, one item and what it guards, an input, an output
 pub data Tag : Type 0 where
   place : Message → Tag  -- M[..]
   can : Message → Tag  -- one item
   hear : ℕ → Tag  -- (x)
   say : Message → Tag  -- ⟨M⟩
 
+-- cells one behind another; a cell is its tag, the shape inside it, and the other cells
 pub data Shape : Type 0 where
   nil : Shape
   cell : Tag → Shape → Shape → Shape
 
+-- the cells of both
 infixr 40 _⊕_
 unfoldable pub _⊕_ : Shape → Shape → Shape
 nil ⊕ t = t
 cell g i r ⊕ t = cell g i (r ⊕ t)
 
+-- items, one inside another
 unfoldable pub chain : List Message → Shape → Shape
 chain [] s = s
 chain (i ∷ is) s = cell (can i) (chain is s) nil
 
--- the cell g i is one of the first, and the rest is the last
+-- the first shape has the cell g i, and the last is what it has besides
 pub data Pick : Shape → Tag → Shape → Shape → Type 0 where
   here : {g : Tag} {i r : Shape} → Pick (cell g i r) g i r
   there : {h g : Tag} {j i r q : Shape} → Pick r g i q → Pick (cell h j r) g i (cell h j q)
 
+-- the same cells in any order, at every depth
 pub data Same : Shape → Shape → Type 0 where
   done : Same nil nil
   match : {g : Tag} {i j r q d : Shape} → Pick d g j q → Same i j → Same r q → Same (cell g i r) d
