@@ -7,8 +7,8 @@ use mathlib.Core.Logic.{inl, inr, _↔_}
 use native.Mathlib.Omega.{arith}
 use Rattle.messages.specs.Message.{name, nameOf}
 use Rattle.scripts.specs.Tree.{Head, close, part, PlainHead, Plain}
-use Rattle.closures.specs.Moves.{headName}
-use Rattle.closures.proofs.Inversion.{plain-name}
+use Rattle.machine.specs.Moves.{headName}
+use Rattle.machine.proofs.Inversion.{plain-name}
 use Rattle.rules.specs.Rule.{Names, termName, Rule, always, negation, either, void, at, beside, some-name, sometime, somewhere, placed}
 use Rattle.calculus.specs.Satisfaction.{Inside, first, later, Within, here, deeper, Reaches, stay, go, Alone, wrapped, Sat}
 use Rattle.calculus.specs.Order.{Part, front, behind}

@@ -10,11 +10,11 @@ use borrow.Author.Tests.{eqb-true, ne-eqb}
 use Rattle.messages.specs.Message.{Message, name, variable, enter, exit, opens, empty, path, items, substituteItems}
 use Rattle.messages.specs.Message as message
 use Rattle.scripts.specs.Tree.{Head, close, part, one, isAmbient, sum, count, put, merge, settleBy, bare, PlainHead, Plain, settle}
-use Rattle.closures.specs.Moves.{Moved, spentHead}
-use Rattle.closures.specs.PlainMachine.{rest, substituteHead, substituteBody, plain, move}
-use Rattle.closures.proofs.Options.{byTest}
-use Rattle.closures.proofs.Inversion.{move-inv}
-use Rattle.closures.proofs.Sums.{map-sum, Shrinks, made-sum, move-sum}
+use Rattle.machine.specs.Moves.{Moved, spentHead}
+use Rattle.machine.specs.PlainMachine.{rest, substituteHead, substituteBody, plain, move}
+use Rattle.machine.proofs.Options.{byTest}
+use Rattle.machine.proofs.Inversion.{move-inv}
+use Rattle.machine.proofs.Sums.{map-sum, Shrinks, made-sum, move-sum}
 use Rattle.calculus.specs.Satisfaction.{Divided, wrapped}
 use Rattle.calculus.specs.Order.{Part}
 use Rattle.calculus.specs.Calculus.{ambient, piece, process, mentions}

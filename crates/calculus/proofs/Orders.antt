@@ -8,8 +8,8 @@ use mathlib.Core.Option.{some}
 use native.Mathlib.Omega.{arith}
 use Rattle.messages.specs.Message.{Message, variable}
 use Rattle.scripts.specs.Tree.{Head, part, sum, PlainHead, Plain}
-use Rattle.closures.specs.Moves.{Moved}
-use Rattle.closures.specs.PlainMachine.{move}
+use Rattle.machine.specs.Moves.{Moved}
+use Rattle.machine.specs.PlainMachine.{move}
 use Rattle.rules.specs.Rule.{Names, Rule}
 use Rattle.calculus.specs.Satisfaction.{Sat}
 use Rattle.calculus.specs.Order.{Part, Reordered, nothing, among, receipt}

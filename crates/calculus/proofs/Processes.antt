@@ -11,10 +11,10 @@ use borrow.Author.Tests.{eqb-true}
 use Rattle.messages.specs.Message.{Message, items, substituteItems}
 use Rattle.messages.specs.Message as message
 use Rattle.scripts.specs.Tree.{Head, close, part, one, isAmbient, sum, count, put, merge, mapHeads, settleBy, bare, PlainHead, Plain, settle}
-use Rattle.closures.specs.Bodies.{find, drop, alter}
-use Rattle.closures.specs.PlainMachine.{substituteHead, substituteBody, plain}
-use Rattle.closures.proofs.Options.{byTest, some-is, none≢some}
-use Rattle.closures.proofs.Sums.{drop-none, merge-sum, map-sum, settle-sum, Shrinks, by-numbers}
+use Rattle.machine.specs.Bodies.{find, drop, alter}
+use Rattle.machine.specs.PlainMachine.{substituteHead, substituteBody, plain}
+use Rattle.machine.proofs.Options.{byTest, some-is, none≢some}
+use Rattle.machine.proofs.Sums.{drop-none, merge-sum, settle-sum, Shrinks, plain-numbers}
 use Rattle.calculus.specs.Calculus.{Process, _∣_, ambient, action, output, _≅_, Refl, Symm, Trans, Amb, Input, ParComm, ParAssoc, ZeroPar, prefix, piece, process, substitute}
 use Rattle.calculus.proofs.Variables.{eqb-same, eqb-flip}
 use Rattle.calculus.proofs.Congruences.{par-both, par-swap, action-items, prefix-cong, prefix-append}
@@ -32,8 +32,7 @@ count-other n k z = byTest (eqb n k) (λ t. absurd (omega (arith, rw t at z))) (
 
 -- moves don't make a number stand more often
 pub count-shrinks : (j : ℕ) → Shrinks plain (λ k h. one (eqb j k)) 0
-unfolding substituteBody
-count-shrinks j = by-numbers plain (λ k. one (eqb j k)) 0 (λ v m b. omega (arith, map-sum (λ k h. one (eqb j k)) (substituteHead v m) b)) (λ k l. omega arith)
+count-shrinks j = plain-numbers (λ k. one (eqb j k)) 0 (λ k l. omega arith)
 
 pub piece-cong : (h : PlainHead) {p q : Process} → p ≅ q → piece h p ≅ piece h q
 unfolding piece

@@ -7,16 +7,16 @@ use mathlib.Core.Option.{Option, none, some}
 use native.Mathlib.Omega.{arith}
 use lib.Dec.{eqb}
 use Rattle.sets.specs.Sets.{elem}
-use Rattle.messages.specs.Message.{Message, name, enter, exit, opens, nameOf}
+use Rattle.messages.specs.Message.{Message, name, enter, exit, opens, nameOf, asks, firstItem}
 use Rattle.messages.specs.declared.Named.the-variants.{Called}
 use Rattle.scripts.specs.Tree.{Head, close, part, one, sum, tops, count, put, merge, PlainHead, Plain}
-use Rattle.closures.specs.Bodies.{_>>=_, orElse, check, find, drop, alter, holder}
-use Rattle.closures.specs.Moves.{isNamed, sameName, toEnter, toExit, toOpen, Moved, variableOf, messageOf, quiet, onward, headName, firstOf, spend, enterMove, exitMove, openMove, receiveMove, moveHere, anywhere}
-use Rattle.closures.specs.Moves as moves
-use Rattle.closures.specs.PlainMachine.{asks, firstItem, substituteBody, plain, settled, settledBy, move}
-use Rattle.closures.proofs.Options.{byTest, none≢some, bind-some, bind-none}
-use Rattle.closures.proofs.Inversion.{Opened, Received, Entered, Exited}
-use Rattle.closures.proofs.Sums.{find-none, drop-none, anywhere-sum}
+use Rattle.machine.specs.Bodies.{_>>=_, orElse, check, find, drop, alter, holder}
+use Rattle.machine.specs.Moves.{isNamed, sameName, toEnter, toExit, toOpen, Moved, variableOf, messageOf, quiet, onward, headName, firstOf, spend, enterMove, exitMove, openMove, receiveMove, moveHere, anywhere}
+use Rattle.machine.specs.Moves as moves
+use Rattle.machine.specs.PlainMachine.{substituteBody, plain, settled, settledBy, move}
+use Rattle.machine.proofs.Options.{byTest, none≢some, bind-some, bind-none}
+use Rattle.machine.proofs.Inversion.{Opened, Received, Entered, Exited}
+use Rattle.machine.proofs.Sums.{find-none, drop-none, anywhere-sum}
 use Rattle.calculus.specs.Order.{Part, front, behind}
 use Rattle.calculus.specs.Calculus.{Process, _∣_, ambient, _≅_, Refl, Trans, Par, Amb, prefix, piece, process}
 use Rattle.calculus.proofs.Variables.{eqb-same}

@@ -6,7 +6,7 @@ use mathlib.Core.Path.{_≡_, refl}
 use native.Mathlib.Omega.{arith}
 use Rattle.messages.specs.Message.{Message, name, enter, exit, opens, items}
 use Rattle.scripts.specs.Tree.{Head, Plain}
-use Rattle.closures.specs.PlainMachine.{substituteBody}
+use Rattle.machine.specs.PlainMachine.{substituteBody}
 use Rattle.calculus.specs.Satisfaction.{Divided}
 use Rattle.calculus.specs.Order.{Part}
 use Rattle.calculus.specs.Calculus.{Process, 𝟎, _∣_, ambient, action, input, output, _≅_, Refl, Symm, Trans, Amb, ParComm, ParAssoc, ZeroPar, prefix, process, _⟶_, RedIn, RedOut, RedOpen, RedIO, RedPar, RedAmb, RedCong}

@@ -8,7 +8,7 @@ use lib.Dec.{eqb}
 use borrow.Author.Tests.{eqb-true, eqb-false, eq-eqb, ne-eqb}
 use Rattle.messages.specs.Message.{Message, name, variable, enter, exit, opens, empty, path}
 use Rattle.messages.specs.Message as message
-use Rattle.closures.proofs.Options.{byTest}
+use Rattle.machine.proofs.Options.{byTest}
 use Rattle.calculus.specs.Calculus.{Process, 𝟎, _∣_, ambient, action, input, output, substitute, mentions, occurs}
 
 pub eqb-same : (x : ℕ) → eqb x x ≡ true

@@ -13,7 +13,6 @@ use Rattle.rules.specs.Rule.{Names, termName, Rule, always, negation, either, v
 
 infixr 30 _∣_
 infix 20 _≅_ _⟶_ _⟶*_ _↓_ _↓*_
-
 -- "Expressions and Processes". The expressions are the messages: name n, in M, out M, open M, ε, M.M'. The paper's bound
 -- names are the variables here, a vocabulary of their own.
 pub data Process : Type 0 where

@@ -4,7 +4,7 @@ use Prim.Native.Nat.{ℕ}
 use mathlib.Core.Path.{_≡_}
 use Rattle.messages.specs.Message.{variable}
 use Rattle.scripts.specs.Tree.{Head, close, part, PlainHead, Plain}
-use Rattle.closures.specs.PlainMachine.{substituteBody}
+use Rattle.machine.specs.PlainMachine.{substituteBody}
 use Rattle.calculus.specs.Calculus.{process, occurs}
 
 -- the body has the part k with that head and inside, and the last body is the rest

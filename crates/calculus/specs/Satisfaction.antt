@@ -8,8 +8,8 @@ use mathlib.Core.Option.{Option, some}
 use Rattle.messages.specs.Message.{Message, name}
 use Rattle.messages.specs.declared.Named.the-variants.{Called}
 use Rattle.scripts.specs.Tree.{Head, ambient, Body, close, part, PlainHead, Plain}
-use Rattle.closures.specs.Moves.{Moved, headName}
-use Rattle.closures.specs.PlainMachine.{plain, move}
+use Rattle.machine.specs.Moves.{Moved, headName}
+use Rattle.machine.specs.PlainMachine.{plain, move}
 use Rattle.rules.specs.Rule.{Names, termName, Rule, always, negation, either, void, at, beside, some-name, sometime, somewhere, placed}
 
 -- "some division of the top parts": the parts of the first body are divided into those of the other two

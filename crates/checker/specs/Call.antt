@@ -12,8 +12,8 @@ use Rattle.messages.specs.Message.{Message}
 use Rattle.scripts.specs.Tree.{Body, Plain}
 use Rattle.scripts.specs.Script.{Script, readScript, started}
 use Rattle.scripts.specs.Measures.{greatestName}
-use Rattle.closures.specs.Moves.{Moved}
-use Rattle.closures.specs.PlainMachine.{move, Machine, weightOf}
+use Rattle.machine.specs.Moves.{Moved}
+use Rattle.machine.specs.PlainMachine.{move, Machine, weightOf}
 use Rattle.writer.specs.Write.{write}
 use Rattle.rules.specs.Rule.{Rule, greatestRuleName}
 use Rattle.rules.specs.ReadRule.{readWholeRule}

@@ -12,9 +12,9 @@ use Rattle.messages.specs.ReadMessage
 use Rattle.scripts.specs.Tree
 use Rattle.scripts.specs.Script
 use Rattle.scripts.specs.Measures
-use Rattle.closures.specs.Bodies
-use Rattle.closures.specs.Moves
-use Rattle.closures.specs.PlainMachine
+use Rattle.machine.specs.Bodies
+use Rattle.machine.specs.Moves
+use Rattle.machine.specs.PlainMachine
 use Rattle.writer.specs.Write
 use Rattle.rules.specs.Rule
 use Rattle.rules.specs.ReadRule

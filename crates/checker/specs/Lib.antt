@@ -1,3 +1,4 @@
 -- What the contracts of `checker` cite. Assumes nothing: these are definitions.
 pub mod Call
+pub mod Standing
 pub mod Examples

@@ -1,4 +1,2 @@
 -- What the contracts of `closures` cite. Assumes nothing: these are definitions.
-pub mod Bodies
-pub mod Moves
-pub mod PlainMachine
+pub mod Closure

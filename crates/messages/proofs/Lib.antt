@@ -2,4 +2,5 @@
 pub mod Readings
 pub mod Tails
 pub mod Laws
+pub mod Cases
 pub mod Spells

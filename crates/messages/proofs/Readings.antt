@@ -119,7 +119,7 @@ pub placed : (c : Cursor) (i n : ℕ) (l : List ℕ) → c .index ≡ i → c .n
 placed c i n l ei en el = rw (← ei, ← en, ← el)
 
 -- Outcomes: a reading that was refused, and one that was not.
-read≢refused : {B : Type 0} {n q i : ℕ} → _≡_ {A = Outcome} (Read n) (Refused q i) → B
+pub read≢refused : {B : Type 0} {n q i : ℕ} → _≡_ {A = Outcome} (Read n) (Refused q i) → B
 read≢refused e = let z : _≡_ {A = ℕ} 0 1 = cc in absurd (let w : ⊥ = omega arith in w)
 
 pub outcome-refused : {A B : Type 0} (x : Reading (A × Cursor)) (k : A × Cursor → Reading (B × Cursor)) (q i : ℕ) → outcome x ≡ Refused q i → outcome (x >>= k) ≡ Refused q i

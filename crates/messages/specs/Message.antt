@@ -6,6 +6,8 @@ use mathlib.Core.List.{List, [], _∷_, _++_}
 use lib.Dec.{eqb}
 use Rattle.messages.specs.declared.Named.{Named}
 use Rattle.messages.specs.declared.Named.the-variants.{Called, Nameless}
+use Rattle.messages.specs.declared.First.{First}
+use Rattle.messages.specs.declared.First.the-variants.{Nothing, Enter, Exit, Open, Other}
 
 -- NAME, VAR with the index of its REC, IN, EXIT and OPEN of a message, EMPTY, PATH of two
 pub data Message : Type 0 where
@@ -36,6 +38,21 @@ nameOf (opens m) = Nameless
 nameOf empty = Nameless
 nameOf (path m k) = Nameless
 
+-- what an item asks: "IN, EXIT or OPEN of a name m"
+unfoldable pub asks : Message → First
+asks (name n) = Other
+asks (variable v) = Other
+asks (enter m) = Enter (nameOf m)
+asks (exit m) = Exit (nameOf m)
+asks (opens m) = Open (nameOf m)
+asks empty = Other
+asks (path m k) = Other
+
+-- the first of an action's items
+unfoldable pub firstItem : List Message → First
+firstItem [] = Nothing
+firstItem (i ∷ is) = asks i
+
 -- "each of its VARs becomes the whole message": r for each variable v
 unfoldable pub substitute : (v : ℕ) → Message → Message → Message
 substitute v r (name n) = name n
@@ -53,5 +70,5 @@ substituteItems v r (m ∷ ms) = items (substitute v r m) ++ substituteItems v r
 
 -- To unfold this is to unfold every definition of this module: for a proof by computation.
 unfoldable pub computing : Unit {0}
-unfolding items nameOf substitute substituteItems
+unfolding items nameOf asks firstItem substitute substituteItems
 computing = tt

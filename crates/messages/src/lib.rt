@@ -12,6 +12,15 @@ pub enum Named {
     Nameless,
 }
 
+// The first item of an action: what it asks, and of which name; another item; or none where no item is left.
+pub enum First {
+    Nothing,
+    Enter(Named),
+    Exit(Named),
+    Open(Named),
+    Other,
+}
+
 // What a word is where a message word is expected.
 pub enum MessageWord {
     Name(u32),

@@ -95,7 +95,7 @@ module _ (nest : ℕ) (around : List ℕ) (c : Cursor) where
     fewer = omega (arith, m .ahead, m .number, b .fewer);
     numbered = subst (λ (n : ℕ). Numbered n (r .0)) (m .number) (b .numbered);
     placed = λ ws s. b .placed ws (stands-on ws c (q .1) (m .advances) s);
-    says = λ ws s e. says ws i (q .0) (spelt-at ws c i q l s e)
+    says = λ ws s e. says ws i (q .0) (spelt-at ws c i q l s e);
   }
 
   receipt-read : (a : List ℕ) (i : ℕ) (r : Script × Cursor) → BodyRead (suc nest) a c r → PartRead nest around c ((record { index = i; head = receipt i }, r .0), r .1)
@@ -110,7 +110,7 @@ module _ (nest : ℕ) (around : List ℕ) (c : Cursor) where
     fewer = omega (arith, m .ahead, m .number);
     numbered = tt;
     placed = λ ws s. tt;
-    says = λ ws s e. output-says ws i (q .0) (spelt-at ws c i q l s e)
+    says = λ ws s e. output-says ws i (q .0) (spelt-at ws c i q l s e);
   }
 
   closed-read : (q : ℕ × Cursor) → Next c q → BodyRead nest around c (close, q .1)
@@ -125,21 +125,21 @@ module _ (nest : ℕ) (around : List ℕ) (c : Cursor) where
     advances = advances-on c (p .1) (r .1) (advances-on c (q .1) (p .1) (next-advances c q n) (record { ahead = a .advances .ahead; within = a .advances .within; tail = a .advances .tail })) (b .advances);
     numbers = omega (arith, n .number, a .numbers, b .numbers);
     fewer = omega (arith, n .index, n .number, a .fewer, b .fewer);
-    numbered =
-      ( refl
-      , subst (λ (k : ℕ). Numbered k (p .0 .1)) (let e : suc (q .1 .number) ≡ c .number + 1 = omega (arith, n .number) in e) (a .numbered)
-      , subst (λ (k : ℕ). Numbered k (r .0)) (let e : p .1 .number ≡ c .number + 1 + parts (p .0 .1) = omega (arith, n .number, a .numbers) in e) (b .numbered)
-      );
+    numbered = (
+      refl,
+      subst (λ (k : ℕ). Numbered k (p .0 .1)) (let e : suc (q .1 .number) ≡ c .number + 1 = omega (arith, n .number) in e) (a .numbered),
+      subst (λ (k : ℕ). Numbered k (r .0)) (let e : p .1 .number ≡ c .number + 1 + parts (p .0 .1) = omega (arith, n .number, a .numbers) in e) (b .numbered),
+    );
     placed = λ ws s.
-      let s₁ : Stands ws (nextPart (q .1)) = stands-on ws c (q .1) (next-advances c q n) s in
-      ( a .says ws s₁ (let e : q .1 .index ≡ p .0 .0 .index + 1 = omega (arith, n .index, i) in e)
-      , a .placed ws s₁
-      , b .placed ws (stands-on ws (nextPart (q .1)) (p .1) (a .advances) s₁)
-      )
+        let s₁ : Stands ws (nextPart (q .1)) = stands-on ws c (q .1) (next-advances c q n) s in (
+          a .says ws s₁ (let e : q .1 .index ≡ p .0 .0 .index + 1 = omega (arith, n .index, i) in e),
+          a .placed ws s₁,
+          b .placed ws (stands-on ws (nextPart (q .1)) (p .1) (a .advances) s₁),
+        );
   }
 
 -- a body that was read was closed at its first word, or has a part there
-or-close-all : (P : Script × Cursor → Type 0) (w : PartWord) (c : Cursor) (k : Reading (Script × Cursor)) → P (close, c) → ((b : Script × Cursor) → k ≡ got b → P b) → (b : Script × Cursor) → orClose w c k ≡ got b → P b
+pub or-close-all : (P : Script × Cursor → Type 0) (w : PartWord) (c : Cursor) (k : Reading (Script × Cursor)) → P (close, c) → ((b : Script × Cursor) → k ≡ got b → P b) → (b : Script × Cursor) → orClose w c k ≡ got b → P b
 unfolding orClose
 or-close-all P Close c k h f b e = got-all P (close, c) h b e
 or-close-all P Ambient c k h f b e = f b e
@@ -238,12 +238,12 @@ body-fuel (suc f) (suc g) nest around c hf hg =
     let k : length (w .1 .left) ≤ g = omega (arith, next-shorter c w (next 5 c w e)) in
     or-close-cong (partWord (w .0)) (w .1) _ _
     (bind-cong (partFrom (readMessage f nest around) (readBody f (suc nest)) around (partWord (w .0)) (c .index) (nextPart (w .1))) _ _
-      (λ p e₁.
-        let h : length (p .1 .left) ≤ length (w .1 .left) = advances-shorter (nextPart (w .1)) (p .1) (part-read f nest around (partWord (w .0)) (c .index) (nextPart (w .1)) p e₁ .advances) in
-        ap (λ (x : Reading (Script × Cursor)). x >>= λ r. got (part (c .number) (p .0 .0) (p .0 .1) (r .0), r .1))
-        (body-fuel f g nest around (p .1) (omega arith) (omega arith)))
+    (λ p e₁.
+    let h : length (p .1 .left) ≤ length (w .1 .left) = advances-shorter (nextPart (w .1)) (p .1) (part-read f nest around (partWord (w .0)) (c .index) (nextPart (w .1)) p e₁ .advances) in
+    ap (λ (x : Reading (Script × Cursor)). x >>= λ r. got (part (c .number) (p .0 .0) (p .0 .1) (r .0), r .1))
+    (body-fuel f g nest around (p .1) (omega arith) (omega arith)))
     ∙ ap (λ (x : Reading ((Written × Script) × Cursor)). x >>= λ p. readBody g nest around (p .1) >>= λ r. got (part (c .number) (p .0 .0) (p .0 .1) (r .0), r .1))
-      (part-agree around (length (w .1 .left)) _ _ _ _ (message-advances f nest around)
-      (λ d h. message-fuel f g nest around d (omega arith) (omega arith))
-      (λ a d h. body-fuel f g (suc nest) a d (omega arith) (omega arith))
-      (partWord (w .0)) (c .index) (nextPart (w .1)) (omega arith))))))
+    (part-agree around (length (w .1 .left)) _ _ _ _ (message-advances f nest around)
+    (λ d h. message-fuel f g nest around d (omega arith) (omega arith))
+    (λ a d h. body-fuel f g (suc nest) a d (omega arith) (omega arith))
+    (partWord (w .0)) (c .index) (nextPart (w .1)) (omega arith))))))

@@ -3,4 +3,6 @@ pub mod Words
 pub mod Laws
 pub mod Steps
 pub mod Whole
+pub mod Cases
+pub mod Numbers
 pub mod Tabled

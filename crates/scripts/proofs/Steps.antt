@@ -17,12 +17,12 @@ use Rattle.messages.specs.Reading.{Cursor, cursor, Reading, refuse, got, _>>=_,
 use Rattle.messages.specs.Words.{kind, operand}
 use Rattle.messages.specs.Message.{Message}
 use Rattle.messages.specs.ReadMessage.{readMessage}
-use Rattle.messages.proofs.Readings.{bind-got, placed, outcome-read}
+use Rattle.messages.proofs.Readings.{bind-got, placed, outcome-read, read≢refused}
 use Rattle.messages.proofs.Tails.{part-drop, length-part}
 use Rattle.messages.proofs.Tails as Tails
 use Rattle.messages.proofs.Laws.{MessageRead, message-advances, readOf, read-bounds}
-use Rattle.scripts.specs.Tree.{Head, ambient, action, receipt, output, close, part, sum, parts, kindNumber}
-use Rattle.scripts.specs.Script.{Written, Script, partKind, partWord, fits, guardedHead, guardedFrom, partFrom, orClose, readBody, askedPart}
+use Rattle.scripts.specs.Tree.{Head, ambient, action, receipt, close, part, sum, parts, kindNumber}
+use Rattle.scripts.specs.Script.{Written, Script, partWord, fits, guardedHead, guardedFrom, partFrom, orClose, readBody, askedPart}
 use Rattle.scripts.specs.Table.{entered, startBy, tabulate, refusedAt, vacant, scanned, scannedPart}
 use Rattle.scripts.specs.declared.Table.{Table}
 use Rattle.scripts.specs.declared.Scan.{Scan}
@@ -31,7 +31,7 @@ use Rattle.scripts.specs.declared.PartWord.the-variants.{Close, Ambient,
 use Rattle.messages.specs.declared.Outcome.{Outcome}
 use Rattle.messages.specs.declared.Outcome.the-variants.{Read, Refused}
 use Rattle.scripts.proofs.PartWord.{the-type}
-use Rattle.scripts.proofs.Laws.{BodyRead, PartRead, part-read, body-fuel}
+use Rattle.scripts.proofs.Laws.{PartRead, part-read, body-fuel}
 
 -- the only question that a part word answers by no is the second
 abbrev Second : PartWord → Type 0
@@ -72,10 +72,10 @@ asked-nest nest p w e f = told (leb nest 64) refl
     told : (b : Bool) → leb nest 64 ≡ b → nest ≤ 64
     told true d = leb-true nest 64 d
     told false d =
-      let g : fits (askedPart nest p) ≡ false = rw d (unfit p) in
-      let z : true ≡ false = sym f ∙ ap fits e ∙ g in
-      let y : _≡_ {A = ℕ} 0 1 = cc in
-      absurd (omega arith)
+        let g : fits (askedPart nest p) ≡ false = rw d (unfit p) in
+        let z : true ≡ false = sym f ∙ ap fits e ∙ g in
+        let y : _≡_ {A = ℕ} 0 1 = cc in
+        absurd (omega arith)
 
 -- what is left of questions 2 and 4 once the code has asked them
 module _ (around : List ℕ) (message : Cursor → Reading (Message × Cursor)) (inside : List ℕ → Cursor → Reading (Script × Cursor))
@@ -114,7 +114,7 @@ behindPart f nest around n q = readBody f nest around (q .1) >>= λ r. got (part
 
 unroll : (f nest : ℕ) (around : List ℕ) (c : Cursor) → readBody (suc f) nest around c
     ≡ (nextWord 5 c >>= λ q. ask 2 (c .index) (fits (partWord (q .0))) >>= λ _. ask 4 (c .index) (leb nest 64) >>= λ _.
-       goesOn around (readMessage f nest around) (readBody f (suc nest)) (c .index) (q .1) (nextPart (q .1)) (behindPart f nest around (c .number)) (partWord (q .0)))
+    goesOn around (readMessage f nest around) (readBody f (suc nest)) (c .index) (q .1) (nextPart (q .1)) (behindPart f nest around (c .number)) (partWord (q .0)))
 unfolding readBody
 unroll f nest around c = refl
 
@@ -202,9 +202,6 @@ pub record BodyOn (s : List ℕ) (at nest : ℕ) (around : List ℕ) (owner : �
   pub ahead : at + k < n
   pub loop : BodyLoop s at nest around owner table (n - at) t
 
-pub read≢refused : {B : Type 0} {n q i : ℕ} → _≡_ {A = Outcome} (Read n) (Refused q i) → B
-read≢refused e = let z : _≡_ {A = ℕ} 0 1 = cc in absurd (let w : ⊥ = omega arith in w)
-
 part-told : (o : ℕ) (t : Table) (x : Reading ((Written × Script) × Cursor)) (p : Scan) (n : ℕ) → p ≡ scannedPart o t x → p .outcome ≡ Read n
     → (q : (Written × Script) × Cursor) × (x ≡ got q) × (q .1 .index ≡ n) × (p .table ≡ tabulate o (part (t .count) (q .0 .0) (q .0 .1) close) t)
 unfolding scannedPart
@@ -263,16 +260,16 @@ module _ (s : List ℕ) (at nest : ℕ) (around : List ℕ) (owner : ℕ) (table
                 within = omega (arith, en, a .advances .within, length-drop 1 (drop k s), length-drop k s);
                 counted = omega (arith, en, a .fewer, a .numbers, l .counted);
                 same = goes ∙ ap (scanned owner t) (bind-got here _ q eq) ∙ scanned-rest owner t (q .0 .0) (q .0 .1) _ ∙ rw (← et, y) (ap (scanned owner t′)
-                  (ap (λ (x : Cursor). readBody (length (drop k s) - 1) nest around x)
-                  (placed (q .1) n (t′ .count) (drop (n - at) s) en (omega (arith, a .numbers)) (behind q n en (a .advances .tail) (a .ahead)))
-                  ∙ body-fuel _ _ nest around (cursor n (t′ .count) (drop (n - at) s)) v (omega arith)))
-              }
+                    (ap (λ (x : Cursor). readBody (length (drop k s) - 1) nest around x)
+                    (placed (q .1) n (t′ .count) (drop (n - at) s) en (omega (arith, a .numbers)) (behind q n en (a .advances .tail) (a .ahead)))
+                    ∙ body-fuel _ _ nest around (cursor n (t′ .count) (drop (n - at) s)) v (omega arith)));
+              };
             }
           where
             behind : (q : (Written × Script) × Cursor) (n : ℕ) → q .1 .index ≡ n → q .1 .left ≡ drop (q .1 .index - (at + k + 1)) (drop 1 (drop k s)) → at + k + 1 < q .1 .index → q .1 .left ≡ drop (n - at) s
             behind q n en d h =
-              let z : k + (1 + (n - (at + k + 1))) ≡ n - at = omega (arith, en) in
-              d ∙ rw (en, drop-drop, drop-drop, z)
+                let z : k + (1 + (n - (at + k + 1))) ≡ n - at = omega (arith, en) in
+                d ∙ rw (en, drop-drop (n - (at + k + 1)) 1 (drop k s), drop-drop, z)
 
         pub body-again : (n : ℕ) → p .outcome ≡ Read n → BodyOn s at nest around owner table k n (p .table)
         body-again n d = let (q, eq, en, et) = part-told owner t here p n told d in again q n (p .table) eq en et
@@ -359,17 +356,17 @@ module _ (s : List ℕ) (at nest : ℕ) (around : List ℕ) (owner : ℕ) (table
         (rw (part-drop s (n - at), add-one nest) at er)
         ∙ body-is p n t en et (message-advances (length s - 1) nest around (cursor (at + 1) (suc (table .count)) (drop 1 s)) p ep)
         ∙ sym (ap (scannedPart owner table) (bind-got (messageAt s at nest around (table .count)) _ p ep) ∙ scanned-inside owner table at (guardedHead kind (p .0)) _
-          ∙ rw (guarded-kind kind (p .0) h k, guarded-start (eqb kind 1) (p .0) at, et))
+        ∙ rw (guarded-kind kind (p .0) h k, guarded-start (eqb kind 1) (p .0) at, et))
       where
         body-is : (p : Message × Cursor) (n : ℕ) (t : Table) → p .1 .index ≡ n → t ≡ entered owner kind (at + 1) table → MessageRead around (cursor (at + 1) (suc (table .count)) (drop 1 s)) p
             → scanned (table .count) t (bodyAt (drop (n - at) s) n (suc nest) around (t .count)) ≡ scanned (table .count) t (readBody (length s - 1) (suc nest) around (p .1))
         body-is p n t en et a =
-          let c : t .count ≡ suc (table .count) = entered-next owner kind (at + 1) table t et in
-          let y : 1 + (n - (at + 1)) ≡ n - at = omega (arith, a .ahead, en) in
-          let l : p .1 .left ≡ drop (n - at) s = a .advances .tail ∙ rw (en, drop-drop, y) in
-          ap (scanned (table .count) t)
-          (body-fuel _ _ (suc nest) around (cursor n (t .count) (drop (n - at) s)) (omega arith) (omega (arith, a .ahead, en, length-drop (n - at) s))
-          ∙ ap (λ (x : Cursor). readBody (length s - 1) (suc nest) around x) (sym (placed (p .1) n (t .count) (drop (n - at) s) en (a .number ∙ sym c) l)))
+            let c : t .count ≡ suc (table .count) = entered-next owner kind (at + 1) table t et in
+            let y : 1 + (n - (at + 1)) ≡ n - at = omega (arith, a .ahead, en) in
+            let l : p .1 .left ≡ drop (n - at) s = a .advances .tail ∙ rw (en, drop-drop, y) in
+            ap (scanned (table .count) t)
+            (body-fuel _ _ (suc nest) around (cursor n (t .count) (drop (n - at) s)) (omega arith) (omega (arith, a .ahead, en, length-drop (n - at) s))
+            ∙ ap (λ (x : Cursor). readBody (length s - 1) (suc nest) around x) (sym (placed (p .1) n (t .count) (drop (n - at) s) en (a .number ∙ sym c) l)))
 
 -- the first word of the words from k on
 pub asked-front : (s : List ℕ) (k nest : ℕ) (w : PartWord) → w ≡ askedPart nest (partWord (getD s k 0)) → w ≡ askedPart nest (partWord (getD (Tails.part s k) 0 0))

@@ -61,11 +61,11 @@ module _ {G H : Type 0} (f : G → H) (k k′ : ℕ → List ℕ) (w w′ : ℕ 
   unfolding sum mapHeads
   held-frame n close N K W h = tt
   held-frame n (part i g b r) N K W h =
-      let e : i ≡ n = N .0 in
-      ( sym (K i (omega arith) (omega arith)) ∙ h .0
-      , sym (W i (omega arith) (omega arith)) ∙ h .1
-      , held-frame (n + 1) b (N .1) (λ j a z. K j (omega arith) (omega arith)) (λ j a z. W j (omega arith) (omega arith)) (h .2)
-      , held-frame (n + 1 + parts b) r (N .2) (λ j a z. K j (omega arith) (omega arith)) (λ j a z. W j (omega arith) (omega arith)) (h .3)
+      let e : i ≡ n = N .0 in (
+        sym (K i (omega arith) (omega arith)) ∙ h .0,
+        sym (W i (omega arith) (omega arith)) ∙ h .1,
+        held-frame (n + 1) b (N .1) (λ j a z. K j (omega arith) (omega arith)) (λ j a z. W j (omega arith) (omega arith)) (h .2),
+        held-frame (n + 1 + parts b) r (N .2) (λ j a z. K j (omega arith) (omega arith)) (λ j a z. W j (omega arith) (omega arith)) (h .3),
       )
 
 -- ---- the table
@@ -181,20 +181,20 @@ module _ (ws : List ℕ) where
           kinds-kept = λ j a. G .wrote .kinds-kept j (omega arith) ∙ F .wrote .kinds-kept j (omega arith) ∙ E .kinds-kept j a;
           starts-kept = λ j a. G .wrote .starts-kept j (omega arith) ∙ F .wrote .starts-kept j (omega arith) ∙ E .starts-kept j a;
           kids-kept = λ j d a.
-            G .wrote .kids-kept j d (⊎-elim (λ z. inl (omega arith)) (λ z. inr (omega arith)) a)
-            ∙ F .wrote .kids-kept j (λ y. ⊎-elim (λ z. omega arith) (λ z. omega arith) a) (⊎-elim (λ z. inl (omega arith)) (λ z. inr (omega arith)) a)
-            ∙ E .kids-kept j d (⊎-elim (λ z. inl z) (λ z. inr (omega arith)) a);
+              G .wrote .kids-kept j d (⊎-elim (λ z. inl (omega arith)) (λ z. inr (omega arith)) a)
+              ∙ F .wrote .kids-kept j (λ y. ⊎-elim (λ z. omega arith) (λ z. omega arith) a) (⊎-elim (λ z. inl (omega arith)) (λ z. inr (omega arith)) a)
+              ∙ E .kids-kept j d (⊎-elim (λ z. inl z) (λ z. inr (omega arith)) a);
         };
         own = G .own ∙ ap (λ (l : List ℕ). l ++ tops r) own₂ ∙ append-assoc (bodyIn (t .kids) o) (i ∷ []) (tops r);
-        held =
-          ( rw (tops-map (λ (w : Written). w .head) b) i-body
-          , ap₂ (headAt ws) i-kind i-start ∙ P .0
-          , held-frame (λ w. w .head) (bodyIn (t₂ .kids)) (bodyIn (u .kids)) (headIn ws (t₂ .kinds) (t₂ .starts)) (headIn ws (u .kinds) (u .starts)) (t .count + 1) b (N .1)
-            (λ j a z. sym (ap members (G .wrote .kids-kept j (other o (t .count) j W (omega arith) (omega arith)) (inl (omega arith)))))
-            (λ j a z. sym (ap₂ (headAt ws) (G .wrote .kinds-kept j (omega arith)) (G .wrote .starts-kept j (omega arith))))
-            (F .held)
-          , G .held
-          );
+        held = (
+          rw (tops-map (λ (w : Written). w .head) b) i-body,
+          ap₂ (headAt ws) i-kind i-start ∙ P .0,
+          held-frame (λ w. w .head) (bodyIn (t₂ .kids)) (bodyIn (u .kids)) (headIn ws (t₂ .kinds) (t₂ .starts)) (headIn ws (u .kinds) (u .starts)) (t .count + 1) b (N .1)
+              (λ j a z. sym (ap members (G .wrote .kids-kept j (other o (t .count) j W (omega arith) (omega arith)) (inl (omega arith)))))
+              (λ j a z. sym (ap₂ (headAt ws) (G .wrote .kinds-kept j (omega arith)) (G .wrote .starts-kept j (omega arith))))
+              (F .held),
+          G .held,
+        );
       }
 
   -- the table of a script whose parts are numbered from 0 and stand where the words say
@@ -203,9 +203,9 @@ module _ (ws : List ℕ) where
       let none : (j : ℕ) → j < 65 → bodyIn (vacant .kids) j ≡ [] = λ j a. ap members (getD-replicate 65 j 0 0 a) ∙ members-empty in
       let top : bodyIn (vacant .kids) 64 ≡ [] = none 64 (omega arith) in
       let F = filled 64 b vacant N P (omega arith)
-        (record { kinds-length = length-replicate {A = ℕ} 64 0; starts-length = length-replicate {A = ℕ} 64 0; kids-length = length-replicate {A = ℕ} 65 0; fresh = λ j a z. none j (omega arith) })
-        (record { inside = omega arith; smaller = inr (omega arith) })
-        (rw top tt) in
+      (record { kinds-length = length-replicate {A = ℕ} 64 0; starts-length = length-replicate {A = ℕ} 64 0; kids-length = length-replicate {A = ℕ} 65 0; fresh = λ j a z. none j (omega arith) })
+      (record { inside = omega arith; smaller = inr (omega arith) })
+      (rw top tt) in
       record {
         few = omega (arith, F .wrote .counts);
         counted = F .wrote .counts ∙ (let z : 0 + parts b ≡ parts b = omega arith in z);
@@ -229,6 +229,19 @@ script-tabled ws =
     (λ u e₆. got-all (Holds ws) q
     (let b = body-advances (length ws) 0 [] (cursor 0 0 ws) q e in
     tabled ws (q .0) (b .numbered) (b .placed ws refl) (omega (arith, b .numbers, leb-true (q .1 .number) 64 (ask-inv 6 0 _ u e₆))))))))
+
+-- the cursor's number is the number of parts
+abbrev Counts : Script × Cursor → Type 0
+Counts p = p .1 .number ≡ parts (p .0)
+
+pub script-number : (ws : List ℕ) (p : Script × Cursor) → readScript ws ≡ got p → p .1 .number ≡ parts (p .0)
+unfolding readScript
+script-number ws =
+    bind-all Counts (ask 1 0 (leb 1 (length ws) && leb (length ws) 1024)) _
+    (λ _ _. bind-all Counts (readBody (length ws) 0 [] (cursor 0 0 ws)) _
+    (λ q e. bind-all Counts (ask 5 (q .1 .index) (isEmpty (q .1 .left))) _
+    (λ _ _. bind-all Counts (ask 6 0 (leb (q .1 .number) 64)) _
+    (λ _ _. got-all Counts q (omega (arith, body-advances (length ws) 0 [] (cursor 0 0 ws) q e .numbers))))))
 
 -- what the reader answers, and so what its table holds
 abbrev pub Answers : List ℕ → Scan → Type 0

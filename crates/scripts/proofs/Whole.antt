@@ -1,6 +1,6 @@
 -- The script as a whole: questions 1, 5 and 6 around the reading of its body, as the code asks them. Assumes nothing.
-use Prim.Native.Nat.{ℕ, suc, _+_, _≤_, _<_}
-use mathlib.Core.Bool.{Bool, true, false, _&&_}
+use Prim.Native.Nat.{ℕ, _≤_, _<_}
+use mathlib.Core.Bool.{true, false, _&&_}
 use mathlib.Core.List.{List, [], _∷_}
 use mathlib.Core.Path.{_≡_, refl, sym, ap, _∙_}
 use native.Mathlib.Omega.{arith}
@@ -9,14 +9,13 @@ use lib.Dec.{leb}
 use lib.ListN.{length}
 use Rattle.messages.specs.Reading.{Cursor, cursor, Reading, refuse, got, _>>=_, ask, isEmpty}
 use Rattle.messages.specs.declared.Outcome.the-variants.{Read, Refused}
-use Rattle.messages.proofs.Readings.{bind-got, bind-refuse, ask-yes, ask-no}
-use Rattle.scripts.specs.Tree.{parts}
-use Rattle.scripts.specs.Script.{Script, readBody, readScript}
+use Rattle.messages.proofs.Readings.{bind-got, bind-refuse, ask-yes, ask-no, read≢refused}
+use Rattle.scripts.specs.Script.{Script, readScript}
 use Rattle.scripts.specs.Table.{vacant, tabulate, refusedAt, scanned}
 use Rattle.scripts.specs.declared.Table.{Table}
 use Rattle.scripts.specs.declared.Scan.{Scan}
 use Rattle.scripts.proofs.Laws.{BodyRead, body-advances}
-use Rattle.scripts.proofs.Steps.{bodyAt, tabulate-count, read≢refused}
+use Rattle.scripts.proofs.Steps.{bodyAt, tabulate-count}
 
 -- questions 5 and 6, once the body was read
 abbrev checked : Script × Cursor → Reading (Script × Cursor)
@@ -60,6 +59,12 @@ unfolding scanned _>>=_
 scan-refused o t (refuse q′ i′) k a q i e d = e
 scan-refused o t (got p) k a q i e d = read≢refused (sym (ap (λ (x : Scan). x .outcome) e) ∙ d)
 
+-- What holds where the code has asked question 1 and read the body with the answer a.
+pub record BodyAsked (s : List ℕ) (a : Scan) : Type 0 where
+  pub some : 0 < length s
+  pub most : length s ≤ 1024
+  pub body : a ≡ scanned 64 vacant (bodyAt s 0 0 [] 0)
+
 module _ (s : List ℕ) (some : 0 < length s) (most : length s ≤ 1024) where
   goes : readScript s ≡ (bodyAt s 0 0 [] 0 >>= checked)
   goes = unroll s ∙ bind-got _ _ tt (ask-yes 1 0 _ (rw (le-leb 1 (length s) some, le-leb (length s) 1024 most)))
@@ -88,24 +93,24 @@ module _ (s : List ℕ) (some : 0 < length s) (most : length s ≤ 1024) where
     counted : (t : Table) → t ≡ tabulate 64 (p .0) vacant → t .count ≡ p .1 .number
     counted t e = ap (λ (x : Table). x .count) e ∙ tabulate-count 64 (p .0) vacant ∙ sym (body .numbers)
 
-  module _ (a : Scan) (ea : a ≡ scanned 64 vacant (bodyAt s 0 0 [] 0)) where
-    pub script-refused : (q i : ℕ) → a .outcome ≡ Refused q i → a ≡ scanned 64 vacant (readScript s)
-    script-refused q i d = scan-refused 64 vacant (bodyAt s 0 0 [] 0) checked a q i ea d ∙ sym (ap (scanned 64 vacant) goes)
+module _ {s : List ℕ} {a : Scan} (b : BodyAsked s a) where
+  pub script-refused : (q i : ℕ) → a .outcome ≡ Refused q i → a ≡ scanned 64 vacant (readScript s)
+  script-refused q i d = scan-refused 64 vacant (bodyAt s 0 0 [] 0) checked a q i (b .body) d ∙ sym (ap (scanned 64 vacant) (goes s (b .some) (b .most)))
 
-    module _ (n : ℕ) (d : a .outcome ≡ Read n) where
-      pub script-behind : n < length s → refusedAt 5 n ≡ scanned 64 vacant (readScript s)
-      unfolding scanned
-      script-behind h =
-          let (p, ep, en, et) = scan-told 64 vacant (bodyAt s 0 0 [] 0) a n ea d in
-          sym (ap (scanned 64 vacant) (behind p ep (rw en h)) ∙ ap (λ (x : ℕ). refusedAt 5 x) en)
+  module _ (n : ℕ) (d : a .outcome ≡ Read n) where
+    pub script-behind : n < length s → refusedAt 5 n ≡ scanned 64 vacant (readScript s)
+    unfolding scanned
+    script-behind h =
+        let (p, ep, en, et) = scan-told 64 vacant (bodyAt s 0 0 [] 0) a n (b .body) d in
+        sym (ap (scanned 64 vacant) (behind s (b .some) (b .most) p ep (rw en h)) ∙ ap (λ (x : ℕ). refusedAt 5 x) en)
 
-      pub script-many : length s ≤ n → 64 < a .table .count → refusedAt 6 0 ≡ scanned 64 vacant (readScript s)
-      unfolding scanned
-      script-many h k =
-          let (p, ep, en, et) = scan-told 64 vacant (bodyAt s 0 0 [] 0) a n ea d in
-          sym (ap (scanned 64 vacant) (many p ep (rw en h) (rw (← counted p ep (a .table) et) k)))
+    pub script-many : length s ≤ n → 64 < a .table .count → refusedAt 6 0 ≡ scanned 64 vacant (readScript s)
+    unfolding scanned
+    script-many h k =
+        let (p, ep, en, et) = scan-told 64 vacant (bodyAt s 0 0 [] 0) a n (b .body) d in
+        sym (ap (scanned 64 vacant) (many s (b .some) (b .most) p ep (rw en h) (rw (← counted s (b .some) (b .most) p ep (a .table) et) k)))
 
-      pub script-read : length s ≤ n → a .table .count ≤ 64 → a ≡ scanned 64 vacant (readScript s)
-      script-read h k =
-          let (p, ep, en, et) = scan-told 64 vacant (bodyAt s 0 0 [] 0) a n ea d in
-          ea ∙ ap (scanned 64 vacant) (ep ∙ sym (whole p ep (rw en h) (rw (← counted p ep (a .table) et) k)))
+    pub script-read : length s ≤ n → a .table .count ≤ 64 → a ≡ scanned 64 vacant (readScript s)
+    script-read h k =
+        let (p, ep, en, et) = scan-told 64 vacant (bodyAt s 0 0 [] 0) a n (b .body) d in
+        b .body ∙ ap (scanned 64 vacant) (ep ∙ sym (whole s (b .some) (b .most) p ep (rw en h) (rw (← counted s (b .some) (b .most) p ep (a .table) et) k)))

@@ -24,12 +24,12 @@ vacant = record { kinds = replicate 64 0; starts = replicate 64 0; kids = replic
 unfoldable pub entered : (owner kind start : ℕ) → Table → Table
 entered o k s t =
     cond (ltb (t .count) 64)
-    (record
-      { kinds = set (t .kinds) (t .count) k
-      ; starts = set (t .starts) (t .count) s
-      ; kids = set (t .kids) o (mask (insert (t .count) (members (getD (t .kids) o 0))))
-      ; count = t .count + 1
-      })
+    (record {
+      kinds = set (t .kinds) (t .count) k;
+      starts = set (t .starts) (t .count) s;
+      kids = set (t .kids) o (mask (insert (t .count) (members (getD (t .kids) o 0))));
+      count = t .count + 1;
+    })
     (record { kinds = t .kinds; starts = t .starts; kids = t .kids; count = t .count + 1 })
 
 -- where a part's message starts; of a receipt, its own index, which is its variable

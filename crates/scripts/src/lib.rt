@@ -132,7 +132,14 @@ fn with_receipt(around: Around, at: u16) -> Around
 }
 
 // The body at the front of s, the script's words from index at on, up to its CLOSE; owner is the part whose body it is.
-pub fn read_body(s: &[u32], at: usize, nest: usize, around: Around, owner: usize, table: Table) -> Scan
+pub fn read_body(
+    s: &[u32],
+    at: usize,
+    nest: usize,
+    around: Around,
+    owner: usize,
+    table: Table,
+) -> Scan
     requires { ⌜ (at + length (now s) ≤ 1024) × (nest ≤ 65) × (around .first ≤ 65) × (65 ≤ around .first + nest) × (table .count ≤ at) ⌝ }
     ensures { λ r. ⌜ r ≡ scanned owner table (readBody (length (now (s .entry))) nest (drop (around .first) (around .indices)) (cursor at (table .count) (now (s .entry)))) ⌝ }
 {
@@ -158,7 +165,15 @@ pub fn read_body(s: &[u32], at: usize, nest: usize, around: Around, owner: usize
 }
 
 // The part at the front of s, with what its first word is.
-fn read_part(w: PartWord, s: &[u32], at: usize, nest: usize, around: Around, owner: usize, table: Table) -> Scan
+fn read_part(
+    w: PartWord,
+    s: &[u32],
+    at: usize,
+    nest: usize,
+    around: Around,
+    owner: usize,
+    table: Table,
+) -> Scan
     requires { ⌜ (at + length (now s) ≤ 1024) × (nest ≤ 65) × (around .first ≤ 65) × (65 ≤ around .first + nest) × (table .count ≤ at) ⌝ }
     requires { ⌜ (0 < length (now s)) × (w ≡ askedPart nest (partWord (getD (now s) 0 0))) ⌝ }
     ensures { λ r. ⌜ r ≡ scannedPart owner table (partFrom (readMessage (length (now (s .entry)) - 1) nest (drop (around .first) (around .indices))) (readBody (length (now (s .entry)) - 1) (suc nest)) (drop (around .first) (around .indices)) w at (cursor (at + 1) (suc (table .count)) (drop 1 (now (s .entry))))) ⌝ }
@@ -195,7 +210,15 @@ fn read_part(w: PartWord, s: &[u32], at: usize, nest: usize, around: Around, own
 }
 
 // An ambient (kind 1) or an action (kind 2): message, then body.
-fn read_guarded(kind: u8, s: &[u32], at: usize, nest: usize, around: Around, owner: usize, table: Table) -> Scan
+fn read_guarded(
+    kind: u8,
+    s: &[u32],
+    at: usize,
+    nest: usize,
+    around: Around,
+    owner: usize,
+    table: Table,
+) -> Scan
     requires { ⌜ (at + length (now s) ≤ 1024) × (nest ≤ 64) × (around .first ≤ 65) × (65 ≤ around .first + nest) × (table .count ≤ at) × (0 < length (now s)) × (1 ≤ kind) × (kind ≤ 2) ⌝ }
     ensures { λ r. ⌜ r ≡ scannedPart owner table (guardedFrom (guardedHead kind) (readMessage (length (now (s .entry)) - 1) nest (drop (around .first) (around .indices))) (readBody (length (now (s .entry)) - 1) (suc nest)) (drop (around .first) (around .indices)) at (cursor (at + 1) (suc (table .count)) (drop 1 (now (s .entry))))) ⌝ }
 {

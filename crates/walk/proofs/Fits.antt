@@ -7,11 +7,11 @@ use mathlib.Core.Option.{some}
 use lib.Dec.{eqb}
 use Rattle.messages.specs.Message.{Message, name, variable, enter, exit, opens, empty, path, items, substitute, substituteItems}
 use Rattle.scripts.specs.Tree.{ambient, action, receipt, output, PlainHead, Plain}
-use Rattle.closures.specs.Moves.{Moved, spentHead}
-use Rattle.closures.specs.PlainMachine.{rest, substituteHead, substituteBody, plain, move}
-use Rattle.closures.proofs.Options.{byTest}
-use Rattle.closures.proofs.Naturality.{mapHead}
-use Rattle.closures.proofs.Everywhere.{Everywhere, map-everywhere, still-everywhere, more-everywhere, Keeps, move-everywhere}
+use Rattle.machine.specs.Moves.{Moved, spentHead}
+use Rattle.machine.specs.PlainMachine.{rest, substituteHead, substituteBody, plain, move}
+use Rattle.machine.proofs.Options.{byTest}
+use Rattle.machine.proofs.Naturality.{mapHead}
+use Rattle.machine.proofs.Everywhere.{Everywhere, map-everywhere, still-everywhere, more-everywhere, Keeps, move-everywhere}
 use Rattle.rules.specs.Rule.{Term, constant, chosen, Rule, always, negation, either, void, at, beside, some-name, sometime, somewhere, placed, Names, lookup, termName}
 use Rattle.calculus.specs.Satisfaction.{Divided, nothing, left, right, Inside, first, later, Alone, wrapped}
 use Rattle.walk.proofs.Renaming.{renameMessage, renameItems, renameHead, renameTree, renameTerm, renameRule, renameNames}

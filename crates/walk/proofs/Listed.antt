@@ -11,10 +11,10 @@ use borrow.Author.Tests.{eqb-true, eqb-false, eq-eqb}
 use Rattle.messages.specs.Message.{Message}
 use Rattle.messages.specs.declared.Named.the-variants.{Called}
 use Rattle.scripts.specs.Tree.{close, part, PlainHead, Plain}
-use Rattle.closures.specs.Moves.{Moved, headName, isNamed, sameName}
-use Rattle.closures.specs.PlainMachine.{plain, move}
-use Rattle.closures.proofs.Options.{byTest, some-is, none≢some, cond-inv}
-use Rattle.closures.proofs.Inversion.{isNamed-inv, sameName-inv}
+use Rattle.machine.specs.Moves.{Moved, headName, isNamed, sameName}
+use Rattle.machine.specs.PlainMachine.{plain, move}
+use Rattle.machine.proofs.Options.{byTest, some-is, none≢some, cond-inv}
+use Rattle.machine.proofs.Inversion.{isNamed-inv, sameName-inv}
 use Rattle.calculus.specs.Satisfaction.{Divided, nothing, left, right, Inside, first, later, Alone}
 use Rattle.walk.specs.Walk.{range, keep, movesTo, movesFrom, inOrder}
 use Rattle.walk.specs.PlainWalk.{only, withEither, divisions, insides, bodyAfter, nexts}

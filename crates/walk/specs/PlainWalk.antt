@@ -7,8 +7,8 @@ use Rattle.messages.specs.Message.{Message}
 use Rattle.messages.specs.declared.Named.the-variants.{Called}
 use Rattle.scripts.specs.Tree.{Body, close, part}
 use Rattle.scripts.specs.Tree.{Head, PlainHead, Plain}
-use Rattle.closures.specs.Moves.{Moved, headName, isNamed, sameName}
-use Rattle.closures.specs.PlainMachine.{plain, move}
+use Rattle.machine.specs.Moves.{Moved, headName, isNamed, sameName}
+use Rattle.machine.specs.PlainMachine.{plain, move}
 use Rattle.calculus.specs.Satisfaction.{wrapped}
 use Rattle.walk.specs.Walk.{Space, inOrder}
 

@@ -7,19 +7,10 @@ use Rattle.scripts.proofs.Words.{drop-set}
 use Rattle.scripts.proofs.with_receipt.Statement.{statement}
 use Rattle.scripts.proofs.with_receipt.Tie as tie
 
-sub-first : tie.Need-sub-first
-sub-first c = search needs
-
-mul-inner : tie.Need-mul-inner
-mul-inner c = search needs
-
-element-write-inner : tie.Need-element-write-inner
-element-write-inner c = search needs
-
 returns : tie.Need-returns
 returns c =
     let l : length (c .before .args .around .indices) ≡ 65 = search needs in
     (omega arith, drop-set _ _ _ (c .before .pre .0) (omega arith))
 
 pub with-receipt-spec : {M : Type 1} → statement M
-with-receipt-spec = tie.close (tie.spec sub-first mul-inner element-write-inner returns)
+with-receipt-spec = tie.close (tie.spec (λ c. search needs) (λ c. search needs) (λ c. search needs) returns)

@@ -1,13 +1,10 @@
 -- `read_body`: its loop goes from part to part. Assumes nothing.
-use Prim.Native.Nat.{ℕ, suc, _+_, _-_, _≤_, _<_}
-use mathlib.Core.Path.{_≡_, refl, sym, ap, _∙_}
+use Prim.Native.Nat.{ℕ, _-_}
+use mathlib.Core.Path.{_∙_}
 use native.Mathlib.Omega.{arith}
-use borrow.Author.Needs.{needs, length-unmapped}
-use lib.ListN.{length, getD, drop}
+use lib.ListN.{length, drop}
 use Rattle.messages.proofs.Tails.{length-part}
-use Rattle.messages.proofs.Tails as Tails
-use Rattle.messages.proofs.Laws.{readOf}
-use Rattle.scripts.proofs.Steps.{BodyLoop, body-begins, body-ends, body-closes, body-hands, body-again, asked-front}
+use Rattle.scripts.proofs.Steps.{BodyLoop, BodyOn, body-begins, body-ends, body-closes, body-hands, body-again, asked-front}
 use Rattle.scripts.proofs.+read_body+read_guarded+read_part.Lts-read_body as lts
 use Rattle.scripts.proofs.read_body.Reads as reads
 use Rattle.scripts.proofs.+read_body+read_guarded+read_part.Proof.Measures.{read-body-at, read-body-claims}
@@ -19,71 +16,31 @@ abbrev pub μ-loop : lts.MeasureT-loop
 μ-loop s at nest around owner k₀ t₀ k t = length s - k
 
 module _ (t : ℕ) where
+  -- the part that was read, and the loop behind it
+  again : (c : lts.After-o (read-body-claims t) (read-body-at t) reads.Post Inv-loop μ-loop)
+      → BodyOn (c .before .before .before .before .before .before .before .before .before .before .args .s .now) (c .before .before .before .before .before .before .before .before .before .before .args .at) (c .before .before .before .before .before .before .before .before .before .before .args .nest) (drop (c .before .before .before .before .before .before .before .before .before .before .args .around .first) (c .before .before .before .before .before .before .before .before .before .before .args .around .indices)) (c .before .before .before .before .before .before .before .before .before .before .args .owner) (c .before .before .before .before .before .before .before .before .before .before .args .table) (c .before .before .before .before .before .before .before .before .loop .k) (c .o .given .0 .0) (c .before .before .read-part .result .table)
+  again c = body-again _ _ _ _ _ _ _ _ (c .before .before .before .before .before .before .before .before .loop .inv) (c .before .before .before .before .before .before .before .loop-test .taken) _ (c .before .before .before .before .before .ask-part .ensures) (c .before .before .before .before .match .keys2) _ (c .before .before .read-part .ensures) _ (c .o .given .1)
+
   pub loop-holds : lts.Need-loop-holds (read-body-claims t) (read-body-at t) reads.Post Inv-loop μ-loop
   loop-holds c = body-begins _ _ _ _ _ _ (omega arith)
-
-  pub mul-ask-part : lts.Need-mul-ask-part (read-body-claims t) (read-body-at t) reads.Post Inv-loop μ-loop
-  mul-ask-part c = search needs
-
-  pub shared-slice-read-ask-part : lts.Need-shared-slice-read-ask-part (read-body-claims t) (read-body-at t) reads.Post Inv-loop μ-loop
-  shared-slice-read-ask-part c = search needs
-
-  pub ask-part-requires : lts.Need-ask-part-requires (read-body-claims t) (read-body-at t) reads.Post Inv-loop μ-loop
-  ask-part-requires c κs = search needs
-
-  pub enum-told : lts.Need-enum-told (read-body-claims t) (read-body-at t) reads.Post Inv-loop μ-loop
-  enum-told c = search needs
-
-  pub add-t17 : lts.Need-add-t17 (read-body-claims t) (read-body-at t) reads.Post Inv-loop μ-loop
-  add-t17 c = search needs
-
-  pub add-t18 : lts.Need-add-t18 (read-body-claims t) (read-body-at t) reads.Post Inv-loop μ-loop
-  add-t18 c = search needs
 
   pub returns : lts.Need-returns (read-body-claims t) (read-body-at t) reads.Post Inv-loop μ-loop
   returns c = body-closes _ _ _ _ _ _ _ _ (c .before .before .before .before .before .loop .inv) (c .before .before .before .before .loop-test .taken) _ (c .before .before .ask-part .ensures) (c .enum-told .given .1)
 
-  pub mul-read-part : lts.Need-mul-read-part (read-body-claims t) (read-body-at t) reads.Post Inv-loop μ-loop
-  mul-read-part c = search needs
-
-  pub sub-read-part : lts.Need-sub-read-part (read-body-claims t) (read-body-at t) reads.Post Inv-loop μ-loop
-  sub-read-part c = search needs
-
-  pub part-read-part-start : lts.Need-part-read-part-start (read-body-claims t) (read-body-at t) reads.Post Inv-loop μ-loop
-  part-read-part-start c = search needs
-
-  pub part-read-part-end : lts.Need-part-read-part-end (read-body-claims t) (read-body-at t) reads.Post Inv-loop μ-loop
-  part-read-part-end c = search needs
-
-  pub add-read-part : lts.Need-add-read-part (read-body-claims t) (read-body-at t) reads.Post Inv-loop μ-loop
-  add-read-part c = search needs
-
   pub read-part-requires : lts.Need-read-part-requires (read-body-claims t) (read-body-at t) reads.Post Inv-loop μ-loop
   read-part-requires c κs = (omega (arith, length-part (c .before .before .before .before .before .before .before .args .s .now) (c .before .before .before .before .before .loop .k), c .before .before .before .before .before .before .before .pre .0, c .before .before .before .before .before .before .before .pre .1), (omega (arith, length-part (c .before .before .before .before .before .before .before .args .s .now) (c .before .before .before .before .before .loop .k), c .before .before .before .before .before .before .before .pre .0, c .before .before .before .before .before .before .before .pre .1), (omega (arith, length-part (c .before .before .before .before .before .before .before .args .s .now) (c .before .before .before .before .before .loop .k), c .before .before .before .before .before .before .before .pre .0, c .before .before .before .before .before .before .before .pre .1), asked-front (c .before .before .before .before .before .before .before .args .s .now) (c .before .before .before .before .before .loop .k) _ _ (c .before .before .ask-part .ensures))))
-
-  pub enum-known-o : lts.Need-enum-known-o (read-body-claims t) (read-body-at t) reads.Post Inv-loop μ-loop
-  enum-known-o c = search needs
-
-  pub enum-told-2 : lts.Need-enum-told-2 (read-body-claims t) (read-body-at t) reads.Post Inv-loop μ-loop
-  enum-told-2 c = search needs
 
   pub returns-2 : lts.Need-returns-2 (read-body-claims t) (read-body-at t) reads.Post Inv-loop μ-loop
   returns-2 c = body-hands _ _ _ _ _ _ _ _ (c .before .before .before .before .before .before .before .before .loop .inv) (c .before .before .before .before .before .before .before .loop-test .taken) _ (c .before .before .before .before .before .ask-part .ensures) (c .before .before .before .before .match .keys2) _ (c .before .before .read-part .ensures) _ _ (c .enum-told2 .given .1)
 
   pub sub-k : lts.Need-sub-k (read-body-claims t) (read-body-at t) reads.Post Inv-loop μ-loop
-  sub-k c = omega (arith, body-again _ _ _ _ _ _ _ _ (c .before .before .before .before .before .before .before .before .before .before .loop .inv) (c .before .before .before .before .before .before .before .before .before .loop-test .taken) _ (c .before .before .before .before .before .before .before .ask-part .ensures) (c .before .before .before .before .before .before .match .keys2) _ (c .before .before .before .before .read-part .ensures) _ (c .before .before .o .given .1) .ahead)
+  sub-k c = omega (arith, again (c .before .before) .ahead)
 
   pub loop-less : lts.Need-loop-less (read-body-claims t) (read-body-at t) reads.Post Inv-loop μ-loop
-  loop-less c = let b = body-again _ _ _ _ _ _ _ _ (c .before .before .before .before .before .before .before .before .before .before .loop .inv) (c .before .before .before .before .before .before .before .before .before .loop-test .taken) _ (c .before .before .before .before .before .before .before .ask-part .ensures) (c .before .before .before .before .before .before .match .keys2) _ (c .before .before .before .before .read-part .ensures) _ (c .before .before .o .given .1) in omega (arith, b .ahead, b .loop .within)
+  loop-less c = let b = again (c .before .before) in omega (arith, b .ahead, b .loop .within)
 
   pub loop-again : lts.Need-loop-again (read-body-claims t) (read-body-at t) reads.Post Inv-loop μ-loop
-  loop-again c = body-again _ _ _ _ _ _ _ _ (c .before .before .before .before .before .before .before .before .before .before .loop .inv) (c .before .before .before .before .before .before .before .before .before .loop-test .taken) _ (c .before .before .before .before .before .before .before .ask-part .ensures) (c .before .before .before .before .before .before .match .keys2) _ (c .before .before .before .before .read-part .ensures) _ (c .before .before .o .given .1) .loop
-
-  pub add-refused : lts.Need-add-refused (read-body-claims t) (read-body-at t) reads.Post Inv-loop μ-loop
-  add-refused c = search needs
-
-  pub refused-requires : lts.Need-refused-requires (read-body-claims t) (read-body-at t) reads.Post Inv-loop μ-loop
-  refused-requires c κs = search needs
+  loop-again c = again (c .before .before) .loop
 
   pub returns-3 : lts.Need-returns-3 (read-body-claims t) (read-body-at t) reads.Post Inv-loop μ-loop
   returns-3 c = c .refused .ensures ∙ body-ends _ _ _ _ _ _ _ _ (c .before .before .loop .inv) (c .before .loop-test .left)

@@ -1,9 +1,9 @@
 -- `read_guarded`: message, then body. Assumes nothing.
 use Prim.Native.Nat.{ℕ, suc, _+_, _-_, _≤_, _<_}
-use mathlib.Core.Path.{_≡_, refl, sym, ap, _∙_}
+use mathlib.Core.Path.{_≡_}
 use native.Mathlib.Omega.{arith}
-use borrow.Author.Needs.{needs, length-unmapped}
-use lib.ListN.{length, getD, drop}
+use borrow.Author.Needs.{needs}
+use lib.ListN.{length, drop}
 use Rattle.messages.proofs.Tails.{length-part}
 use Rattle.messages.proofs.Tails as Tails
 use Rattle.messages.proofs.Laws.{readOf}
@@ -23,41 +23,11 @@ module _ (t : ℕ) where
   bounds : (c : lts.After-m (read-guarded-claims t) (read-guarded-at t) reads.Post) → (c .before .before .before .before .before .before .before .before .args .at + 1 < c .m .given .0 .0) × (c .m .given .0 .0 ≤ c .before .before .before .before .before .before .before .before .args .at + length (c .before .before .before .before .before .before .before .before .args .s .now))
   bounds c = message-bounds (c .before .before .before .before .before .before .before .before .args .s .now) (c .before .before .before .before .before .before .before .before .args .at) (c .before .before .before .before .before .before .before .before .args .nest) _ (c .before .before .before .before .before .before .before .before .args .owner) (c .before .before .before .before .before .before .before .before .args .table) _ (told (c .before .before)) (c .before .before .before .before .before .before .before .before .pre .1 .5) _ (c .m .given .1)
 
-  pub sub-read-message : lts.Need-sub-read-message (read-guarded-claims t) (read-guarded-at t) reads.Post
-  sub-read-message c = search needs
-
-  pub part-read-message-start : lts.Need-part-read-message-start (read-guarded-claims t) (read-guarded-at t) reads.Post
-  part-read-message-start c = search needs
-
-  pub part-read-message-end : lts.Need-part-read-message-end (read-guarded-claims t) (read-guarded-at t) reads.Post
-  part-read-message-end c = search needs
-
-  pub add-read-message : lts.Need-add-read-message (read-guarded-claims t) (read-guarded-at t) reads.Post
-  add-read-message c = search needs
-
-  pub mul-read-message : lts.Need-mul-read-message (read-guarded-claims t) (read-guarded-at t) reads.Post
-  mul-read-message c = search needs
-
-  pub sub-read-message-2 : lts.Need-sub-read-message-2 (read-guarded-claims t) (read-guarded-at t) reads.Post
-  sub-read-message-2 c = search needs
-
-  pub part-read-message-start-2 : lts.Need-part-read-message-start-2 (read-guarded-claims t) (read-guarded-at t) reads.Post
-  part-read-message-start-2 c = search needs
-
   pub part-read-message-end-2 : lts.Need-part-read-message-end-2 (read-guarded-claims t) (read-guarded-at t) reads.Post
   part-read-message-end-2 c = let l : length (c .before .before .before .before .args .around .indices) ≡ 65 = search needs in omega arith
 
   pub read-message-requires : lts.Need-read-message-requires (read-guarded-claims t) (read-guarded-at t) reads.Post
   read-message-requires c κs = omega (arith, length-part (c .before .before .before .before .before .args .s .now) 1, c .before .before .before .before .before .pre .1)
-
-  pub enum-known-m : lts.Need-enum-known-m (read-guarded-claims t) (read-guarded-at t) reads.Post
-  enum-known-m c = search needs
-
-  pub enum-told : lts.Need-enum-told (read-guarded-claims t) (read-guarded-at t) reads.Post
-  enum-told c = search needs
-
-  pub vacant-requires : lts.Need-vacant-requires (read-guarded-claims t) (read-guarded-at t) reads.Post
-  vacant-requires c κs = search needs
 
   pub returns : lts.Need-returns (read-guarded-claims t) (read-guarded-at t) reads.Post
   returns c = guarded-refused (c .before .before .before .before .before .before .before .before .before .args .s .now) _ _ _ _ (c .before .before .before .before .before .before .before .before .before .args .table) _ (told (c .before .before .before)) _ _ _ (c .before .enum-told .given .1) (c .vacant .ensures) (c .before .before .before .before .before .before .before .before .before .args .kind)
@@ -82,12 +52,6 @@ module _ (t : ℕ) where
 
   pub part-read-body-start : lts.Need-part-read-body-start (read-guarded-claims t) (read-guarded-at t) reads.Post
   part-read-body-start c = let b = bounds (c .before .before) in omega (arith, b .1, c .before .before .before .before .before .before .before .before .before .before .pre .1)
-
-  pub part-read-body-end : lts.Need-part-read-body-end (read-guarded-claims t) (read-guarded-at t) reads.Post
-  part-read-body-end c = search needs
-
-  pub add-read-body : lts.Need-add-read-body (read-guarded-claims t) (read-guarded-at t) reads.Post
-  add-read-body c = search needs
 
   pub read-body-requires : lts.Need-read-body-requires (read-guarded-claims t) (read-guarded-at t) reads.Post
   read-body-requires c κs = let b = bounds (c .before .before .before) in let n : ℕ = c .before .before .before .m .given .0 .0 in (omega (arith, b .0, b .1, c .before .before .before .before .before .before .before .before .before .before .before .pre .0, length-part (c .before .before .before .before .before .before .before .before .before .before .before .args .s .now) (n - c .before .before .before .before .before .before .before .before .before .before .before .args .at)), omega (arith, b .0, b .1, c .before .before .before .before .before .before .before .before .before .before .before .pre .1, entered-next _ _ _ (c .before .before .before .before .before .before .before .before .before .before .before .args .table) _ (c .before .enter-part .ensures), length-part (c .before .before .before .before .before .before .before .before .before .before .before .args .s .now) (n - c .before .before .before .before .before .before .before .before .before .before .before .args .at)))

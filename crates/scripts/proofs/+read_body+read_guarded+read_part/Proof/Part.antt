@@ -1,15 +1,15 @@
 -- `read_part`: by what its first word is. Assumes nothing.
-use Prim.Native.Nat.{ℕ, suc, _+_, _-_, _≤_, _<_}
-use mathlib.Core.Path.{_≡_, refl, sym, ap, _∙_}
+use Prim.Native.Nat.{ℕ, suc, _+_}
+use mathlib.Core.Path.{_≡_, refl, sym, _∙_}
 use native.Mathlib.Omega.{arith}
-use borrow.Author.Needs.{needs, length-unmapped}
-use lib.ListN.{length, getD, drop}
+use borrow.Author.Needs.{needs}
+use lib.ListN.{length, drop}
 use Rattle.messages.proofs.Tails.{length-part}
 use Rattle.messages.proofs.Tails as Tails
 use Rattle.messages.proofs.Laws.{readOf}
 use Rattle.scripts.proofs.Steps.{lent, entered-next, asked-nest, part-unfit, part-close, receipt-law, output-law, output-refused}
 use Rattle.scripts.specs.Script.{fits, partFrom}
-use Rattle.scripts.specs.declared.PartWord.the-variants.{Close, Ambient, Action, Receipt, Output, No}
+use Rattle.scripts.specs.declared.PartWord.the-variants.{Ambient, Action, Receipt}
 use Rattle.scripts.proofs.+read_body+read_guarded+read_part.Lts-read_part as lts
 use Rattle.scripts.proofs.read_part.Reads as reads
 use Rattle.scripts.proofs.+read_body+read_guarded+read_part.Proof.Measures.{read-part-at, read-part-claims}
@@ -22,90 +22,21 @@ module _ (t : ℕ) where
       let l : length (c .before .before .before .before .before .before .before .before .args .around .indices) ≡ 65 = search needs in
       lent (c .before .before .before .before .before .before .before .before .args .around .indices) (c .before .before .before .before .before .before .before .before .args .around .first) (Tails.part (c .before .before .before .before .before .before .before .before .args .s .now) 1) (c .before .before .before .before .before .before .before .before .args .at + 1) (c .before .before .before .before .before .before .before .before .args .nest) (suc (c .before .before .before .before .before .before .before .before .args .table .count)) _ l (c .read-message .ensures (suc (c .before .before .before .before .before .before .before .before .args .table .count)))
 
-  pub enum-known-w : lts.Need-enum-known-w (read-part-claims t) (read-part-at t) reads.Post
-  enum-known-w c = search needs
-
-  pub refused-requires : lts.Need-refused-requires (read-part-claims t) (read-part-at t) reads.Post
-  refused-requires c κs = search needs
-
-  pub enum-told : lts.Need-enum-told (read-part-claims t) (read-part-at t) reads.Post
-  enum-told c = search needs
-
-  pub refused-requires-2 : lts.Need-refused-requires-2 (read-part-claims t) (read-part-at t) reads.Post
-  refused-requires-2 c κs = search needs
-
-  pub enum-told-2 : lts.Need-enum-told-2 (read-part-claims t) (read-part-at t) reads.Post
-  enum-told-2 c = search needs
-
   pub read-guarded-requires : lts.Need-read-guarded-requires (read-part-claims t) (read-part-at t) reads.Post
   unfolding fits
   read-guarded-requires c κs = let h = asked-nest _ _ Ambient (sym (c .enum-told2 .given .1) ∙ c .before .before .before .pre .1 .1 .1) refl in (omega (arith, c .before .before .before .pre .0), omega (arith, h, c .before .before .before .pre .1 .0, c .before .before .before .pre .1 .1 .0))
-
-  pub enum-told-3 : lts.Need-enum-told-3 (read-part-claims t) (read-part-at t) reads.Post
-  enum-told-3 c = search needs
 
   pub read-guarded-requires-2 : lts.Need-read-guarded-requires-2 (read-part-claims t) (read-part-at t) reads.Post
   unfolding fits
   read-guarded-requires-2 c κs = let h = asked-nest _ _ Action (sym (c .enum-told3 .given .1) ∙ c .before .before .before .pre .1 .1 .1) refl in (omega (arith, c .before .before .before .pre .0), omega (arith, h, c .before .before .before .pre .1 .0, c .before .before .before .pre .1 .1 .0))
 
-  pub enum-told-4 : lts.Need-enum-told-4 (read-part-claims t) (read-part-at t) reads.Post
-  enum-told-4 c = search needs
-
-  pub cast-with-receipt : lts.Need-cast-with-receipt (read-part-claims t) (read-part-at t) reads.Post
-  cast-with-receipt c = search needs
-
   pub with-receipt-requires : lts.Need-with-receipt-requires (read-part-claims t) (read-part-at t) reads.Post
   unfolding fits
   with-receipt-requires c κs = omega (arith, c .before .before .before .pre .0, c .before .before .before .pre .1 .0, c .before .before .before .pre .1 .1 .0, asked-nest _ _ Receipt (sym (c .enum-told4 .given .1) ∙ c .before .before .before .pre .1 .1 .1) refl)
 
-  pub cast-enter-part : lts.Need-cast-enter-part (read-part-claims t) (read-part-at t) reads.Post
-  cast-enter-part c = search needs
-
-  pub enter-part-requires : lts.Need-enter-part-requires (read-part-claims t) (read-part-at t) reads.Post
-  enter-part-requires c κs = search needs
-
-  pub sub-read-body : lts.Need-sub-read-body (read-part-claims t) (read-part-at t) reads.Post
-  sub-read-body c = search needs
-
-  pub part-read-body-start : lts.Need-part-read-body-start (read-part-claims t) (read-part-at t) reads.Post
-  part-read-body-start c = search needs
-
-  pub part-read-body-end : lts.Need-part-read-body-end (read-part-claims t) (read-part-at t) reads.Post
-  part-read-body-end c = search needs
-
-  pub add-read-body : lts.Need-add-read-body (read-part-claims t) (read-part-at t) reads.Post
-  add-read-body c = search needs
-
-  pub add-read-body-2 : lts.Need-add-read-body-2 (read-part-claims t) (read-part-at t) reads.Post
-  add-read-body-2 c = search needs
-
   pub read-body-requires : lts.Need-read-body-requires (read-part-claims t) (read-part-at t) reads.Post
   unfolding fits
   read-body-requires c κs = let e = entered-next _ _ _ (c .before .before .before .before .before .before .args .table) _ (c .before .enter-part .ensures) in let l = length-part (c .before .before .before .before .before .before .args .s .now) 1 in (omega (arith, l, c .before .before .before .before .before .before .pre .0, c .before .before .before .before .before .before .pre .1 .1 .0), omega (arith, e, l, c .before .before .with-receipt .ensures .0, c .before .before .before .before .before .before .pre .1 .0, asked-nest _ _ Receipt (sym (c .before .before .before .enum-told4 .given .1) ∙ c .before .before .before .before .before .before .pre .1 .1 .1) refl))
-
-  pub enum-told-5 : lts.Need-enum-told-5 (read-part-claims t) (read-part-at t) reads.Post
-  enum-told-5 c = search needs
-
-  pub sub-read-message : lts.Need-sub-read-message (read-part-claims t) (read-part-at t) reads.Post
-  sub-read-message c = search needs
-
-  pub part-read-message-start : lts.Need-part-read-message-start (read-part-claims t) (read-part-at t) reads.Post
-  part-read-message-start c = search needs
-
-  pub part-read-message-end : lts.Need-part-read-message-end (read-part-claims t) (read-part-at t) reads.Post
-  part-read-message-end c = search needs
-
-  pub add-read-message : lts.Need-add-read-message (read-part-claims t) (read-part-at t) reads.Post
-  add-read-message c = search needs
-
-  pub mul-read-message : lts.Need-mul-read-message (read-part-claims t) (read-part-at t) reads.Post
-  mul-read-message c = search needs
-
-  pub sub-read-message-2 : lts.Need-sub-read-message-2 (read-part-claims t) (read-part-at t) reads.Post
-  sub-read-message-2 c = search needs
-
-  pub part-read-message-start-2 : lts.Need-part-read-message-start-2 (read-part-claims t) (read-part-at t) reads.Post
-  part-read-message-start-2 c = search needs
 
   pub part-read-message-end-2 : lts.Need-part-read-message-end-2 (read-part-claims t) (read-part-at t) reads.Post
   part-read-message-end-2 c = let l : length (c .before .before .before .before .before .before .args .around .indices) ≡ 65 = search needs in omega arith
@@ -113,26 +44,8 @@ module _ (t : ℕ) where
   pub read-message-requires : lts.Need-read-message-requires (read-part-claims t) (read-part-at t) reads.Post
   read-message-requires c κs = omega (arith, length-part (c .before .before .before .before .before .before .before .args .s .now) 1, c .before .before .before .before .before .before .before .pre .1 .0, c .before .before .before .before .before .before .before .pre .1 .1 .0)
 
-  pub enum-known-m : lts.Need-enum-known-m (read-part-claims t) (read-part-at t) reads.Post
-  enum-known-m c = search needs
-
-  pub enum-told-6 : lts.Need-enum-told-6 (read-part-claims t) (read-part-at t) reads.Post
-  enum-told-6 c = search needs
-
-  pub vacant-requires : lts.Need-vacant-requires (read-part-claims t) (read-part-at t) reads.Post
-  vacant-requires c κs = search needs
-
   pub returns : lts.Need-returns (read-part-claims t) (read-part-at t) reads.Post
   returns c = rw (c .before .before .before .before .before .before .before .before .enum-told5 .given .1) (output-refused (c .before .before .before .before .before .before .before .before .before .before .before .args .s .now) _ _ _ _ (c .before .before .before .before .before .before .before .before .before .before .before .args .table) _ (told (c .before .before .before)) _ _ _ (c .before .enum-told6 .given .1) (c .vacant .ensures))
-
-  pub cast-enter-part-2 : lts.Need-cast-enter-part-2 (read-part-claims t) (read-part-at t) reads.Post
-  cast-enter-part-2 c = search needs
-
-  pub add-enter-part : lts.Need-add-enter-part (read-part-claims t) (read-part-at t) reads.Post
-  add-enter-part c = search needs
-
-  pub enter-part-requires-2 : lts.Need-enter-part-requires-2 (read-part-claims t) (read-part-at t) reads.Post
-  enter-part-requires-2 c κs = search needs
 
   pub returns-2 : lts.Need-returns-2 (read-part-claims t) (read-part-at t) reads.Post
   returns-2 c = rw (c .before .before .w .given .1) (c .refused .ensures ∙ part-unfit (c .before .before .before .before .before .args .s .now) _ _ _ _ _ _)

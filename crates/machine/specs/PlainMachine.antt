@@ -4,27 +4,11 @@ use Prim.Native.Nat.{ℕ, _+_, _*_}
 use mathlib.Core.List.{List, [], _∷_}
 use mathlib.Core.Option.{Option, none, some}
 use lib.ListN.{length}
-use Rattle.messages.specs.Message.{Message, name, variable, enter, exit, opens, empty, path, nameOf, substitute, substituteItems}
+use Rattle.messages.specs.Message.{Message, nameOf, firstItem, substitute, substituteItems}
 use Rattle.scripts.specs.Tree.{Head, ambient, action, receipt, output, Body, close, part, mapHeads, parts, PlainHead, Plain, settle}
-use Rattle.closures.specs.Moves.{View, Moved, moveHere, anywhere}
-use Rattle.closures.specs.declared.First.{First}
-use Rattle.closures.specs.declared.First.the-variants.{Nothing, Enter, Exit, Open, Other}
+use Rattle.machine.specs.Moves.{View, Moved, moveHere, anywhere}
 
--- what an item asks: "IN, EXIT or OPEN of a name m"
-unfoldable pub asks : Message → First
-asks (name n) = Other
-asks (variable v) = Other
-asks (enter m) = Enter (nameOf m)
-asks (exit m) = Exit (nameOf m)
-asks (opens m) = Open (nameOf m)
-asks empty = Other
-asks (path m k) = Other
-
--- the first of an action's items
-unfoldable pub firstItem : List Message → First
-firstItem [] = Nothing
-firstItem (i ∷ is) = asks i
-
+-- the items behind the first
 unfoldable pub rest : List Message → List Message
 rest [] = []
 rest (i ∷ is) = is
@@ -64,5 +48,5 @@ weightOf m = parts (m .tree) + 2 * m .receipts
 
 -- To unfold this is to unfold every definition of this module: for a proof by computation.
 unfoldable pub computing : Unit {0}
-unfolding asks firstItem rest substituteHead substituteBody settledBy move weightOf
+unfolding rest substituteHead substituteBody settledBy move weightOf
 computing = tt

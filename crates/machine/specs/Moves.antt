@@ -9,9 +9,9 @@ use Rattle.messages.specs.Message.{Message}
 use Rattle.messages.specs.declared.Named.{Named}
 use Rattle.messages.specs.declared.Named.the-variants.{Called, Nameless}
 use Rattle.scripts.specs.Tree.{Head, ambient, action, receipt, output, Body, close, part, put, merge}
-use Rattle.closures.specs.Bodies.{_>>=_, orElse, check, find, drop, alter, holder}
-use Rattle.closures.specs.declared.First.{First}
-use Rattle.closures.specs.declared.First.the-variants.{Nothing, Enter, Exit, Open, Other}
+use Rattle.machine.specs.Bodies.{_>>=_, orElse, check, find, drop, alter, holder}
+use Rattle.messages.specs.declared.First.{First}
+use Rattle.messages.specs.declared.First.the-variants.{Nothing, Enter, Exit, Open, Other}
 
 -- How a machine reads what its heads hold: `A` is what an action is held as.
 pub record View (A : Type 0) : Type 0 where

@@ -11,12 +11,12 @@ use Rattle.messages.specs.Message.{Message}
 use Rattle.messages.specs.declared.Named.{Named}
 use Rattle.messages.specs.declared.Named.the-variants.{Called, Nameless}
 use Rattle.scripts.specs.Tree.{Head, ambient, action, receipt, output, isAmbient, Body, close, part, tops, put, merge, mapHeads, settleBy}
-use Rattle.closures.specs.Bodies.{orElse, check, find, drop, alter, holder}
-use Rattle.closures.specs.Moves.{View, isNamed, sameName, toEnter, toExit, toOpen, Moved, variableOf, messageOf, quiet, onward, headName, firstOf, spentHead, spend, enterMove, exitMove, openMove, receiveMove, moveHere, inside, anywhere}
-use Rattle.closures.specs.declared.First.{First}
-use Rattle.closures.specs.declared.First.the-variants.{Nothing, Enter, Exit, Open, Other}
-use Rattle.closures.proofs.Options.{byTest, bind-map, bind-same, orElse-map, cond-inv, cond-map, onward-map}
-use Rattle.closures.proofs.Inversion.{isNamed-inv, variableOf-inv, messageOf-inv, found, Makes, inside-inv, anywhere-inv}
+use Rattle.machine.specs.Bodies.{orElse, check, find, drop, alter, holder}
+use Rattle.machine.specs.Moves.{View, isNamed, sameName, toEnter, toExit, toOpen, Moved, variableOf, messageOf, quiet, onward, headName, firstOf, spentHead, spend, enterMove, exitMove, openMove, receiveMove, moveHere, inside, anywhere}
+use Rattle.messages.specs.declared.First.{First}
+use Rattle.messages.specs.declared.First.the-variants.{Nothing, Enter, Exit, Open, Other}
+use Rattle.machine.proofs.Options.{byTest, bind-map, bind-same, orElse-map, cond-inv, cond-map, onward-map}
+use Rattle.machine.proofs.Inversion.{isNamed-inv, variableOf-inv, messageOf-inv, found, Makes, inside-inv, anywhere-inv}
 
 -- Looking up and rewriting, with other heads.
 module _ {G H : Type 0} (F : G → H) where

@@ -9,11 +9,11 @@ use lib.Dec.{eqb, ltb}
 use borrow.Author.Tests.{eqb-true}
 use Rattle.messages.specs.Message.{Message}
 use Rattle.scripts.specs.Tree.{Head, receipt, output, isAmbient, Body, close, part, put, merge, mapHeads, settleBy, bare, Plain, settle}
-use Rattle.closures.specs.Bodies.{find, drop, alter}
-use Rattle.closures.specs.Moves.{View, Moved, spentHead, spend, moveHere}
-use Rattle.closures.specs.PlainMachine.{plain, move}
-use Rattle.closures.proofs.Options.{byTest, some-is, none≢some}
-use Rattle.closures.proofs.Inversion.{Here, by-open, by-receive, by-enter, by-exit, here-inv, Makes, now, inner, outer, move-inv}
+use Rattle.machine.specs.Bodies.{find, drop, alter}
+use Rattle.machine.specs.Moves.{View, Moved, spentHead, spend, moveHere}
+use Rattle.machine.specs.PlainMachine.{plain, move}
+use Rattle.machine.proofs.Options.{byTest, some-is, none≢some}
+use Rattle.machine.proofs.Inversion.{Here, by-open, by-receive, by-enter, by-exit, here-inv, Makes, now, inner, outer, move-inv}
 
 -- every part, by its number and its head, has Q
 abbrev pub Everywhere : {H : Type 0} → (ℕ → H → Type 0) → Body H → Type 0

@@ -4,8 +4,8 @@ use mathlib.Core.Bool.{Bool, true, false, _&&_, cond, false≢true}
 use mathlib.Core.Path.{_≡_, refl, sym, ap}
 use mathlib.Core.Logic.{_⊎_, inl, inr}
 use mathlib.Core.Option.{Option, none, some, Option·map, Option·none-ne-some, Option·some-injective}
-use Rattle.closures.specs.Bodies.{_>>=_, orElse, check}
-use Rattle.closures.specs.Moves.{Moved, onward}
+use Rattle.machine.specs.Bodies.{_>>=_, orElse, check}
+use Rattle.machine.specs.Moves.{Moved, onward}
 use Rattle.scripts.specs.Tree.{Head, Body}
 
 -- a case split on a test, with the equation in hand

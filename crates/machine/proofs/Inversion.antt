@@ -1,7 +1,7 @@
 -- What a move that is made says: which parts were found where, which names they had, and the tree that stands after it.
 -- Over any view; then what names and first items are in the plain machine. Assumes nothing.
 use Prim.Native.Nat.{ℕ}
-use mathlib.Core.Bool.{true, false, not, _&&_, false≢true}
+use mathlib.Core.Bool.{true, false, not, _&&_, cond, false≢true}
 use mathlib.Core.List.{List, [], _∷_}
 use mathlib.Core.Path.{_≡_, refl, sym, ap, _∙_, subst, subst₂}
 use mathlib.Core.Logic.{inl, inr}
@@ -9,16 +9,16 @@ use mathlib.Core.Option.{Option, none, some}
 use native.Mathlib.Omega.{arith}
 use lib.Dec.{eqb}
 use borrow.Author.Tests.{eqb-true, not-true}
-use Rattle.messages.specs.Message.{Message, name, variable, enter, exit, opens, empty, path, nameOf}
+use Rattle.messages.specs.Message.{Message, name, variable, enter, exit, opens, empty, path, nameOf, asks, firstItem}
 use Rattle.messages.specs.declared.Named.{Named}
 use Rattle.messages.specs.declared.Named.the-variants.{Called, Nameless}
 use Rattle.scripts.specs.Tree.{Head, ambient, action, receipt, output, Body, close, part, put, merge, Plain, settle}
-use Rattle.closures.specs.Bodies.{check, find, drop, alter, holder}
-use Rattle.closures.specs.Moves.{View, isNamed, isThat, sameName, toEnter, toExit, toOpen, Moved, variableOf, messageOf, quiet, headName, firstOf, spend, enterMove, exitMove, openMove, receiveMove, moveHere, inside, anywhere}
-use Rattle.closures.specs.PlainMachine.{asks, firstItem, plain, settledBy, move}
-use Rattle.closures.specs.declared.First.{First}
-use Rattle.closures.specs.declared.First.the-variants.{Nothing, Enter, Exit, Open, Other}
-use Rattle.closures.proofs.Options.{and-inv, some-is, none≢some, bind-inv, check-inv, cond-inv, orElse-inv, onward-inv}
+use Rattle.machine.specs.Bodies.{orElse, check, find, drop, alter, holder}
+use Rattle.machine.specs.Moves.{View, isNamed, isThat, sameName, toEnter, toExit, toOpen, Moved, variableOf, messageOf, quiet, onward, headName, firstOf, spend, enterMove, exitMove, openMove, receiveMove, moveHere, inside, anywhere}
+use Rattle.machine.specs.PlainMachine.{plain, settledBy, move}
+use Rattle.messages.specs.declared.First.{First}
+use Rattle.messages.specs.declared.First.the-variants.{Nothing, Enter, Exit, Open, Other}
+use Rattle.machine.proofs.Options.{and-inv, some-is, none≢some, bind-inv, check-inv, cond-inv, orElse-inv, onward-inv}
 
 pub isNamed-inv : (x : Named) → isNamed x ≡ true → (n : ℕ) × (x ≡ Called n)
 unfolding isNamed

@@ -12,11 +12,11 @@ use lib.ListN.{length}
 use borrow.Author.Tests.{eqb-true, eqb-false, eq-eqb, ne-eqb}
 use Rattle.messages.specs.Message.{Message}
 use Rattle.scripts.specs.Tree.{Head, receipt, output, Body, close, part, one, isAmbient, sum, parts, count, put, merge, mapHeads, settleBy, bare, Plain, settle}
-use Rattle.closures.specs.Bodies.{find, drop, alter}
-use Rattle.closures.specs.Moves.{View, Moved, spentHead, spend, moveHere, anywhere}
-use Rattle.closures.specs.PlainMachine.{substituteHead, substituteBody, plain, move, weightOf}
-use Rattle.closures.proofs.Options.{byTest, some-is, none≢some}
-use Rattle.closures.proofs.Inversion.{Received, Entered, Here, by-open, by-receive, by-enter, by-exit, here-inv, Makes, now, inner, outer, anywhere-inv, move-inv}
+use Rattle.machine.specs.Bodies.{find, drop, alter}
+use Rattle.machine.specs.Moves.{View, Moved, spentHead, spend, moveHere, anywhere}
+use Rattle.machine.specs.PlainMachine.{substituteHead, substituteBody, plain, move, weightOf}
+use Rattle.machine.proofs.Options.{byTest, some-is, none≢some}
+use Rattle.machine.proofs.Inversion.{Received, Entered, Here, by-open, by-receive, by-enter, by-exit, here-inv, Makes, now, inner, outer, anywhere-inv, move-inv}
 
 -- one where the numbers are the same
 one-same : (i : ℕ) → one (eqb i i) ≡ 1
@@ -220,7 +220,7 @@ pub by-numbers : {A : Type 0} (view : View A) (u : ℕ → ℕ) (w : ℕ) → ((
     ((k l : ℕ) → w ≤ u k + u l) → Shrinks view (λ k h. u k) w
 by-numbers view u w delivers least = record { spends = λ k h. omega arith; delivers = delivers; takes = λ k l v m. least k l }
 
-plain-numbers : (u : ℕ → ℕ) (w : ℕ) → ((k l : ℕ) → w ≤ u k + u l) → Shrinks plain (λ k h. u k) w
+pub plain-numbers : (u : ℕ → ℕ) (w : ℕ) → ((k l : ℕ) → w ≤ u k + u l) → Shrinks plain (λ k h. u k) w
 unfolding substituteBody
 plain-numbers u w = by-numbers plain u w (λ v m b. omega (arith, map-sum (λ k h. u k) (substituteHead v m) b))
 

@@ -1,0 +1,195 @@
+-- `bindings::bulk_from` and `bindings::own_bulk` meet their contracts. The measure falls with the bindings, and then with
+-- the words and messages that are left. Assumes nothing.
+use Prim.Native.Nat.{ℕ, suc, _+_, _*_, _<_}
+use mathlib.Core.List.{List}
+use mathlib.Core.Path.{_≡_, ap, _∙_}
+use native.Mathlib.Omega.{arith}
+use borrow.Author.Needs.{needs}
+use lib.ListN.{length, drop, getD, length-drop}
+use Rattle.messages.specs.Message.{Message}
+use Rattle.messages.specs.Spelling.{spelled}
+use Rattle.bindings.specs.Resolve.{bindingsIn}
+use Rattle.bindings.specs.Measures.{capped, bulk}
+use Rattle.bindings.specs.Passes.{firstWord, firsts, allItems, ownItems}
+use Rattle.bindings.proofs.Passing.{none-pending, one-message, unbound-free, single, given-items}
+use Rattle.bindings.proofs.Counting.{below-count, kept-length, kept-given, cached-drop, one-size, drop-past, drop-within, bulk-none, bulk-sum, bulk-only, rank, rank-less, rank-older}
+use borrow.Fn.Kinds.{In}
+use borrow.Fn.PlainCycle.{Measures, is, falls, and}
+use Rattle.bindings.proofs.bulk_from.Reads as bulk-from
+use Rattle.bindings.proofs.bulk_from.Kinds as bulk-from-kinds
+use Rattle.bindings.proofs.+bulk_from+own_bulk.Lts-bulk_from as bulk-from-lts
+use Rattle.bindings.proofs.own_bulk.Reads as own-bulk
+use Rattle.bindings.proofs.own_bulk.Kinds as own-bulk-kinds
+use Rattle.bindings.proofs.+bulk_from+own_bulk.Lts-own_bulk as own-bulk-lts
+use Rattle.bindings.proofs.after_own.Reads as after-own-reads
+use Rattle.bindings.proofs.bound.Reads as bound-reads
+use Rattle.bindings.proofs.first_word.Reads as first-word-reads
+use Rattle.bindings.proofs.given.Reads as given-reads
+use Rattle.bindings.proofs.own.Reads as own-reads
+use Rattle.bindings.proofs.size_from.Reads as size-from-reads
+use Rattle.bindings.proofs.sum.Reads as sum-reads
+use Rattle.bindings.proofs.tail.Reads as tail-reads
+use Rattle.bindings.proofs.+bulk_from+own_bulk.{statement}
+use Rattle.bindings.proofs.+bulk_from+own_bulk.Tie.{close}
+
+abbrev μ-bulk-from : Measures 7 bulk-from-kinds.ps ℕ
+μ-bulk-from κs a = rank (length (a .1 .1 .1 .1 .0 .now)) (suc (3 * length (a .1 .0 .now) + a .1 .1 .0))
+
+abbrev μ-own-bulk : Measures 7 own-bulk-kinds.ps ℕ
+μ-own-bulk κs a = rank (length (a .1 .1 .1 .0 .now)) 0
+
+abbrev bulk-from-at : ℕ → In 7 bulk-from-kinds.ps
+bulk-from-at t = and 7 bulk-from-kinds.ps (is 7 bulk-from-kinds.ps μ-bulk-from t) bulk-from.Pre
+
+abbrev bulk-from-below : ℕ → In 7 bulk-from-kinds.ps
+bulk-from-below t =
+    and 7 bulk-from-kinds.ps (falls 7 bulk-from-kinds.ps _<_ μ-bulk-from t) bulk-from.Pre
+
+abbrev own-bulk-at : ℕ → In 7 own-bulk-kinds.ps
+own-bulk-at t = and 7 own-bulk-kinds.ps (is 7 own-bulk-kinds.ps μ-own-bulk t) own-bulk.Pre
+
+abbrev own-bulk-below : ℕ → In 7 own-bulk-kinds.ps
+own-bulk-below t =
+    and 7 own-bulk-kinds.ps (falls 7 own-bulk-kinds.ps _<_ μ-own-bulk t) own-bulk.Pre
+
+abbrev bulk-from-claims : ℕ → bulk-from-lts.Claims
+bulk-from-claims t = (own-reads.Asked, own-reads.Learnt, after-own-reads.Asked, after-own-reads.Learnt, tail-reads.Asked, tail-reads.Learnt, bulk-from-below t, bulk-from.Post, own-bulk-below t, own-bulk.Post, sum-reads.Asked, sum-reads.Learnt)
+
+abbrev own-bulk-claims : ℕ → own-bulk-lts.Claims
+own-bulk-claims t = (first-word-reads.Asked, first-word-reads.Learnt, bound-reads.Asked, bound-reads.Learnt, given-reads.Asked, given-reads.Learnt, tail-reads.Asked, tail-reads.Learnt, bulk-from-below t, bulk-from.Post, size-from-reads.Asked, size-from-reads.Learnt, sum-reads.Asked, sum-reads.Learnt)
+
+module _ (t : ℕ) where
+  bulk-from-returns : bulk-from-lts.Need-returns (bulk-from-claims t) (bulk-from-at t) bulk-from.Post
+  bulk-from-returns c =
+      bulk-none _ (c .before .before .before .before .before .before .before .before .args .offset) (none-pending (bindingsIn (c .before .before .before .before .before .before .before .before .args .script .now) (c .before .before .before .before .before .before .before .before .args .variables .now) (c .before .before .before .before .before .before .before .before .args .places .now)) _ (spelled (c .before .before .before .before .before .before .before .before .args .words .now)) (c .if1 .taken))
+
+  bulk-from-own-requires : bulk-from-lts.Need-own-requires (bulk-from-claims t) (bulk-from-at t) bulk-from.Post
+  bulk-from-own-requires c κs =
+      kept-length (c .before .before .before .before .before .before .before .before .pre .1 .1 .counted)
+
+  bulk-from-after-own-requires : bulk-from-lts.Need-after-own-requires (bulk-from-claims t) (bulk-from-at t) bulk-from.Post
+  bulk-from-after-own-requires c κs =
+      (omega (arith, c .before .if1 .left), c .before .before .before .before .before .before .before .before .before .pre .1 .0)
+
+  bulk-from-bulk-from-requires : bulk-from-lts.Need-bulk-from-requires (bulk-from-claims t) (bulk-from-at t) bulk-from.Post
+  bulk-from-bulk-from-requires c κs =
+      let l = ap length (c .tail .ensures) in
+      let s = c .before .before .after-own .ensures .0 in
+      (rank-less _ _ _ _ (c .before .before .before .before .before .before .before .before .before .before .before .before .pre .0) (omega (arith, l, s .1)), (omega (arith, l, s .0, c .before .before .before .before .before .before .before .before .before .before .before .before .pre .1 .0), c .before .before .before .before .before .before .before .before .before .before .before .before .pre .1 .1, omega (arith, c .before .before .before .before .before .before .before .before .before .before .before .before .pre .1 .2)))
+
+  bulk-from-returns-2 : bulk-from-lts.Need-returns-2 (bulk-from-claims t) (bulk-from-at t) bulk-from.Post
+  bulk-from-returns-2 c =
+      c .bulk-from .ensures
+      ∙ rw (c .before .tail .ensures) (ap (λ (l : List Message). capped (bulk l)) (drop-past _ (ownItems (bindingsIn (c .before .before .before .before .before .before .before .before .before .before .before .before .before .args .script .now) (c .before .before .before .before .before .before .before .before .before .before .before .before .before .args .variables .now) (c .before .before .before .before .before .before .before .before .before .before .before .before .before .args .places .now)) (c .before .before .before .before .before .before .before .before .before .before .before .before .before .args .words .now)) (allItems (bindingsIn (c .before .before .before .before .before .before .before .before .before .before .before .before .before .args .script .now) (c .before .before .before .before .before .before .before .before .before .before .before .before .before .args .variables .now) (c .before .before .before .before .before .before .before .before .before .before .before .before .before .args .places .now)) (firsts (c .before .before .before .after-own .result .left) (spelled (drop (c .before .before .before .after-own .result .used) (c .before .before .before .before .before .before .before .before .before .before .before .before .before .args .words .now))))) (c .before .before .before .before .before .before .before .before .before .before .before .before .before .args .offset) (c .before .before .before .before .own .result) (c .before .before .before .after-own .ensures .1 (bindingsIn (c .before .before .before .before .before .before .before .before .before .before .before .before .before .args .script .now) (c .before .before .before .before .before .before .before .before .before .before .before .before .before .args .variables .now) (c .before .before .before .before .before .before .before .before .before .before .before .before .before .args .places .now))) (c .before .before .before .before .own .ensures (c .before .before .before .before .before .before .before .before .before .before .before .before .before .args .script .now) (c .before .before .before .before .before .before .before .before .before .before .before .before .before .args .places .now) (c .before .before .before .before .before .before .before .before .before .before .before .before .before .pre .1 .1 .counted)) (c .before .before .if2 .taken) (c .before .before .before .before .before .before .before .before .before .before .before .before .before .pre .1 .2)))
+
+  bulk-from-own-bulk-requires : bulk-from-lts.Need-own-bulk-requires (bulk-from-claims t) (bulk-from-at t) bulk-from.Post
+  bulk-from-own-bulk-requires c κs =
+      (rank-less _ _ _ _ (c .before .before .before .before .before .before .before .before .before .before .before .pre .0) (omega arith), (c .before .before .before .before .before .before .before .before .before .before .before .pre .1 .1, c .before .before .before .before .before .before .before .before .before .before .before .pre .1 .2, below-count _ _ _ (c .before .before .own .ensures (c .before .before .before .before .before .before .before .before .before .before .before .args .script .now) (c .before .before .before .before .before .before .before .before .before .before .before .args .places .now) (c .before .before .before .before .before .before .before .before .before .before .before .pre .1 .1 .counted)) (c .if2 .left)))
+
+  bulk-from-bulk-from-requires-2 : bulk-from-lts.Need-bulk-from-requires-2 (bulk-from-claims t) (bulk-from-at t) bulk-from.Post
+  bulk-from-bulk-from-requires-2 c κs =
+      let l = ap length (c .tail2 .ensures) in
+      let s = c .before .before .before .after-own .ensures .0 in
+      (rank-less _ _ _ _ (c .before .before .before .before .before .before .before .before .before .before .before .before .before .pre .0) (omega (arith, l, s .1)), (omega (arith, l, s .0, c .before .before .before .before .before .before .before .before .before .before .before .before .before .pre .1 .0), c .before .before .before .before .before .before .before .before .before .before .before .before .before .pre .1 .1, omega arith))
+
+  bulk-from-returns-3 : bulk-from-lts.Need-returns-3 (bulk-from-claims t) (bulk-from-at t) bulk-from.Post
+  bulk-from-returns-3 c =
+      bulk-sum (drop (c .before .before .before .before .before .before .before .before .before .before .before .before .before .before .before .args .offset) (ownItems (bindingsIn (c .before .before .before .before .before .before .before .before .before .before .before .before .before .before .before .args .script .now) (c .before .before .before .before .before .before .before .before .before .before .before .before .before .before .before .args .variables .now) (c .before .before .before .before .before .before .before .before .before .before .before .before .before .before .before .args .places .now)) (c .before .before .before .before .before .before .before .before .before .before .before .before .before .before .before .args .words .now))) (allItems (bindingsIn (c .before .before .before .before .before .before .before .before .before .before .before .before .before .before .before .args .script .now) (c .before .before .before .before .before .before .before .before .before .before .before .before .before .before .before .args .variables .now) (c .before .before .before .before .before .before .before .before .before .before .before .before .before .before .before .args .places .now)) (firsts (c .before .before .before .before .before .after-own .result .left) (spelled (drop (c .before .before .before .before .before .after-own .result .used) (c .before .before .before .before .before .before .before .before .before .before .before .before .before .before .before .args .words .now))))) _
+      (drop-within _ (ownItems (bindingsIn (c .before .before .before .before .before .before .before .before .before .before .before .before .before .before .before .args .script .now) (c .before .before .before .before .before .before .before .before .before .before .before .before .before .before .before .args .variables .now) (c .before .before .before .before .before .before .before .before .before .before .before .before .before .before .before .args .places .now)) (c .before .before .before .before .before .before .before .before .before .before .before .before .before .before .before .args .words .now)) (allItems (bindingsIn (c .before .before .before .before .before .before .before .before .before .before .before .before .before .before .before .args .script .now) (c .before .before .before .before .before .before .before .before .before .before .before .before .before .before .before .args .variables .now) (c .before .before .before .before .before .before .before .before .before .before .before .before .before .before .before .args .places .now)) (firsts (c .before .before .before .before .before .after-own .result .left) (spelled (drop (c .before .before .before .before .before .after-own .result .used) (c .before .before .before .before .before .before .before .before .before .before .before .before .before .before .before .args .words .now))))) (c .before .before .before .before .before .before .before .before .before .before .before .before .before .before .before .args .offset) (c .before .before .before .before .before .before .own .result) (c .before .before .before .before .before .after-own .ensures .1 (bindingsIn (c .before .before .before .before .before .before .before .before .before .before .before .before .before .before .before .args .script .now) (c .before .before .before .before .before .before .before .before .before .before .before .before .before .before .before .args .variables .now) (c .before .before .before .before .before .before .before .before .before .before .before .before .before .before .before .args .places .now))) (c .before .before .before .before .before .before .own .ensures (c .before .before .before .before .before .before .before .before .before .before .before .before .before .before .before .args .script .now) (c .before .before .before .before .before .before .before .before .before .before .before .before .before .before .before .args .places .now) (c .before .before .before .before .before .before .before .before .before .before .before .before .before .before .before .pre .1 .1 .counted)) (c .before .before .before .before .if2 .left))
+      (c .before .before .before .own-bulk .ensures) (rw (c .before .before .tail2 .ensures) at (c .before .bulk-from2 .ensures)) (c .sum .ensures)
+
+  own-bulk-mul-result : own-bulk-lts.Need-mul-result (own-bulk-claims t) (own-bulk-at t) own-bulk.Post
+  own-bulk-mul-result c =
+      omega (arith, kept-length (c .before .before .before .before .before .before .before .before .before .before .before .pre .1 .0 .bulked), c .before .if1 .taken, c .before .before .before .before .before .before .before .before .before .before .before .good .1 .1 .1 .1 .1 .1 .1 .0)
+
+  own-bulk-shared-slice-read-result : own-bulk-lts.Need-shared-slice-read-result (own-bulk-claims t) (own-bulk-at t) own-bulk.Post
+  own-bulk-shared-slice-read-result c =
+      omega (arith, kept-length (c .before .before .before .before .before .before .before .before .before .before .before .before .pre .1 .0 .bulked), c .before .before .if1 .taken)
+
+  own-bulk-returns : own-bulk-lts.Need-returns (own-bulk-claims t) (own-bulk-at t) own-bulk.Post
+  own-bulk-returns c =
+      kept-given (c .before .before .before .before .before .before .before .before .before .before .before .before .pre .1 .0 .bulked) (c .before .before .before .bound .result) (c .before .before .if1 .taken)
+      ∙ rw (c .before .if2 .taken) (ap (λ (l : List Message). capped (bulk l)) (given-items (c .before .before .before .before .before .before .before .before .before .before .before .before .args .script .now) (c .before .before .before .before .before .before .before .before .before .before .before .before .args .variables .now) (c .before .before .before .before .before .before .before .before .before .before .before .before .args .places .now) (c .before .before .before .before .before .before .before .before .before .before .before .before .pre .1 .0 .counted .aligned) (c .before .before .before .bound .result) (c .before .before .if1 .taken) (c .before .before .before .before .before .before .before .before .before .before .before .before .args .words .now) (rw (c .before .before .before .before .first-word .ensures) at (c .before .before .before .bound .ensures))))
+
+  own-bulk-add-older : own-bulk-lts.Need-add-older (own-bulk-claims t) (own-bulk-at t) own-bulk.Post
+  own-bulk-add-older c =
+      omega (arith, c .before .if1 .taken, c .before .before .before .before .before .before .before .before .before .before .before .good .1 .1 .1 .0)
+
+  own-bulk-given-requires : own-bulk-lts.Need-given-requires (own-bulk-claims t) (own-bulk-at t) own-bulk.Post
+  own-bulk-given-requires c κs =
+      omega (arith, c .before .before .before .before .before .before .before .before .before .before .before .pre .1 .0 .counted .aligned, c .before .if1 .taken)
+
+  own-bulk-bulk-from-requires : own-bulk-lts.Need-bulk-from-requires (own-bulk-claims t) (own-bulk-at t) own-bulk.Post
+  own-bulk-bulk-from-requires c κs =
+      let l = ap length (c .before .before .before .before .before .given .ensures) in
+      let d = length-drop (getD (c .before .before .before .before .before .before .before .before .before .before .before .before .before .before .before .before .before .args .places .now) (c .before .before .before .before .before .before .before .before .bound .result) 0) (c .before .before .before .before .before .before .before .before .before .before .before .before .before .before .before .before .before .args .script .now) in
+      let m = ap length (c .before .before .before .before .tail .ensures) in
+      let e = length-drop (c .before .before .before .before .before .before .before .before .bound .result + 1) (c .before .before .before .before .before .before .before .before .before .before .before .before .before .before .before .before .before .args .variables .now) in
+      (
+        rank-older _ _ _ _ _ (c .before .before .before .before .before .before .before .before .before .before .before .before .before .before .before .before .before .pre .0) (omega (arith, m, e, c .before .before .before .before .before .before .before .if1 .taken)) (omega (arith, l, d, c .before .before .before .before .before .before .before .before .before .before .before .before .before .before .before .before .before .good .0)),
+        (
+          omega (arith, l, d, c .before .before .before .before .before .before .before .before .before .before .before .before .before .before .before .before .before .good .0),
+          rw (c .before .before .before .before .tail .ensures, c .before .before .before .tail2 .ensures, c .before .before .tail3 .ensures, c .before .tail4 .ensures, c .tail5 .ensures) (cached-drop (c .before .before .before .before .before .before .before .before .bound .result + 1) (c .before .before .before .before .before .before .before .before .before .before .before .before .before .before .before .before .before .pre .1 .0)),
+          c .before .before .before .before .before .before .before .before .before .before .before .before .before .before .before .before .before .pre .1 .1,
+        ),
+      )
+
+  own-bulk-returns-2 : own-bulk-lts.Need-returns-2 (own-bulk-claims t) (own-bulk-at t) own-bulk.Post
+  own-bulk-returns-2 c =
+      c .bulk-from .ensures
+      ∙ rw (c .before .before .before .before .before .before .given .ensures, c .before .before .before .before .before .tail .ensures, c .before .before .before .before .tail2 .ensures)
+      (ap (λ (l : List Message). capped (bulk (drop (c .before .before .before .before .before .before .before .before .before .before .before .before .before .before .before .before .before .before .args .offset) l))) (one-message _ _ ∙ given-items (c .before .before .before .before .before .before .before .before .before .before .before .before .before .before .before .before .before .before .args .script .now) (c .before .before .before .before .before .before .before .before .before .before .before .before .before .before .before .before .before .before .args .variables .now) (c .before .before .before .before .before .before .before .before .before .before .before .before .before .before .before .before .before .before .args .places .now) (c .before .before .before .before .before .before .before .before .before .before .before .before .before .before .before .before .before .before .pre .1 .0 .counted .aligned) (c .before .before .before .before .before .before .before .before .before .bound .result) (c .before .before .before .before .before .before .before .before .if1 .taken) (c .before .before .before .before .before .before .before .before .before .before .before .before .before .before .before .before .before .before .args .words .now) (rw (c .before .before .before .before .before .before .before .before .before .before .first-word .ensures) at (c .before .before .before .before .before .before .before .before .before .bound .ensures))))
+
+  own-bulk-size-from-requires : own-bulk-lts.Need-size-from-requires (own-bulk-claims t) (own-bulk-at t) own-bulk.Post
+  own-bulk-size-from-requires c κs =
+      (omega (arith, c .before .before .before .before .before .before .before .before .before .before .good .1 .0), kept-length (c .before .before .before .before .before .before .before .before .before .before .pre .1 .0 .sized))
+
+  own-bulk-returns-3 : own-bulk-lts.Need-returns-3 (own-bulk-claims t) (own-bulk-at t) own-bulk.Post
+  own-bulk-returns-3 c =
+      let σ = bindingsIn (c .before .before .before .before .before .before .before .before .before .before .before .before .args .script .now) (c .before .before .before .before .before .before .before .before .before .before .before .before .args .variables .now) (c .before .before .before .before .before .before .before .before .before .before .before .before .args .places .now) in
+      let e = rw (c .before .before .before .before .first-word .ensures) at (c .before .before .before .bound .ensures) in
+      let f = unbound-free (c .before .before .before .before .before .before .before .before .before .before .before .before .args .script .now) (c .before .before .before .before .before .before .before .before .before .before .before .before .args .variables .now) (c .before .before .before .before .before .before .before .before .before .before .before .before .args .places .now) (firstWord (c .before .before .before .before .before .before .before .before .before .before .before .before .args .words .now)) (omega (arith, e, c .before .before .if1 .left)) in
+      bulk-only _ _ (single σ (c .before .before .before .before .before .before .before .before .before .before .before .before .args .words .now) (c .before .before .before .before .before .before .before .before .before .before .before .before .args .offset) f (c .before .before .before .before .before .before .before .before .before .before .before .before .pre .1 .2))
+      (c .before .size-from .ensures (c .before .before .before .before .before .before .before .before .before .before .before .before .args .script .now) (c .before .before .before .before .before .before .before .before .before .before .before .before .args .places .now) (c .before .before .before .before .before .before .before .before .before .before .before .before .pre .1 .0 .sized) ∙ ap capped (one-size σ (c .before .before .before .before .before .before .before .before .before .before .before .before .args .words .now))) (c .sum .ensures)
+
+pub +bulk-from+own-bulk-spec : {M : Type 1} → statement M
++bulk-from+own-bulk-spec =
+    close
+    μ-bulk-from
+    μ-own-bulk
+    (λ t. bulk-from-lts.spec
+    (bulk-from-claims t)
+    (bulk-from-at t)
+    bulk-from.Post
+    (bulk-from-returns t)
+    (bulk-from-own-requires t)
+    (bulk-from-after-own-requires t)
+    (λ c κs. search needs)
+    (bulk-from-bulk-from-requires t)
+    (bulk-from-returns-2 t)
+    (bulk-from-own-bulk-requires t)
+    (λ c κs. search needs)
+    (bulk-from-bulk-from-requires-2 t)
+    (λ c κs. search needs)
+    (bulk-from-returns-3 t))
+    (λ t. own-bulk-lts.spec
+    (own-bulk-claims t)
+    (own-bulk-at t)
+    own-bulk.Post
+    (λ c κs. search needs)
+    (λ c κs. search needs)
+    (own-bulk-mul-result t)
+    (own-bulk-shared-slice-read-result t)
+    (own-bulk-returns t)
+    (own-bulk-add-older t)
+    (own-bulk-given-requires t)
+    (λ c κs. search needs)
+    (λ c κs. search needs)
+    (λ c κs. search needs)
+    (λ c κs. search needs)
+    (λ c κs. search needs)
+    (own-bulk-bulk-from-requires t)
+    (own-bulk-returns-2 t)
+    (own-bulk-size-from-requires t)
+    (λ c κs. search needs)
+    (own-bulk-returns-3 t))

@@ -1,0 +1,73 @@
+-- `bindings::count_from` meets its contract. The measure falls with the words, and where there are none, with the messages. Assumes nothing.
+use Prim.Native.Nat.{ℕ, _+_, _*_, _<_}
+use mathlib.Core.Path.{_≡_, sym, ap, _∙_}
+use native.Mathlib.Omega.{arith}
+use borrow.Author.Needs.{needs}
+use lib.ListN.{length, drop}
+use Rattle.messages.specs.Spelling.{spelled}
+use Rattle.bindings.specs.Resolve.{bindingsIn}
+use Rattle.bindings.specs.Passes.{firsts, allItems, ownItems}
+use Rattle.bindings.proofs.Passing.{none-pending}
+use Rattle.bindings.proofs.Counting.{no-items, items-sum}
+use borrow.Fn.Kinds.{In}
+use borrow.Fn.PlainCycle.{Measures, is, falls, and}
+use Rattle.bindings.proofs.count_from.Reads as count-from
+use Rattle.bindings.proofs.count_from.Kinds as count-from-kinds
+use Rattle.bindings.proofs.+count_from.Lts-count_from as count-from-lts
+use Rattle.bindings.proofs.after_own.Reads as after-own-reads
+use Rattle.bindings.proofs.own.Reads as own-reads
+use Rattle.bindings.proofs.sum.Reads as sum-reads
+use Rattle.bindings.proofs.tail.Reads as tail-reads
+use Rattle.bindings.proofs.+count_from.{statement}
+use Rattle.bindings.proofs.+count_from.Tie.{close}
+
+abbrev μ-count-from : Measures 3 count-from-kinds.ps ℕ
+μ-count-from κs a = 3 * length (a .0 .now) + a .1 .0
+
+abbrev count-from-at : ℕ → In 3 count-from-kinds.ps
+count-from-at t =
+    and 3 count-from-kinds.ps (is 3 count-from-kinds.ps μ-count-from t) count-from.Pre
+
+abbrev count-from-below : ℕ → In 3 count-from-kinds.ps
+count-from-below t =
+    and 3 count-from-kinds.ps (falls 3 count-from-kinds.ps _<_ μ-count-from t) count-from.Pre
+
+abbrev count-from-claims : ℕ → count-from-lts.Claims
+count-from-claims t = (own-reads.Asked, own-reads.Learnt, after-own-reads.Asked, after-own-reads.Learnt, tail-reads.Asked, tail-reads.Learnt, count-from-below t, count-from.Post, sum-reads.Asked, sum-reads.Learnt)
+
+module _ (t : ℕ) where
+  count-from-returns : count-from-lts.Need-returns (count-from-claims t) (count-from-at t) count-from.Post
+  count-from-returns c =
+      λ script places ok. no-items _ (none-pending (bindingsIn script (c .before .before .before .before .args .variables .now) places) _ (spelled (c .before .before .before .before .args .words .now)) (c .if1 .taken))
+
+  count-from-own-requires : count-from-lts.Need-own-requires (count-from-claims t) (count-from-at t) count-from.Post
+  count-from-own-requires c κs =
+      c .before .before .before .before .pre .1 .1
+
+  count-from-count-from-requires : count-from-lts.Need-count-from-requires (count-from-claims t) (count-from-at t) count-from.Post
+  count-from-count-from-requires c κs =
+      let l = ap length (c .tail .ensures) in
+      let s = c .before .after-own .ensures .0 in
+      (omega arith, (omega arith, c .before .before .before .before .before .before .before .pre .1 .1))
+
+  count-from-returns-2 : count-from-lts.Need-returns-2 (count-from-claims t) (count-from-at t) count-from.Post
+  count-from-returns-2 c =
+      λ script places ok. let σ = bindingsIn script (c .before .before .before .before .before .before .before .before .before .args .variables .now) places in
+      items-sum _ (ownItems σ (c .before .before .before .before .before .before .before .before .before .args .words .now)) (allItems σ (firsts (c .before .before .before .after-own .result .left) (spelled (drop (c .before .before .before .after-own .result .used) (c .before .before .before .before .before .before .before .before .before .args .words .now)))))
+      (c .before .before .before .after-own .ensures .1 σ) (c .before .before .before .before .own .ensures script places ok) (rw (c .before .before .tail .ensures) at (c .before .count-from .ensures script places ok)) (c .sum .ensures)
+
+pub +count-from-spec : {M : Type 1} → statement M
++count-from-spec =
+    close
+    μ-count-from
+    (λ t. count-from-lts.spec
+    (count-from-claims t)
+    (count-from-at t)
+    count-from.Post
+    (count-from-returns t)
+    (count-from-own-requires t)
+    (λ c κs. omega arith)
+    (λ c κs. search needs)
+    (count-from-count-from-requires t)
+    (λ c κs. search needs)
+    (count-from-returns-2 t))

@@ -1,0 +1,73 @@
+-- `bindings::name_of` meets its contract. The measure is how many bindings are left. Assumes nothing.
+use Prim.Native.Nat.{ℕ, _+_, _<_}
+use mathlib.Core.Path.{_≡_, sym, ap, _∙_}
+use native.Mathlib.Omega.{arith}
+use borrow.Author.Needs.{needs}
+use lib.ListN.{length, length-drop}
+use Rattle.messages.specs.Message.{nameOf}
+use Rattle.bindings.specs.Resolve.{bindingsIn}
+use Rattle.bindings.proofs.Passing.{unbound-free, name-free, given-message}
+use borrow.Fn.Kinds.{In}
+use borrow.Fn.PlainCycle.{Measures, is, falls, and}
+use Rattle.bindings.proofs.name_of.Reads as name-of
+use Rattle.bindings.proofs.name_of.Kinds as name-of-kinds
+use Rattle.bindings.proofs.+name_of.Lts-name_of as name-of-lts
+use Rattle.bindings.proofs.bound.Reads as bound-reads
+use Rattle.bindings.proofs.first_word.Reads as first-word-reads
+use Rattle.bindings.proofs.given.Reads as given-reads
+use Rattle.bindings.proofs.plain_name.Reads as plain-name-reads
+use Rattle.bindings.proofs.tail.Reads as tail-reads
+use Rattle.bindings.proofs.+name_of.{statement}
+use Rattle.bindings.proofs.+name_of.Tie.{close}
+
+abbrev μ-name-of : Measures 4 name-of-kinds.ps ℕ
+μ-name-of κs a = length (a .1 .1 .0 .now)
+
+abbrev name-of-at : ℕ → In 4 name-of-kinds.ps
+name-of-at t = and 4 name-of-kinds.ps (is 4 name-of-kinds.ps μ-name-of t) name-of.Pre
+
+abbrev name-of-below : ℕ → In 4 name-of-kinds.ps
+name-of-below t = and 4 name-of-kinds.ps (falls 4 name-of-kinds.ps _<_ μ-name-of t) name-of.Pre
+
+abbrev name-of-claims : ℕ → name-of-lts.Claims
+name-of-claims t = (first-word-reads.Asked, first-word-reads.Learnt, bound-reads.Asked, bound-reads.Learnt, given-reads.Asked, given-reads.Learnt, tail-reads.Asked, tail-reads.Learnt, name-of-below t, name-of.Post, plain-name-reads.Asked, plain-name-reads.Learnt)
+
+module _ (t : ℕ) where
+  name-of-name-of-requires : name-of-lts.Need-name-of-requires (name-of-claims t) (name-of-at t) name-of.Post
+  name-of-name-of-requires c κs =
+      let l = ap length (c .before .tail .ensures) in
+      let m = ap length (c .tail2 .ensures) in
+      let d = length-drop (c .before .before .before .before .bound .result + 1) (c .before .before .before .before .before .before .before .before .before .before .args .variables .now) in
+      let e = length-drop (c .before .before .before .before .bound .result + 1) (c .before .before .before .before .before .before .before .before .before .before .args .places .now) in
+      (omega arith, omega arith)
+
+  name-of-returns : name-of-lts.Need-returns (name-of-claims t) (name-of-at t) name-of.Post
+  name-of-returns c =
+      c .name-of .ensures
+      ∙ rw (c .before .before .before .given .ensures, c .before .before .tail .ensures, c .before .tail2 .ensures)
+      (ap nameOf (given-message (c .before .before .before .before .before .before .before .before .before .before .before .args .script .now) (c .before .before .before .before .before .before .before .before .before .before .before .args .variables .now) (c .before .before .before .before .before .before .before .before .before .before .before .args .places .now) (c .before .before .before .before .before .before .before .before .before .before .before .pre .1) (c .before .before .before .before .before .bound .result) (c .before .before .before .before .if1 .taken) (c .before .before .before .before .before .before .before .before .before .before .before .args .words .now) (rw (c .before .before .before .before .before .before .first-word .ensures) at (c .before .before .before .before .before .bound .ensures))))
+
+  name-of-returns-2 : name-of-lts.Need-returns-2 (name-of-claims t) (name-of-at t) name-of.Post
+  name-of-returns-2 c =
+      let e = rw (c .before .before .before .first-word .ensures) at (c .before .before .bound .ensures) in
+      c .plain-name .ensures
+      ∙ rw (c .before .before .before .first-word .ensures) (sym (name-free _ (c .before .before .before .before .before .before .before .before .args .words .now) (unbound-free (c .before .before .before .before .before .before .before .before .args .script .now) (c .before .before .before .before .before .before .before .before .args .variables .now) (c .before .before .before .before .before .before .before .before .args .places .now) _ (omega (arith, c .before .if1 .left)))))
+
+pub +name-of-spec : {M : Type 1} → statement M
++name-of-spec =
+    close
+    μ-name-of
+    (λ t. name-of-lts.spec
+    (name-of-claims t)
+    (name-of-at t)
+    name-of.Post
+    (λ c κs. search needs)
+    (λ c κs. search needs)
+    (λ c. omega arith)
+    (λ c κs. omega arith)
+    (λ c κs. search needs)
+    (λ c κs. search needs)
+    (name-of-name-of-requires t)
+    (name-of-returns t)
+    (λ c κs. search needs)
+    (name-of-returns-2 t))

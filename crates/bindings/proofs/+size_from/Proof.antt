@@ -1,0 +1,81 @@
+-- `bindings::size_from` meets its contract. The measure falls with the words, and where there are none, with the messages. Assumes nothing.
+use Prim.Native.Nat.{ℕ, _+_, _-_, _*_, _<_}
+use mathlib.Core.Path.{_≡_, sym, ap, _∙_}
+use native.Mathlib.Omega.{arith}
+use borrow.Author.Needs.{needs}
+use lib.ListN.{length, drop}
+use Rattle.messages.specs.Spelling.{spelled}
+use Rattle.bindings.specs.Resolve.{bindingsIn}
+use Rattle.bindings.specs.Passes.{firstWord, firsts, allSizes, arityOf, ownSize}
+use Rattle.bindings.proofs.Passing.{room}
+use Rattle.bindings.proofs.Counting.{none-size, sizes-first, capped-sum}
+use borrow.Fn.Kinds.{In}
+use borrow.Fn.PlainCycle.{Measures, is, falls, and}
+use Rattle.bindings.proofs.size_from.Reads as size-from
+use Rattle.bindings.proofs.size_from.Kinds as size-from-kinds
+use Rattle.bindings.proofs.+size_from.Lts-size_from as size-from-lts
+use Rattle.bindings.proofs.arity.Reads as arity-reads
+use Rattle.bindings.proofs.first_word.Reads as first-word-reads
+use Rattle.bindings.proofs.own_size.Reads as own-size-reads
+use Rattle.bindings.proofs.sum.Reads as sum-reads
+use Rattle.bindings.proofs.tail.Reads as tail-reads
+use Rattle.bindings.proofs.+size_from.{statement}
+use Rattle.bindings.proofs.+size_from.Tie.{close}
+
+abbrev μ-size-from : Measures 3 size-from-kinds.ps ℕ
+μ-size-from κs a = 3 * length (a .0 .now) + a .1 .0
+
+abbrev size-from-at : ℕ → In 3 size-from-kinds.ps
+size-from-at t = and 3 size-from-kinds.ps (is 3 size-from-kinds.ps μ-size-from t) size-from.Pre
+
+abbrev size-from-below : ℕ → In 3 size-from-kinds.ps
+size-from-below t =
+    and 3 size-from-kinds.ps (falls 3 size-from-kinds.ps _<_ μ-size-from t) size-from.Pre
+
+abbrev size-from-claims : ℕ → size-from-lts.Claims
+size-from-claims t = (first-word-reads.Asked, first-word-reads.Learnt, own-size-reads.Asked, own-size-reads.Learnt, arity-reads.Asked, arity-reads.Learnt, tail-reads.Asked, tail-reads.Learnt, size-from-below t, size-from.Post, sum-reads.Asked, sum-reads.Learnt)
+
+module _ (t : ℕ) where
+  size-from-returns : size-from-lts.Need-returns (size-from-claims t) (size-from-at t) size-from.Post
+  size-from-returns c =
+      λ script places ok. none-size (bindingsIn script (c .before .before .before .before .args .variables .now) places) (c .before .before .before .before .args .pending) (spelled (c .before .before .before .before .args .words .now)) (c .if1 .taken)
+
+  size-from-own-size-requires : size-from-lts.Need-own-size-requires (size-from-claims t) (size-from-at t) size-from.Post
+  size-from-own-size-requires c κs =
+      c .before .before .before .before .before .pre .1 .1
+
+  size-from-add-size-from : size-from-lts.Need-add-size-from (size-from-claims t) (size-from-at t) size-from.Post
+  size-from-add-size-from c =
+      rw (c .before .arity .ensures, c .before .before .before .first-word .ensures) (omega (arith, room (c .before .before .before .before .before .before .before .before .args .words .now) (c .before .before .before .before .before .before .before .before .args .pending) (arityOf (firstWord (c .before .before .before .before .before .before .before .before .args .words .now))) 0 (omega arith) (omega arith) .0))
+
+  size-from-size-from-requires : size-from-lts.Need-size-from-requires (size-from-claims t) (size-from-at t) size-from.Post
+  size-from-size-from-requires c κs =
+      let l = ap length (c .tail .ensures) in
+      let r = room (c .before .before .before .before .before .before .before .before .args .words .now) (c .before .before .before .before .before .before .before .before .args .pending) (arityOf (firstWord (c .before .before .before .before .before .before .before .before .args .words .now))) 0 (omega arith) (omega arith) in
+      rw (c .before .arity .ensures, c .before .before .before .first-word .ensures) (omega arith, (omega arith, c .before .before .before .before .before .before .before .before .pre .1 .1))
+
+  size-from-returns-2 : size-from-lts.Need-returns-2 (size-from-claims t) (size-from-at t) size-from.Post
+  size-from-returns-2 c =
+      λ script places ok. let σ = bindingsIn script (c .before .before .before .before .before .before .before .before .before .before .args .variables .now) places in
+      capped-sum (ownSize σ (firstWord (c .before .before .before .before .before .before .before .before .before .before .args .words .now))) (allSizes σ (firsts (c .before .before .before .before .before .before .before .before .before .before .args .pending - 1 + arityOf (firstWord (c .before .before .before .before .before .before .before .before .before .before .args .words .now))) (spelled (drop 1 (c .before .before .before .before .before .before .before .before .before .before .args .words .now)))))
+      (sizes-first σ (c .before .before .before .before .before .before .before .before .before .before .args .words .now) (c .before .before .before .before .before .before .before .before .before .before .args .pending) (omega arith))
+      (rw (c .before .before .before .before .before .first-word .ensures) at (c .before .before .before .before .own-size .ensures script places ok)) (rw (c .before .before .tail .ensures, c .before .before .before .arity .ensures, c .before .before .before .before .before .first-word .ensures) at (c .before .size-from .ensures script places ok)) (c .sum .ensures)
+
+pub +size-from-spec : {M : Type 1} → statement M
++size-from-spec =
+    close
+    μ-size-from
+    (λ t. size-from-lts.spec
+    (size-from-claims t)
+    (size-from-at t)
+    size-from.Post
+    (size-from-returns t)
+    (λ c κs. search needs)
+    (size-from-own-size-requires t)
+    (λ c κs. search needs)
+    (λ c κs. search needs)
+    (λ c. omega arith)
+    (size-from-add-size-from t)
+    (size-from-size-from-requires t)
+    (λ c κs. search needs)
+    (size-from-returns-2 t))

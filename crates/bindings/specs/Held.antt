@@ -1,0 +1,31 @@
+-- The bindings as they are held: arrays of 32, filled from the end, so that those from `first` on are newest first.
+-- Assumes nothing: these are definitions.
+use Prim.Native.Nat.{ℕ, _≤_}
+use mathlib.Core.List.{List}
+use mathlib.Core.Path.{_≡_}
+use lib.ListN.{drop}
+use Rattle.messages.specs.Message.{Message}
+use Rattle.bindings.specs.Resolve.{bindingsIn}
+use Rattle.bindings.specs.Measures.{capped, itemCount, itemBulk, Cached}
+use Rattle.bindings.specs.Measures as measures
+use Rattle.bindings.specs.declared.Measured.{Measured}
+use Rattle.bindings.specs.declared.Bindings.{Bindings}
+
+-- what is counted of a message
+pub record Measures (m : Message) (r : Measured) : Type 0 where
+  pub count : r .count ≡ capped (itemCount m)
+  pub size : r .size ≡ capped (measures.size m)
+  pub bulk : r .bulk ≡ capped (itemBulk m)
+
+unfoldable pub bindingsOf : (script : List ℕ) → Bindings → List (ℕ × Message)
+bindingsOf script b = bindingsIn script (drop (b .first) (b .variables)) (drop (b .first) (b .places))
+
+-- there is no more than fits, and what is kept with the bindings is right
+pub record Held (script : List ℕ) (b : Bindings) : Type 0 where
+  pub within : b .first ≤ 32
+  pub cached : Cached script (drop (b .first) (b .variables)) (drop (b .first) (b .places)) (drop (b .first) (b .counts)) (drop (b .first) (b .sizes)) (drop (b .first) (b .bulks))
+
+-- To unfold this is to unfold every definition of this module: for a proof by computation.
+unfoldable pub computing : Unit {0}
+unfolding bindingsOf
+computing = tt

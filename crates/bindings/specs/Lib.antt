@@ -1,0 +1,5 @@
+-- What the contracts of `bindings` cite. Assumes nothing: these are definitions.
+pub mod Resolve
+pub mod Measures
+pub mod Passes
+pub mod Held

@@ -1,0 +1,120 @@
+-- What one pass over the words of messages goes by: the first word, what it has of its own, and what stands behind it.
+-- Words that end too early are read as if EMPTY stood behind them, as they are spelled. Assumes nothing: these are definitions.
+use Prim.Native.Nat.{ℕ, zero, suc, _+_}
+use mathlib.Core.List.{List, [], _∷_, _++_}
+use lib.ListN.{length, drop}
+use Rattle.messages.specs.Message.{Message, name, variable, enter, exit, opens, items}
+use Rattle.messages.specs.ReadMessage.{messageWord}
+use Rattle.messages.specs.Spelling.{top, spelled}
+use Rattle.messages.specs.declared.MessageWord.{MessageWord}
+use Rattle.messages.specs.declared.MessageWord.the-variants.{Name, Variable, Enter, Exit, Open, Empty, Path, Unfit}
+use Rattle.messages.specs.declared.Named.{Named}
+use Rattle.messages.specs.declared.Named.the-variants.{Called, Nameless}
+use Rattle.messages.specs.declared.First.{First}
+use Rattle.messages.specs.declared.First.the-variants.{Enter as AskEnter, Exit as AskExit, Open as AskOpen, Other}
+use Rattle.bindings.specs.declared.Shape.{Shape}
+use Rattle.bindings.specs.Resolve.{resolve, place}
+use Rattle.bindings.specs.Measures.{size}
+
+-- the first of the words
+unfoldable pub firstWord : List ℕ → MessageWord
+firstWord [] = Empty
+firstWord (w ∷ ws) = messageWord w
+
+-- the first so many of the messages; where there are not so many, empty ones
+unfoldable pub firsts : ℕ → List Message → List Message
+firsts zero s = []
+firsts (suc p) s = top s ∷ firsts p (drop 1 s)
+
+-- the items of the messages, one after another, each after the bindings
+unfoldable pub allItems : List (ℕ × Message) → List Message → List Message
+allItems σ [] = []
+allItems σ (m ∷ ms) = items (resolve σ m) ++ allItems σ ms
+
+-- the words that the messages are written with, each after the bindings
+unfoldable pub allSizes : List (ℕ × Message) → List Message → ℕ
+allSizes σ [] = 0
+allSizes σ (m ∷ ms) = size (resolve σ m) + allSizes σ ms
+
+-- How a word begins a message: how many items it is of its own if it is no variable with a binding, how many messages
+-- behind it are closed in such an item, and how many stand open, as those of PATH, whose items are their own.
+abbrev pub shaped : (items closed opened : ℕ) → Shape
+shaped i c o = record { items = i; closed = c; opened = o }
+
+unfoldable pub shapeOf : MessageWord → Shape
+shapeOf (Name n) = shaped 1 0 0
+shapeOf (Variable v) = shaped 1 0 0
+shapeOf Enter = shaped 1 1 0
+shapeOf Exit = shaped 1 1 0
+shapeOf Open = shaped 1 1 0
+shapeOf Empty = shaped 0 0 0
+shapeOf Path = shaped 0 0 2
+shapeOf Unfit = shaped 0 0 0
+
+-- how many messages stand in a message that begins with such a word
+abbrev pub arityOf : MessageWord → ℕ
+arityOf m = shapeOf m .closed + shapeOf m .opened
+
+-- the place of the newest binding of a word that is a variable; of other words the number of bindings
+unfoldable pub boundAt : MessageWord → List ℕ → ℕ
+boundAt (Name n) vs = length vs
+boundAt (Variable v) vs = place vs v
+boundAt Enter vs = length vs
+boundAt Exit vs = length vs
+boundAt Open vs = length vs
+boundAt Empty vs = length vs
+boundAt Path vs = length vs
+boundAt Unfit vs = length vs
+
+-- the name that a message is whose first word is no variable with a binding
+unfoldable pub plainName : MessageWord → Named
+plainName (Name n) = Called n
+plainName (Variable v) = Nameless
+plainName Enter = Nameless
+plainName Exit = Nameless
+plainName Open = Nameless
+plainName Empty = Nameless
+plainName Path = Nameless
+plainName Unfit = Nameless
+
+-- the first item that such a word is, `inside` being the name that the message behind it is
+unfoldable pub plainItem : MessageWord → (inside : Named) → First
+plainItem (Name n) i = Other
+plainItem (Variable v) i = Other
+plainItem Enter i = AskEnter i
+plainItem Exit i = AskExit i
+plainItem Open i = AskOpen i
+plainItem Empty i = Other
+plainItem Path i = Other
+plainItem Unfit i = Other
+
+-- the items that a word has of its own, after the bindings, `behind` being what is spelled behind it
+unfoldable pub wordItems : List (ℕ × Message) → MessageWord → (behind : List Message) → List Message
+wordItems σ (Name n) s = name n ∷ []
+wordItems σ (Variable v) s = items (resolve σ (variable v))
+wordItems σ Enter s = enter (resolve σ (top s)) ∷ []
+wordItems σ Exit s = exit (resolve σ (top s)) ∷ []
+wordItems σ Open s = opens (resolve σ (top s)) ∷ []
+wordItems σ Empty s = []
+wordItems σ Path s = []
+wordItems σ Unfit s = []
+
+-- the items that the first of the words has of its own
+unfoldable pub ownItems : List (ℕ × Message) → (words : List ℕ) → List Message
+ownItems σ ws = wordItems σ (firstWord ws) (spelled (drop 1 ws))
+
+-- the words that a word is written with itself, after the bindings
+unfoldable pub ownSize : List (ℕ × Message) → MessageWord → ℕ
+ownSize σ (Name n) = 1
+ownSize σ (Variable v) = size (resolve σ (variable v))
+ownSize σ Enter = 1
+ownSize σ Exit = 1
+ownSize σ Open = 1
+ownSize σ Empty = 1
+ownSize σ Path = 1
+ownSize σ Unfit = 1
+
+-- To unfold this is to unfold every definition of this module: for a proof by computation.
+unfoldable pub computing : Unit {0}
+unfolding firstWord firsts allItems allSizes shapeOf boundAt plainName plainItem wordItems ownItems ownSize
+computing = tt

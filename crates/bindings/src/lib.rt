@@ -1,0 +1,451 @@
+// Messages under bindings, read from the script's words, and the holder of the bindings. A binding says that a receipt was
+// given the message at a word of the script. Bindings are lent newest first, in slices: the variables, the indices of the
+// messages' first words, and what was counted of each message when it was bound. What is older than a binding is the tail
+// behind it. Each operation is one pass over words, since a variable's counts are at hand. It rests on messages.
+use messages::First;
+use messages::MessageWord;
+use messages::Named;
+use messages::message_word;
+ghost use mathlib.Core.Path.{_≡_};
+ghost use Prim.Native.Nat.{ℕ, _+_, _-_, _*_, _<_, _≤_, _^_};
+ghost use mathlib.Core.List.{List, [], _∷_, _++_};
+ghost use lib.ListN.{length, drop, getD};
+ghost use Rattle.messages.specs.Message.{Message, items, nameOf, asks, firstItem};
+ghost use Rattle.messages.specs.Spelling.{spelled, messageAt};
+ghost use Rattle.bindings.specs.Resolve.{resolve, bindingsIn, place, messageOf};
+ghost use Rattle.bindings.specs.Measures.{capped, size, itemsSize, bulk, cappedItems, itemCount, Kept, Cached};
+ghost use Rattle.bindings.specs.Passes.{firstWord, firsts, allItems, allSizes, shapeOf, arityOf, boundAt, plainName, plainItem, ownItems, ownSize};
+ghost use Rattle.bindings.specs.Held.{Measures, bindingsOf, Held};
+
+// How a word begins a message: the items that it is of its own, the messages behind it that are closed in such an item,
+// and those that stand open.
+pub struct Shape {
+    pub items: u32,
+    pub closed: usize,
+    pub opened: usize,
+}
+
+// Where a pass stands behind a word's own items: the words used, and the messages still pending.
+pub struct Behind {
+    pub used: usize,
+    pub left: usize,
+}
+
+// What is counted of a message when it is bound: its items, the words that it is written with, and the words of its items
+// with one PATH each; each at most 2^32 - 1.
+pub struct Measured {
+    pub count: u32,
+    pub size: u32,
+    pub bulk: u32,
+}
+
+// The bindings, from first on, newest first, and what was counted of each.
+pub struct Bindings {
+    pub variables: [u32; 32],
+    pub places: [u32; 32],
+    pub counts: [u32; 32],
+    pub sizes: [u32; 32],
+    pub bulks: [u32; 32],
+    pub first: usize,
+}
+
+// A word as an index.
+pub fn wide(x: u32) -> usize
+    ensures { λ r. ⌜ r ≡ x ⌝ }
+{
+    x as usize
+}
+
+// The sum, at most 2^32 - 1.
+pub fn sum(a: u32, b: u32) -> u32
+    ensures { λ r. ⌜ r ≡ capped (a + b) ⌝ }
+{
+    if a <= 4294967295 - b { a + b } else { 4294967295 }
+}
+
+// What stands from an index on, nothing where there is not so much.
+pub fn tail(s: &[u32], at: usize) -> &[u32]
+    ensures { λ r. ⌜ now r ≡ drop at (now (s .entry)) ⌝ }
+{
+    let n = s.len();
+    if at <= n { &s[at..] } else { &s[n..] }
+}
+
+// The place of the newest binding of a variable, or the number of bindings.
+pub fn find(variables: &[u32], v: u32) -> usize
+    ensures { λ r. ⌜ r ≡ place (now (variables .entry)) v ⌝ }
+{
+    if variables.len() == 0 {
+        return 0;
+    }
+    if variables[0] == v {
+        return 0;
+    }
+    find(tail(variables, 1), v) + 1
+}
+
+// The words of the message of the binding at that place.
+pub fn given<'a, 'b>(script: &'a [u32], places: &'b [u32], k: usize) -> &'a [u32]
+    requires { ⌜ k < length (now places) ⌝ }
+    ensures { λ r. ⌜ now r ≡ drop (getD (now (places .entry)) k 0) (now (script .entry)) ⌝ }
+{
+    tail(script, wide(places[k]))
+}
+
+// The first of the words; where there is none, EMPTY.
+pub fn first_word(words: &[u32]) -> MessageWord
+    ensures { λ r. ⌜ r ≡ firstWord (now (words .entry)) ⌝ }
+{
+    if words.len() == 0 {
+        return MessageWord::Empty;
+    }
+    message_word(words[0])
+}
+
+// How the word begins a message.
+pub fn shape_of(m: MessageWord) -> Shape
+    ensures { λ r. ⌜ r ≡ shapeOf m ⌝ }
+{
+    match m {
+        MessageWord::Name(_) => Shape { items: 1, closed: 0, opened: 0 },
+        MessageWord::Variable(_) => Shape { items: 1, closed: 0, opened: 0 },
+        MessageWord::Enter => Shape { items: 1, closed: 1, opened: 0 },
+        MessageWord::Exit => Shape { items: 1, closed: 1, opened: 0 },
+        MessageWord::Open => Shape { items: 1, closed: 1, opened: 0 },
+        MessageWord::Empty => Shape { items: 0, closed: 0, opened: 0 },
+        MessageWord::Path => Shape { items: 0, closed: 0, opened: 2 },
+        MessageWord::Unfit => Shape { items: 0, closed: 0, opened: 0 },
+    }
+}
+
+// How many messages stand in a message that begins with this word.
+pub fn arity(m: MessageWord) -> usize
+    ensures { λ r. ⌜ r ≡ arityOf m ⌝ }
+{
+    let s = shape_of(m);
+    s.closed + s.opened
+}
+
+// The place of the newest binding of a word that is a variable; of other words the number of bindings.
+pub fn bound(m: MessageWord, variables: &[u32]) -> usize
+    ensures { λ r. ⌜ r ≡ boundAt m (now (variables .entry)) ⌝ }
+{
+    match m {
+        MessageWord::Name(_) => variables.len(),
+        MessageWord::Variable(v) => find(variables, v),
+        MessageWord::Enter => variables.len(),
+        MessageWord::Exit => variables.len(),
+        MessageWord::Open => variables.len(),
+        MessageWord::Empty => variables.len(),
+        MessageWord::Path => variables.len(),
+        MessageWord::Unfit => variables.len(),
+    }
+}
+
+// The name that a message is which begins with this word, no variable with a binding.
+fn plain_name(m: MessageWord) -> Named
+    ensures { λ r. ⌜ r ≡ plainName m ⌝ }
+{
+    match m {
+        MessageWord::Name(n) => Named::Called(n),
+        MessageWord::Variable(_) => Named::Nameless,
+        MessageWord::Enter => Named::Nameless,
+        MessageWord::Exit => Named::Nameless,
+        MessageWord::Open => Named::Nameless,
+        MessageWord::Empty => Named::Nameless,
+        MessageWord::Path => Named::Nameless,
+        MessageWord::Unfit => Named::Nameless,
+    }
+}
+
+// The name that the message at the first of the words is, after the bindings.
+pub fn name_of(script: &[u32], words: &[u32], variables: &[u32], places: &[u32]) -> Named
+    requires { ⌜ length (now places) ≡ length (now variables) ⌝ }
+    ensures { λ r. ⌜ r ≡ nameOf (resolve (bindingsIn (now (script .entry)) (now (variables .entry)) (now (places .entry))) (messageAt (now (words .entry)))) ⌝ }
+{
+    let m = first_word(words);
+    let k = bound(m, variables);
+    if k < variables.len() {
+        let older = k + 1;
+        return name_of(script, given(script, places, k), tail(variables, older), tail(places, older));
+    }
+    plain_name(m)
+}
+
+// The name that a part's message is, after the bindings: the message at a word of the script, or a name given directly.
+pub fn name_at(script: &[u32], start: u32, variables: &[u32], places: &[u32]) -> Named
+    requires { ⌜ length (now places) ≡ length (now variables) ⌝ }
+    ensures { λ r. ⌜ r ≡ nameOf (resolve (bindingsIn (now (script .entry)) (now (variables .entry)) (now (places .entry))) (messageOf (now (script .entry)) start)) ⌝ }
+{
+    if start < 65536 {
+        return name_of(script, tail(script, wide(start)), variables, places);
+    }
+    Named::Called(start - 65536)
+}
+
+// How many words the first `pending` messages of the words have.
+fn skip(words: &[u32], pending: usize) -> usize
+    requires { ⌜ pending + length (now words) < 2 ^ 64 ⌝ }
+    ensures { λ r. ⌜ (r ≤ length (now (words .entry))) × (spelled (drop r (now (words .entry))) ≡ drop pending (spelled (now (words .entry)))) ⌝ }
+{
+    if pending == 0 {
+        return 0;
+    }
+    if words.len() == 0 {
+        return 0;
+    }
+    let a = arity(first_word(words));
+    skip(tail(words, 1), pending - 1 + a) + 1
+}
+
+// The number of items that the first of the words has of its own.
+pub fn own(words: &[u32], variables: &[u32], counts: &[u32]) -> u32
+    requires { ⌜ length (now counts) ≡ length (now variables) ⌝ }
+    ensures { λ r. ⌜ ((script places : List ℕ) → Kept itemCount script (now (variables .entry)) places (now (counts .entry)) → r ≡ capped (length (ownItems (bindingsIn script (now (variables .entry)) places) (now (words .entry))))) ⌝ }
+{
+    let m = first_word(words);
+    let k = bound(m, variables);
+    if k < variables.len() {
+        return counts[k];
+    }
+    let s = shape_of(m);
+    s.items
+}
+
+// Where a pass over the items of the first `pending` messages stands behind the first word's own items.
+pub fn after_own(words: &[u32], pending: usize) -> Behind
+    requires { ⌜ (0 < pending) × (pending + length (now words) < 2 ^ 64) ⌝ }
+    ensures shorter { λ r. ⌜ (r .left + length (drop (r .used) (now (words .entry))) ≤ pending + length (now (words .entry))) × (3 * length (drop (r .used) (now (words .entry))) + r .left < 3 * length (now (words .entry)) + pending) ⌝ }
+    ensures split { λ r. ⌜ ((σ : List (ℕ × Message)) → allItems σ (firsts pending (spelled (now (words .entry)))) ≡ ownItems σ (now (words .entry)) ++ allItems σ (firsts (r .left) (spelled (drop (r .used) (now (words .entry)))))) ⌝ }
+{
+    let s = shape_of(first_word(words));
+    let closed = s.closed;
+    let opened = s.opened;
+    Behind {
+        used: skip(tail(words, 1), closed) + 1,
+        left: pending - 1 + opened,
+    }
+}
+
+// The number of items of the first `pending` messages of the words, after the bindings.
+fn count_from(words: &[u32], pending: usize, variables: &[u32], counts: &[u32]) -> u32
+    requires { ⌜ (pending + length (now words) < 2 ^ 64) × (length (now counts) ≡ length (now variables)) ⌝ }
+    ensures { λ r. ⌜ ((script places : List ℕ) → Kept itemCount script (now (variables .entry)) places (now (counts .entry)) → r ≡ capped (length (allItems (bindingsIn script (now (variables .entry)) places) (firsts pending (spelled (now (words .entry))))))) ⌝ }
+{
+    if pending == 0 {
+        return 0;
+    }
+    let o = own(words, variables, counts);
+    let b = after_own(words, pending);
+    let used = b.used;
+    let left = b.left;
+    sum(o, count_from(tail(words, used), left, variables, counts))
+}
+
+// The number of items of the message at a word of the script, after the bindings.
+pub fn item_count(script: &[u32], at: usize, variables: &[u32], places: &[u32], counts: &[u32]) -> u32
+    requires { ⌜ Kept itemCount (now script) (now variables) (now places) (now counts) ⌝ }
+    ensures { λ r. ⌜ r ≡ capped (length (items (resolve (bindingsIn (now (script .entry)) (now (variables .entry)) (now (places .entry))) (messageAt (drop at (now (script .entry))))))) ⌝ }
+{
+    count_from(tail(script, at), 1, variables, counts)
+}
+
+// The first item that a word is, no variable with a binding; inside is the name that the message behind it is, for which
+// IN, EXIT and OPEN ask.
+fn plain_item(m: MessageWord, inside: Named) -> First
+    ensures { λ r. ⌜ r ≡ plainItem m inside ⌝ }
+{
+    match m {
+        MessageWord::Name(_) => First::Other,
+        MessageWord::Variable(_) => First::Other,
+        MessageWord::Enter => First::Enter(inside),
+        MessageWord::Exit => First::Exit(inside),
+        MessageWord::Open => First::Open(inside),
+        MessageWord::Empty => First::Other,
+        MessageWord::Path => First::Other,
+        MessageWord::Unfit => First::Other,
+    }
+}
+
+// The first from the offset on of the items that the first of the words has of its own.
+fn own_item(script: &[u32], words: &[u32], offset: u32, variables: &[u32], places: &[u32], counts: &[u32]) -> First
+    requires { ⌜ Kept itemCount (now script) (now variables) (now places) (now counts) × (offset < 4294967295) × (offset < length (ownItems (bindingsIn (now script) (now variables) (now places)) (now words))) ⌝ }
+    ensures { λ r. ⌜ r ≡ firstItem (drop offset (ownItems (bindingsIn (now (script .entry)) (now (variables .entry)) (now (places .entry))) (now (words .entry)))) ⌝ }
+{
+    let m = first_word(words);
+    let k = bound(m, variables);
+    if k < variables.len() {
+        let older = k + 1;
+        return first_from(script, given(script, places, k), 1, offset, tail(variables, older), tail(places, older), tail(counts, older));
+    }
+    plain_item(m, name_of(script, tail(words, 1), variables, places))
+}
+
+// The first from the offset on of the items of the first `pending` messages of the words, after the bindings.
+fn first_from(script: &[u32], words: &[u32], pending: usize, offset: u32, variables: &[u32], places: &[u32], counts: &[u32]) -> First
+    requires { ⌜ (pending + length (now words) < 2 ^ 64) × Kept itemCount (now script) (now variables) (now places) (now counts) × (offset < 4294967295) ⌝ }
+    ensures { λ r. ⌜ r ≡ firstItem (drop offset (allItems (bindingsIn (now (script .entry)) (now (variables .entry)) (now (places .entry))) (firsts pending (spelled (now (words .entry)))))) ⌝ }
+{
+    if pending == 0 {
+        return First::Nothing;
+    }
+    let o = own(words, variables, counts);
+    let b = after_own(words, pending);
+    if offset < o {
+        return own_item(script, words, offset, variables, places, counts);
+    }
+    let used = b.used;
+    let left = b.left;
+    first_from(script, tail(words, used), left, offset - o, variables, places, counts)
+}
+
+// The first from the offset on of the items of the message at a word of the script, after the bindings.
+pub fn first_item(script: &[u32], at: usize, offset: u32, variables: &[u32], places: &[u32], counts: &[u32]) -> First
+    requires { ⌜ Kept itemCount (now script) (now variables) (now places) (now counts) × (offset < 4294967295) ⌝ }
+    ensures { λ r. ⌜ r ≡ firstItem (drop offset (items (resolve (bindingsIn (now (script .entry)) (now (variables .entry)) (now (places .entry))) (messageAt (drop at (now (script .entry))))))) ⌝ }
+{
+    first_from(script, tail(script, at), 1, offset, variables, places, counts)
+}
+
+// The number of words that a word is written with itself, after the bindings.
+fn own_size(m: MessageWord, variables: &[u32], sizes: &[u32]) -> u32
+    requires { ⌜ length (now sizes) ≡ length (now variables) ⌝ }
+    ensures { λ r. ⌜ ((script places : List ℕ) → Kept size script (now (variables .entry)) places (now (sizes .entry)) → r ≡ capped (ownSize (bindingsIn script (now (variables .entry)) places) m)) ⌝ }
+{
+    let k = bound(m, variables);
+    if k < variables.len() {
+        return sizes[k];
+    }
+    1
+}
+
+// The number of words that the first `pending` messages of the words are written with, after the bindings.
+pub fn size_from(words: &[u32], pending: usize, variables: &[u32], sizes: &[u32]) -> u32
+    requires { ⌜ (pending + length (now words) < 2 ^ 64) × (length (now sizes) ≡ length (now variables)) ⌝ }
+    ensures { λ r. ⌜ ((script places : List ℕ) → Kept size script (now (variables .entry)) places (now (sizes .entry)) → r ≡ capped (allSizes (bindingsIn script (now (variables .entry)) places) (firsts pending (spelled (now (words .entry)))))) ⌝ }
+{
+    if pending == 0 {
+        return 0;
+    }
+    let m = first_word(words);
+    let o = own_size(m, variables, sizes);
+    let a = arity(m);
+    sum(o, size_from(tail(words, 1), pending - 1 + a, variables, sizes))
+}
+
+// The number of words that the message at a word of the script is written with, after the bindings.
+pub fn words_of(script: &[u32], at: usize, variables: &[u32], places: &[u32], sizes: &[u32]) -> u32
+    requires { ⌜ Kept size (now script) (now variables) (now places) (now sizes) ⌝ }
+    ensures { λ r. ⌜ r ≡ capped (size (resolve (bindingsIn (now (script .entry)) (now (variables .entry)) (now (places .entry))) (messageAt (drop at (now (script .entry)))))) ⌝ }
+{
+    size_from(tail(script, at), 1, variables, sizes)
+}
+
+// The bulk of those from the offset on of the items that the first of the words has of its own.
+fn own_bulk(script: &[u32], words: &[u32], offset: u32, variables: &[u32], places: &[u32], counts: &[u32], sizes: &[u32], bulks: &[u32]) -> u32
+    requires { ⌜ Cached (now script) (now variables) (now places) (now counts) (now sizes) (now bulks) × (offset < 4294967295) × (offset < length (ownItems (bindingsIn (now script) (now variables) (now places)) (now words))) ⌝ }
+    ensures { λ r. ⌜ r ≡ capped (bulk (drop offset (ownItems (bindingsIn (now (script .entry)) (now (variables .entry)) (now (places .entry))) (now (words .entry))))) ⌝ }
+{
+    let k = bound(first_word(words), variables);
+    if k < variables.len() {
+        if offset == 0 {
+            return bulks[k];
+        }
+        let older = k + 1;
+        return bulk_from(script, given(script, places, k), 1, offset, tail(variables, older), tail(places, older), tail(counts, older), tail(sizes, older), tail(bulks, older));
+    }
+    sum(1, size_from(words, 1, variables, sizes))
+}
+
+// The bulk of those from the offset on of the items of the first `pending` messages of the words, after the bindings.
+fn bulk_from(script: &[u32], words: &[u32], pending: usize, offset: u32, variables: &[u32], places: &[u32], counts: &[u32], sizes: &[u32], bulks: &[u32]) -> u32
+    requires { ⌜ (pending + length (now words) < 2 ^ 64) × Cached (now script) (now variables) (now places) (now counts) (now sizes) (now bulks) × (offset < 4294967295) ⌝ }
+    ensures { λ r. ⌜ r ≡ capped (bulk (drop offset (allItems (bindingsIn (now (script .entry)) (now (variables .entry)) (now (places .entry))) (firsts pending (spelled (now (words .entry))))))) ⌝ }
+{
+    if pending == 0 {
+        return 0;
+    }
+    let o = own(words, variables, counts);
+    let b = after_own(words, pending);
+    let used = b.used;
+    let left = b.left;
+    if o <= offset {
+        return bulk_from(script, tail(words, used), left, offset - o, variables, places, counts, sizes, bulks);
+    }
+    let here = own_bulk(script, words, offset, variables, places, counts, sizes, bulks);
+    sum(here, bulk_from(script, tail(words, used), left, 0, variables, places, counts, sizes, bulks))
+}
+
+// The bulk of the items of the message at a word of the script, after the bindings.
+pub fn bulk_of(script: &[u32], at: usize, variables: &[u32], places: &[u32], counts: &[u32], sizes: &[u32], bulks: &[u32]) -> u32
+    requires { ⌜ Cached (now script) (now variables) (now places) (now counts) (now sizes) (now bulks) ⌝ }
+    ensures { λ r. ⌜ r ≡ capped (bulk (items (resolve (bindingsIn (now (script .entry)) (now (variables .entry)) (now (places .entry))) (messageAt (drop at (now (script .entry))))))) ⌝ }
+{
+    bulk_from(script, tail(script, at), 1, 0, variables, places, counts, sizes, bulks)
+}
+
+// The number of words, at most 2^32 - 2, that an action's items from the offset on are written with.
+pub fn item_words(script: &[u32], at: usize, offset: u32, variables: &[u32], places: &[u32], counts: &[u32], sizes: &[u32], bulks: &[u32]) -> u32
+    requires { ⌜ Cached (now script) (now variables) (now places) (now counts) (now sizes) (now bulks) × (offset < 4294967295) ⌝ }
+    ensures { λ r. ⌜ r ≡ cappedItems (itemsSize (drop offset (items (resolve (bindingsIn (now (script .entry)) (now (variables .entry)) (now (places .entry))) (messageAt (drop at (now (script .entry)))))))) ⌝ }
+{
+    let b = bulk_from(script, tail(script, at), 1, offset, variables, places, counts, sizes, bulks);
+    if b == 0 { 1 } else { b - 1 }
+}
+
+// What is counted of the message at a word of the script, after the bindings.
+fn measure(script: &[u32], at: usize, variables: &[u32], places: &[u32], counts: &[u32], sizes: &[u32], bulks: &[u32]) -> Measured
+    requires { ⌜ Cached (now script) (now variables) (now places) (now counts) (now sizes) (now bulks) ⌝ }
+    ensures { λ r. ⌜ Measures (resolve (bindingsIn (now (script .entry)) (now (variables .entry)) (now (places .entry))) (messageAt (drop at (now (script .entry))))) r ⌝ }
+{
+    Measured {
+        count: item_count(script, at, variables, places, counts),
+        size: words_of(script, at, variables, places, sizes),
+        bulk: bulk_of(script, at, variables, places, counts, sizes, bulks),
+    }
+}
+
+// The same, after the bindings that are held.
+fn measure_held(script: &[u32], at: usize, b: Bindings) -> Measured
+    requires { ⌜ Held (now script) b ⌝ }
+    ensures { λ r. ⌜ Measures (resolve (bindingsOf (now (script .entry)) b) (messageAt (drop at (now (script .entry))))) r ⌝ }
+{
+    let variables = b.variables;
+    let places = b.places;
+    let counts = b.counts;
+    let sizes = b.sizes;
+    let bulks = b.bulks;
+    let first = b.first;
+    measure(script, at, tail(&variables, first), tail(&places, first), tail(&counts, first), tail(&sizes, first), tail(&bulks, first))
+}
+
+// No bindings.
+pub fn none() -> Bindings
+    ensures { λ r. ⌜ ((script : List ℕ) → Held script r × (bindingsOf script r ≡ []) × (r .first ≡ 32)) ⌝ }
+{
+    Bindings {
+        variables: [0; 32],
+        places: [0; 32],
+        counts: [0; 32],
+        sizes: [0; 32],
+        bulks: [0; 32],
+        first: 32,
+    }
+}
+
+// The bindings with one more, of the message at a word of the script.
+pub fn bind(script: &[u32], b: Bindings, v: u32, at: u32) -> Bindings
+    requires { ⌜ Held (now script) b × (0 < b .first) ⌝ }
+    ensures { λ r. ⌜ Held (now (script .entry)) r × (bindingsOf (now (script .entry)) r ≡ (v, messageAt (drop at (now (script .entry)))) ∷ bindingsOf (now (script .entry)) b) × (r .first ≡ b .first - 1) ⌝ }
+{
+    let m = measure_held(script, wide(at), b);
+    let next = b.first - 1;
+    let mut r = b;
+    r.variables[next] = v;
+    r.places[next] = at;
+    r.counts[next] = m.count;
+    r.sizes[next] = m.size;
+    r.bulks[next] = m.bulk;
+    r.first = next;
+    r
+}

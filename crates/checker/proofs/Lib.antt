@@ -1,0 +1,6 @@
+-- The theorems about the call.
+pub mod Runs
+pub mod Door
+pub mod Begun
+pub mod Answers
+pub mod Verdict

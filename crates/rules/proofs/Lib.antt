@@ -1,0 +1,2 @@
+-- The laws of `rules` that the crates above cite.
+pub mod Cases

@@ -1,0 +1,48 @@
+-- A tree whose parts are numbered in word order has each number once, from the first number on. Assumes nothing.
+use Prim.Native.Nat.{ℕ, zero, suc, _+_, _≤_, _<_}
+use mathlib.Core.Bool.{Bool, true, false}
+use mathlib.Core.Path.{_≡_, refl, ap}
+use native.Mathlib.Omega.{arith}
+use lib.Dec.{eqb, ltb}
+use borrow.Author.Tests.{eqb-true, ne-eqb, ltb-true, ltb-false}
+use Rattle.scripts.specs.Tree.{Body, close, part, sum, parts, one, count}
+use Rattle.scripts.specs.Represents.{Numbered}
+
+byTest : {P : Type 0} (t : Bool) → (t ≡ true → P) → (t ≡ false → P) → P
+byTest true f g = f refl
+byTest false f g = g refl
+
+one-le : (t : Bool) → one t ≤ 1
+one-le true = omega arith
+one-le false = omega arith
+
+-- how often a number stands in a tree that is numbered from n on
+pub record Range (j n m k : ℕ) : Type 0 where
+  pub once : k ≤ 1
+  pub under : j < n → k ≡ 0
+  pub over : m ≤ j → k ≡ 0
+
+module _ {H : Type 0} (j : ℕ) where
+  pub numbered-range : (n : ℕ) (b : Body H) → Numbered n b → Range j n (n + parts b) (count j b)
+  unfolding sum
+  numbered-range n close N = record { once = omega arith; under = λ h. refl; over = λ h. refl }
+  numbered-range n (part i h b r) N =
+      let B = numbered-range (n + 1) b (N .1) in
+      let R = numbered-range (n + 1 + parts b) r (N .2) in
+      byTest (eqb j i)
+      (λ t.
+      let e : j ≡ i = eqb-true j i t in
+      let z : one (eqb j i) ≡ 1 = ap one t in
+      let i₀ : i ≡ n = N .0 in
+      let b₀ = B .under (omega arith) in
+      let r₀ = R .under (omega arith) in
+      record { once = omega arith; under = λ h. absurd (omega arith); over = λ h. absurd (omega arith) })
+      (λ t.
+      let z : one (eqb j i) ≡ 0 = ap one t in
+      record {
+        once = byTest (ltb j (n + 1 + parts b))
+            (λ l. omega (arith, B .once, R .under (ltb-true j (n + 1 + parts b) l)))
+            (λ l. omega (arith, R .once, B .over (ltb-false j (n + 1 + parts b) l)));
+        under = λ h. omega (arith, B .under (omega arith), R .under (omega arith));
+        over = λ h. omega (arith, B .over (omega arith), R .over (omega arith));
+      })
