@@ -162,9 +162,9 @@ module _ {A : Type 0} (view : View A) where
   pub open-inv : (a t : ℕ) (b : Body (Head A)) (m : Moved A) → openMove view a t b ≡ some m → Here a t b (m .body) (m .news)
   unfolding openMove
   open-inv a t b m e =
-      let x = bind-inv (find t b) _ m e in
-      let y = bind-inv (find a b) _ m (x .2) in
-      let z = bind-inv (check (sameName (toOpen (firstOf view (y .0 .0))) (headName view (x .0 .0)))) _ m (y .2) in
+      let x = bind-inv _ _ m e in
+      let y = bind-inv _ _ m (x .2) in
+      let z = bind-inv _ _ m (y .2) in
       let s = sameName-inv (toOpen (firstOf view (y .0 .0))) (headName view (x .0 .0)) (check-inv _ (z .0) (z .1)) in
       let q = is-quiet (z .2) in
       by-open (record {
@@ -183,10 +183,10 @@ module _ {A : Type 0} (view : View A) where
   pub receive-inv : (a t : ℕ) (b : Body (Head A)) (m : Moved A) → receiveMove view a t b ≡ some m → Here a t b (m .body) (m .news)
   unfolding receiveMove
   receive-inv a t b m e =
-      let x = bind-inv (find t b) _ m e in
-      let y = bind-inv (find a b) _ m (x .2) in
-      let z = bind-inv (variableOf (y .0 .0)) _ m (y .2) in
-      let w = bind-inv (messageOf (x .0 .0)) _ m (z .2) in
+      let x = bind-inv _ _ m e in
+      let y = bind-inv _ _ m (x .2) in
+      let z = bind-inv _ _ m (y .2) in
+      let w = bind-inv _ _ m (z .2) in
       let f = some-is (w .2) in
       by-receive (record {
         bound = z .0;
@@ -202,11 +202,11 @@ module _ {A : Type 0} (view : View A) where
   pub enter-inv : (a t : ℕ) (b : Body (Head A)) (m : Moved A) → enterMove view a t b ≡ some m → Here a t b (m .body) (m .news)
   unfolding enterMove
   enter-inv a t b m e =
-      let x = bind-inv (find t b) _ m e in
-      let p = bind-inv (holder a b) _ m (x .2) in
-      let y = bind-inv (find (p .0) b) _ m (p .2) in
-      let z = bind-inv (find a (y .0 .1)) _ m (y .2) in
-      let w = bind-inv (check (not (eqb (p .0) t) && (isNamed (headName view (y .0 .0)) && sameName (toEnter (firstOf view (z .0 .0))) (headName view (x .0 .0))))) _ m (z .2) in
+      let x = bind-inv _ _ m e in
+      let p = bind-inv _ _ m (x .2) in
+      let y = bind-inv _ _ m (p .2) in
+      let z = bind-inv _ _ m (y .2) in
+      let w = bind-inv _ _ m (z .2) in
       let c = and-inv (not (eqb (p .0) t)) _ (check-inv _ (w .0) (w .1)) in
       let d = and-inv (isNamed (headName view (y .0 .0))) _ (c .1) in
       let n = isNamed-inv (headName view (y .0 .0)) (d .0) in
@@ -235,11 +235,11 @@ module _ {A : Type 0} (view : View A) where
   pub exit-inv : (a t : ℕ) (b : Body (Head A)) (m : Moved A) → exitMove view a t b ≡ some m → Here a t b (m .body) (m .news)
   unfolding exitMove
   exit-inv a t b m e =
-      let x = bind-inv (find t b) _ m e in
-      let p = bind-inv (holder a (x .0 .1)) _ m (x .2) in
-      let y = bind-inv (find (p .0) (x .0 .1)) _ m (p .2) in
-      let z = bind-inv (find a (y .0 .1)) _ m (y .2) in
-      let w = bind-inv (check (isNamed (headName view (y .0 .0)) && sameName (toExit (firstOf view (z .0 .0))) (headName view (x .0 .0)))) _ m (z .2) in
+      let x = bind-inv _ _ m e in
+      let p = bind-inv _ _ m (x .2) in
+      let y = bind-inv _ _ m (p .2) in
+      let z = bind-inv _ _ m (y .2) in
+      let w = bind-inv _ _ m (z .2) in
       let d = and-inv (isNamed (headName view (y .0 .0))) _ (check-inv _ (w .0) (w .1)) in
       let n = isNamed-inv (headName view (y .0 .0)) (d .0) in
       let s = sameName-inv (toExit (firstOf view (z .0 .0))) (headName view (x .0 .0)) (d .1) in

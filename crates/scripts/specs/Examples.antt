@@ -1,5 +1,5 @@
 -- Worked readings, by computation: the script W of document 01, and a reading for each of the questions 1 to 6.
-use Prim.Native.Nat.{ℕ}
+use Prim.Native.Nat.{ℕ, zero, suc}
 use mathlib.Core.List.{List, [], _∷_, map}
 use mathlib.Core.Path.{_≡_, refl}
 use lib.ListN.{replicate}
@@ -40,6 +40,11 @@ W-greatest : greatestName W ≡ 2
 unfolding Measures.computing Words.computing
 W-greatest = refl
 
+-- so many receipts, one beside another, and the CLOSE
+abbrev receipts : ℕ → List ℕ
+receipts zero = 0 ∷ []
+receipts (suc n) = 0x30000000 ∷ 0 ∷ receipts n
+
 -- what a reading refuses: question and place
 abbrev refusals : List (List ℕ × Reading (Script × Reading.Cursor))
 refusals =
@@ -51,6 +56,8 @@ refusals =
     ∷ (0x10000000 ∷ 0x80000001 ∷ [], refuse 5 2)
     ∷ (0x10000000 ∷ [], refuse 5 1)
     ∷ (0 ∷ 0xFFFFFFFF ∷ [], refuse 5 1)
+    ∷ (replicate 66 0x30000000, refuse 4 65)
+    ∷ (receipts 65, refuse 6 0)
     ∷ []
 
 refused-rightly : map (λ (e : List ℕ × Reading (Script × Reading.Cursor)). readScript (e .0)) refusals ≡ map (λ (e : List ℕ × Reading (Script × Reading.Cursor)). e .1) refusals
