@@ -1,20 +1,18 @@
 -- Satisfaction read on trees is the paper's satisfaction of the process that the tree stands for (000, section 2.2).
 -- Assumes nothing.
 use Prim.Native.Nat.{ℕ, suc, _+_, _≤_}
-use mathlib.Core.List.{List, _∷_}
+use mathlib.Core.List.{_∷_}
 use mathlib.Core.Path.{_≡_, refl, sym, ap, _∙_, subst}
 use mathlib.Core.Logic.{inl, inr, _↔_}
 use native.Mathlib.Omega.{arith}
-use Rattle.messages.specs.Message.{Message, name, nameOf}
-use Rattle.messages.specs.declared.Named.the-variants.{Called}
+use Rattle.messages.specs.Message.{name, nameOf}
 use Rattle.scripts.specs.Tree.{Head, close, part, PlainHead, Plain}
-use Rattle.machine.specs.Moves.{Moved, headName}
-use Rattle.machine.specs.PlainMachine.{plain, move}
+use Rattle.machine.specs.Moves.{headName}
 use Rattle.machine.proofs.Inversion.{plain-name}
 use Rattle.rules.specs.Rule.{Names, termName, Rule, always, negation, either, void, at, beside, some-name, sometime, somewhere, placed}
-use Rattle.calculus.specs.Satisfaction.{Divided, Inside, first, later, Within, here, deeper, Reaches, stay, go, Alone, wrapped, Sat}
+use Rattle.calculus.specs.Satisfaction.{Inside, first, later, Within, here, deeper, Reaches, stay, go, Alone, wrapped, Sat}
 use Rattle.calculus.specs.Order.{Part, front, behind}
-use Rattle.calculus.specs.Calculus.{Process, 𝟎, _∣_, ambient, _≅_, Refl, Symm, Trans, Amb, ZeroPar, piece, process, RedCong, _⟶*_, _↓_, Loc, _↓*_, Satisfies}
+use Rattle.calculus.specs.Calculus.{Process, 𝟎, ambient, _≅_, Refl, Symm, Trans, Amb, ZeroPar, piece, process, RedCong, _⟶*_, _↓_, Loc, _↓*_, Satisfies}
 use Rattle.calculus.specs.Calculus
 use Rattle.calculus.proofs.Divisions.{as-nothing, as-both, divided-congruent}
 use Rattle.calculus.proofs.Picks.{has-ambient, as-ambient, part-process}
@@ -44,7 +42,7 @@ congruent-satisfies (beside i r t) e p q h s = (s .0, s .1, Trans (Symm h) (s .2
 congruent-satisfies (some-name i r) e p q h s = (s .0, s .1, congruent-satisfies r ((i, s .0) ∷ e) p q h (s .2))
 congruent-satisfies (sometime i r) e p q h s = let x = later-congruent (s .1) h in (x .0, x .1, congruent-satisfies r e (s .0) (x .0) (x .2) (s .2))
 congruent-satisfies (somewhere i r) e p q h s = let x = lower-congruent (s .1) h in (x .0, x .1, congruent-satisfies r e (s .0) (x .0) (x .2) (s .2))
-congruent-satisfies (placed i j t r) e p q h s = congruent-satisfies r e (ambient (name (termName e t)) p) (ambient (name (termName e t)) q) (Amb h) s
+congruent-satisfies (placed i j t r) e p q h s = congruent-satisfies r e _ _ (Amb h) s
 
 -- the PLACED words of a rule have places from q up, each deeper one a greater
 abbrev pub Places : ℕ → Rule → Type 0
@@ -60,7 +58,7 @@ Places q (somewhere i r) = Places q r
 Places q (placed i j t r) = (q ≤ j) × Places (suc j) r
 
 module _ (n : ℕ) where
-  -- moves and reductions
+  -- moves and reductions (000, proposition 3.4)
   reaches-reduction : {b c : Plain} → Reaches b c → Good n b → (process b ⟶* process c) × Good n c
   reaches-reduction stay g = (Calculus.stop, g)
   reaches-reduction (go {b = b} a t m e x) g =
@@ -79,7 +77,7 @@ module _ (n : ℕ) where
       let z = reduction-reaches y (w .2 .body) (good-move n b (w .0) (w .1) (w .2) g (w .3)) (Trans (w .4) (u .2)) in
       (z .0, go (w .0) (w .1) (w .2) (w .3) (z .1), z .2)
 
-  -- insides and sublocations
+  -- insides and sublocations (000, proposition 3.3)
   part-inside : {b i c : Plain} {k m : ℕ} → Part b k (Head.ambient (name m)) i c → Inside b i
   unfolding headName nameOf
   part-inside front = first refl

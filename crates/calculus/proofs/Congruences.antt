@@ -23,7 +23,7 @@ renamed σ (opens m) = opens (renamed σ m)
 renamed σ empty = empty
 renamed σ (path m k) = path (renamed σ m) (renamed σ k)
 
--- x is named n
+-- the naming σ, but x is named n
 unfoldable pub bound : (ℕ → ℕ) → ℕ → ℕ → ℕ → ℕ
 bound σ x n z = cond (eqb z x) n (σ z)
 
@@ -36,15 +36,15 @@ shape n σ (action m p) = chain (items (renamed σ m)) (shape n σ p)
 shape n σ (input x p) = cell (hear n) (shape (suc n) (bound σ x n) p) nil
 shape n σ (output m) = cell (say (renamed σ m)) nil nil
 
-pub bound-same : (σ : ℕ → ℕ) (x n z : ℕ) → eqb z x ≡ true → bound σ x n z ≡ n
+bound-same : (σ : ℕ → ℕ) (x n z : ℕ) → eqb z x ≡ true → bound σ x n z ≡ n
 unfolding bound
 bound-same σ x n z t = rw t
 
-pub bound-other : (σ : ℕ → ℕ) (x n z : ℕ) → eqb z x ≡ false → bound σ x n z ≡ σ z
+bound-other : (σ : ℕ → ℕ) (x n z : ℕ) → eqb z x ≡ false → bound σ x n z ≡ σ z
 unfolding bound
 bound-other σ x n z t = rw t
 
--- two namings that agree but for an absent variable
+-- namings that agree but for a variable y, where y does not occur
 bound-alike : (σ τ : ℕ → ℕ) (x n y : ℕ) → ((z : ℕ) → eqb z x ≡ false → eqb z y ≡ false → σ z ≡ τ z) → (z : ℕ) → eqb z y ≡ false → bound σ x n z ≡ bound τ x n z
 bound-alike σ τ x n y h z e = byTest (eqb z x) (λ t. bound-same σ x n z t ∙ sym (bound-same τ x n z t)) (λ t. bound-other σ x n z t ∙ h z t e ∙ sym (bound-other τ x n z t))
 
@@ -67,6 +67,7 @@ shape-alike n σ τ y (action m p) a h = ap₂ (λ (k : Message) (s : Shape). ch
 shape-alike n σ τ y (input x p) a h = let w = occurs-input x y p a in ap (λ (s : Shape). cell (hear n) s nil) (shape-alike (suc n) (bound σ x n) (bound τ x n) y p (w .1) (bound-alike σ τ x n y (λ z _ e. h z e)))
 shape-alike n σ τ y (output m) a h = ap (λ (k : Message). cell (say k) nil nil) (message-alike σ τ y m a h)
 
+-- τ names y as σ names x, and they agree on the others
 abbrev pub Fresh : (ℕ → ℕ) → (ℕ → ℕ) → ℕ → ℕ → Type 0
 Fresh σ τ x y = (σ x ≡ τ y) × ((z : ℕ) → eqb z x ≡ false → eqb z y ≡ false → σ z ≡ τ z)
 
@@ -102,6 +103,7 @@ rename-shape n σ τ x y (output m) a h = ap (λ (k : Message). cell (say k) nil
 bound-fresh : (σ : ℕ → ℕ) (x y n : ℕ) → Fresh (bound σ x n) (bound σ y n) x y
 bound-fresh σ x y n = (bound-same σ x n x (eqb-same x) ∙ sym (bound-same σ y n y (eqb-same y)), λ z a b. bound-other σ x n z a ∙ sym (bound-other σ y n z b))
 
+-- THEOREM: the shapes of congruent processes are the same.
 pub sound : {p q : Process} → p ≅ q → (n : ℕ) (σ : ℕ → ℕ) → Same (shape n σ p) (shape n σ q)
 unfolding shape items chain renamed
 sound (Refl {p = p}) n σ = same-refl (shape n σ p)
@@ -119,13 +121,13 @@ sound (Null {p = p}) n σ = same-refl (shape n σ p)
 sound (Path {m = m} {k = k} {p = p}) n σ = same-eq (chain-append (items (renamed σ m)) (items (renamed σ k)) (shape n σ p))
 
 -- the process of a shape
-unfoldable pub prime : Tag → Process → Process
+unfoldable prime : Tag → Process → Process
 prime (place m) p = ambient m p
 prime (can m) p = action m p
 prime (hear x) p = input x p
 prime (say m) p = output m
 
-unfoldable pub written : Shape → Process
+unfoldable written : Shape → Process
 written nil = 𝟎
 written (cell g i r) = prime g (written i) ∣ written r
 
@@ -139,24 +141,24 @@ par-both h k = Trans (Par h) (par-right k)
 pub par-swap : {p q r : Process} → p ∣ (q ∣ r) ≅ q ∣ (p ∣ r)
 par-swap = Trans (Symm ParAssoc) (Trans (Par ParComm) ParAssoc)
 
-pub prime-cong : (g : Tag) {p q : Process} → p ≅ q → prime g p ≅ prime g q
+prime-cong : (g : Tag) {p q : Process} → p ≅ q → prime g p ≅ prime g q
 unfolding prime
 prime-cong (place m) h = Amb h
 prime-cong (can m) h = Action h
 prime-cong (hear x) h = Input h
 prime-cong (say m) h = Refl
 
-pub pick-written : {d q j : Shape} {g : Tag} → Pick d g j q → written d ≅ prime g (written j) ∣ written q
+pick-written : {d q j : Shape} {g : Tag} → Pick d g j q → written d ≅ prime g (written j) ∣ written q
 unfolding written
 pick-written here = Refl
 pick-written (there p) = Trans (par-right (pick-written p)) par-swap
 
-pub same-written : {s t : Shape} → Same s t → written s ≅ written t
+same-written : {s t : Shape} → Same s t → written s ≅ written t
 unfolding written
 same-written done = Refl
 same-written (match {g = g} p a h) = Trans (par-both (prime-cong g (same-written a)) (same-written h)) (Symm (pick-written p))
 
-pub written-append : (s t : Shape) → written (s ⊕ t) ≅ written s ∣ written t
+written-append : (s t : Shape) → written (s ⊕ t) ≅ written s ∣ written t
 unfolding written _⊕_
 written-append nil t = Symm (Trans ParComm ZeroPar)
 written-append (cell g i r) t = Trans (par-right (written-append r t)) (Symm ParAssoc)
@@ -182,7 +184,7 @@ unfolding prefix
 prefix-cong [] h = h
 prefix-cong (i ∷ is) h = Action (prefix-cong is h)
 
-pub written-chain : (is : List Message) (s : Shape) → written (chain is s) ≅ prefix is (written s)
+written-chain : (is : List Message) (s : Shape) → written (chain is s) ≅ prefix is (written s)
 unfolding written chain prefix prime
 written-chain [] s = Refl
 written-chain (i ∷ is) s = Trans ZeroPar (Action (written-chain is s))
@@ -205,7 +207,7 @@ renamed-own (path m k) = ap₂ path (renamed-own m) (renamed-own k)
 abbrev pub Below : ℕ → Process → Type 0
 Below n p = (v : ℕ) → n ≤ v → occurs v p ≡ 0
 
-unfoldable pub size : Process → ℕ
+unfoldable size : Process → ℕ
 size 𝟎 = 0
 size (p ∣ q) = suc (size p + size q)
 size (ambient m p) = suc (size p)
@@ -244,7 +246,7 @@ shape-written (suc f) n (input x p) l b =
     rw e (Trans (Alpha {x = x} {y = n} (c n (omega arith))) (Trans (Input (shape-written f (suc n) (substitute x (variable n) p) (omega (arith, size-substitute x (variable n) p)) (below-renamed n x p c))) (Symm ZeroPar)))
 shape-written (suc f) n (output m) l b = rw (renamed-own m) (Symm ZeroPar)
 
--- two processes are congruent where their shapes are the same
+-- THEOREM: processes are congruent where their shapes are the same, n being above all their variables.
 pub complete : (n : ℕ) {p q : Process} → Below n p → Below n q → Same (shape n own p) (shape n own q) → p ≅ q
 complete n {p} {q} a b h = Trans (shape-written (suc (size p)) n p (omega arith) a) (Trans (same-written h) (Symm (shape-written (suc (size q)) n q (omega arith) b)))
 

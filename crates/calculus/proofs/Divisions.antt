@@ -1,8 +1,8 @@
 -- Settled trees, their shapes, and what is congruent to 0 and to P | Q (000, proposition 3.1) for such a tree. Assumes
 -- nothing.
-use Prim.Native.Nat.{ℕ, suc, _+_, _≤_}
+use Prim.Native.Nat.{ℕ, suc, _+_}
 use mathlib.Core.List.{List, [], _∷_}
-use mathlib.Core.Path.{_≡_, refl, sym, ap, _∙_, subst}
+use mathlib.Core.Path.{_≡_, refl, sym, ap, subst}
 use mathlib.Core.Logic.{inl, inr}
 use native.Mathlib.Omega.{arith}
 use Rattle.messages.specs.Message.{Message, empty, items}
@@ -12,11 +12,11 @@ use Rattle.calculus.specs.Calculus.{occurs, Process, 𝟎, _∣_, ambien
 use Rattle.calculus.proofs.Shapes.{Tag, place, can, hear, say, Shape, nil, cell, _⊕_, chain, Same, done, match, same-sym, pick-sum}
 use Rattle.calculus.proofs.Congruences.{renamed-own, bound, own, shape, sound, complete, Below, top, top-below, par-both, par-swap}
 
--- an item
+-- a message that is one item
 abbrev pub Item : Message → Type 0
 Item i = items i ≡ i ∷ []
 
--- no action without items at the top or in ambients, and a first item there is an item
+-- settled: under no action and no receipt is there an action without items, and the first that one holds is an item
 pub data Settled : Plain → Type 0 where
   closed : Settled close
   settled-ambient : {k : ℕ} {m : Message} {b r : Plain} → Settled b → Settled r → Settled (part k (Head.ambient m) b r)
@@ -51,6 +51,7 @@ settled-join output-part y = settled-output y
 pub settled-inside : {m : Message} {b : Plain} → SettledPart (Head.ambient m) b → Settled b
 settled-inside (ambient-part x) = x
 
+-- the cell that a settled part is: its tag and the shape inside it
 unfoldable pub tag : ℕ → PlainHead → Tag
 tag n (Head.ambient m) = place m
 tag n (Head.action []) = can empty
@@ -70,14 +71,14 @@ unfoldable pub flat : ℕ → Plain → Shape
 flat n b = shape n own (process b)
 
 -- a settled part is one cell
-pub one-cell : (n : ℕ) (h : PlainHead) (b : Plain) → SettledPart h b → (p : Process) → shape n own (piece h p) ≡ cell (tag n h) (core n h p) nil
+one-cell : (n : ℕ) (h : PlainHead) (b : Plain) → SettledPart h b → (p : Process) → shape n own (piece h p) ≡ cell (tag n h) (core n h p) nil
 unfolding shape tag core chain piece prefix
 one-cell n (Head.ambient m) b s p = rw (renamed-own m)
 one-cell n (Head.action is) b (action-part {i = i} t) p = rw (renamed-own i, t)
 one-cell n (Head.receipt v) b s p = refl
 one-cell n (Head.output m) b s p = rw (renamed-own m)
 
-pub flat-part : (n k : ℕ) (h : PlainHead) (b r : Plain) → SettledPart h b → flat n (part k h b r) ≡ cell (tag n h) (core n h (process b)) (flat n r)
+flat-part : (n k : ℕ) (h : PlainHead) (b r : Plain) → SettledPart h b → flat n (part k h b r) ≡ cell (tag n h) (core n h (process b)) (flat n r)
 unfolding flat process shape _⊕_
 flat-part n k h b r s = ap (λ (u : Shape). u ⊕ shape n own (process r)) (one-cell n h b s (process b))
 
@@ -88,15 +89,15 @@ pub flat-close : (n : ℕ) → flat n close ≡ nil
 unfolding flat process shape
 flat-close n = refl
 
-abbrev pub IsNil : Shape → Type 0
+abbrev IsNil : Shape → Type 0
 IsNil nil = Unit {0}
 IsNil (cell g i r) = ⊥
 
-pub same-nil : {a b : Shape} → Same a b → IsNil a → IsNil b
+same-nil : {a b : Shape} → Same a b → IsNil a → IsNil b
 same-nil done x = x
 same-nil (match p a h) x = absurd x
 
-pub nil-sum : (s t : Shape) → Same nil (s ⊕ t) → Same nil s × Same nil t
+nil-sum : (s t : Shape) → Same nil (s ⊕ t) → Same nil s × Same nil t
 unfolding _⊕_
 nil-sum nil t h = (done, h)
 nil-sum (cell g i r) t h = absurd (same-nil h tt)
@@ -140,7 +141,7 @@ module _ (n : ℕ) where
   unfolding flat
   tree-complete b c d h = complete n c d h
 
-pub divided-occurs : (v : ℕ) {b c d : Plain} → Divided b c d → occurs v (process b) ≡ occurs v (process c) + occurs v (process d)
+divided-occurs : (v : ℕ) {b c d : Plain} → Divided b c d → occurs v (process b) ≡ occurs v (process c) + occurs v (process d)
 unfolding process occurs
 divided-occurs v nothing = omega arith
 divided-occurs v (left x) = omega (arith, divided-occurs v x)

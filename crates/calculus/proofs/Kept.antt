@@ -1,28 +1,28 @@
 -- What holds of the trees that the checker meets, and is kept by moves, divisions, insides and PLACED. Assumes nothing.
 use Prim.Native.Nat.{ℕ, suc, _+_, _≤_}
-use mathlib.Core.Bool.{Bool, true, false, cond, false≢true}
+use mathlib.Core.Bool.{false}
 use mathlib.Core.List.{List, [], _∷_, _++_}
-use mathlib.Core.Path.{_≡_, refl, subst}
+use mathlib.Core.Path.{_≡_, refl}
 use mathlib.Core.Option.{some}
 use native.Mathlib.Omega.{arith}
 use lib.Dec.{eqb, ltb}
 use borrow.Author.Tests.{eqb-true, ne-eqb}
 use Rattle.messages.specs.Message.{Message, name, variable, enter, exit, opens, empty, path, items, substituteItems}
 use Rattle.messages.specs.Message as message
-use Rattle.scripts.specs.Tree.{Head, Body, close, part, one, isAmbient, sum, count, put, merge, mapHeads, settleBy, bare, PlainHead, Plain, settle}
-use Rattle.machine.specs.Moves.{Moved, spentHead, moveHere}
+use Rattle.scripts.specs.Tree.{Head, close, part, one, isAmbient, sum, count, put, merge, settleBy, bare, PlainHead, Plain, settle}
+use Rattle.machine.specs.Moves.{Moved, spentHead}
 use Rattle.machine.specs.PlainMachine.{rest, substituteHead, substituteBody, plain, move}
 use Rattle.machine.proofs.Options.{byTest}
 use Rattle.machine.proofs.Inversion.{move-inv}
-use Rattle.machine.proofs.Sums.{map-sum, Shrinks, made-sum, move-sum, plain-numbers}
+use Rattle.machine.proofs.Sums.{map-sum, Shrinks, made-sum, move-sum}
 use Rattle.calculus.specs.Satisfaction.{Divided, wrapped}
 use Rattle.calculus.specs.Order.{Part}
-use Rattle.calculus.specs.Calculus.{Process, _∣_, ambient, _≅_, piece, process, mentions}
+use Rattle.calculus.specs.Calculus.{ambient, piece, process, mentions}
 use Rattle.calculus.proofs.Variables.{free}
 use Rattle.calculus.proofs.Substitutions.{Closed, closed-cong, closed-both, closed-ambient, reduction-closed}
-use Rattle.calculus.proofs.Divisions.{Item, Settled, closed, settled-ambient, settled-action, settled-receipt, settled-output, SettledPart, ambient-part, action-part, receipt-part, output-part, settled-part, settled-rest, settled-join, settled-inside, divided-settled, divided-congruent}
+use Rattle.calculus.proofs.Divisions.{Item, Settled, closed, settled-ambient, SettledPart, ambient-part, action-part, receipt-part, output-part, settled-part, settled-rest, settled-join, settled-inside, divided-settled, divided-congruent}
 use Rattle.calculus.proofs.Picks.{part-sum, divided-sum, part-process, part-settled}
-use Rattle.calculus.proofs.Processes.{Distinct, Once, binds, bindings}
+use Rattle.calculus.proofs.Processes.{Distinct, Once, binds, count-shrinks}
 use Rattle.calculus.proofs.Reductions.{move-reduces}
 
 -- one where the message is no item
@@ -156,9 +156,6 @@ untidy-substitute u m (Head.output n) = omega arith
 
 untidy-shrinks : Shrinks plain (λ k h. untidy h) 0
 untidy-shrinks = by-heads untidy untidy-spent untidy-substitute
-
-count-shrinks : (j : ℕ) → Shrinks plain (λ k h. one (eqb j k)) 0
-count-shrinks j = plain-numbers (λ k. one (eqb j k)) 0 (λ k l. omega arith)
 
 -- A tree that is settled, its actions held as items, its parts numbered apart and below n, its receipts' variables apart,
 -- and no variable free.

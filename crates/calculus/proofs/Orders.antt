@@ -1,6 +1,6 @@
 -- Trees that differ only in order, numbers and variables stand for congruent processes and meet the same rules, and a move of
 -- one is matched by a move of the other. Assumes nothing.
-use Prim.Native.Nat.{ℕ, _+_, _≤_}
+use Prim.Native.Nat.{ℕ, _+_}
 use mathlib.Core.List.{List}
 use mathlib.Core.Path.{_≡_, refl}
 use mathlib.Core.Logic.{_↔_}
@@ -9,7 +9,7 @@ use native.Mathlib.Omega.{arith}
 use Rattle.messages.specs.Message.{Message, variable}
 use Rattle.scripts.specs.Tree.{Head, part, sum, PlainHead, Plain}
 use Rattle.machine.specs.Moves.{Moved}
-use Rattle.machine.specs.PlainMachine.{substituteBody, move}
+use Rattle.machine.specs.PlainMachine.{move}
 use Rattle.rules.specs.Rule.{Names, Rule}
 use Rattle.calculus.specs.Satisfaction.{Sat}
 use Rattle.calculus.specs.Order.{Part, Reordered, nothing, among, receipt}

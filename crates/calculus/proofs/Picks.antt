@@ -46,7 +46,7 @@ pub part-settled : {b i c : Plain} {k : ℕ} {h : PlainHead} → Part b k h i c 
 part-settled front s = settled-part s
 part-settled (behind p) s = part-settled p (settled-rest s)
 
-pub part-occurs : (v : ℕ) {b i c : Plain} {k : ℕ} {h : PlainHead} → Part b k h i c → occurs v (process b) ≡ occurs v (piece h (process i)) + occurs v (process c)
+part-occurs : (v : ℕ) {b i c : Plain} {k : ℕ} {h : PlainHead} → Part b k h i c → occurs v (process b) ≡ occurs v (piece h (process i)) + occurs v (process c)
 unfolding process occurs
 part-occurs v front = refl
 part-occurs v (behind p) = omega (arith, part-occurs v p)
@@ -86,17 +86,17 @@ module _ (n : ℕ) where
   pick-part close w g s t p = absurd (not-nil p (flat-close n))
   pick-part (part k h b r) w g s t p = elim (pick-cases (subst (λ u. Pick u g s t) (settled-flat n k h b r w) p)) [
     | inl x ↦ record {
-        number = k;
-        head = h;
-        inside = b;
-        others = r;
-        at = front;
-        tagged = x .0;
-        cored = x .1;
-        left-over = x .2;
-        whole = settled-part w;
-        settled = settled-rest w;
-      }
+      number = k;
+      head = h;
+      inside = b;
+      others = r;
+      at = front;
+      tagged = x .0;
+      cored = x .1;
+      left-over = x .2;
+      whole = settled-part w;
+      settled = settled-rest w;
+    }
     | inr x ↦
         let y = pick-part r (settled-rest w) g s (x .0) (x .1) in
         let joined : Settled (part k h b (y .others)) = settled-join (settled-part w) (y .settled) in
@@ -177,7 +177,7 @@ module _ (b : Plain) (w : Settled b) where
   has-ambient m p q h =
       let n : ℕ = above (p ∣ q) in
       let y = prime n b w (low (p ∣ q)) (place m) (shape n own p) q (top-below q n (omega arith))
-          (same-sym (subst (λ (u : Message). Same (flat n b) (cell (place u) (shape n own p) (shape n own q))) (renamed-own m) (tree-sound n b h))) in
+      (same-sym (subst (λ (u : Message). Same (flat n b) (cell (place u) (shape n own p) (shape n own q))) (renamed-own m) (tree-sound n b h))) in
       let z : Cored n b q (shape n own p) (Head.ambient m) = subst (Cored n b q (shape n own p)) (tag-place n (y .0) m (y .1)) (y .2) in (
         z .0,
         complete n (λ v l. omega (arith, low (p ∣ q) v l, part-occurs v (z .0 .at), occurs-ambient v m (process (z .0 .inside)))) (top-below p n (omega arith)) (z .1),
@@ -209,7 +209,7 @@ module _ (b : Plain) (w : Settled b) where
   has-action i u p q h =
       let n : ℕ = above (p ∣ q) in
       let y = prime n b w (low (p ∣ q)) (can i) (shape n own p) q (top-below q n (omega arith))
-          (same-sym (subst (λ l. Same (flat n b) (chain l (shape n own p) ⊕ shape n own q)) (ap items (renamed-own i) ∙ u) (tree-sound n b h))) in
+      (same-sym (subst (λ l. Same (flat n b) (chain l (shape n own p) ⊕ shape n own q)) (ap items (renamed-own i) ∙ u) (tree-sound n b h))) in
       let f = tag-can n (y .0) (y .2 .0 .inside) i (y .2 .2) (y .1) in
       let z : Cored n b q (shape n own p) (Head.action (i ∷ f .0)) = subst (Cored n b q (shape n own p)) (f .1) (y .2) in (
         f .0,

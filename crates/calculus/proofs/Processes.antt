@@ -1,21 +1,21 @@
 -- What the operations on a tree make of the process that it stands for, up to congruence: where no number stands twice, and
 -- for substitution where the variable is bound nowhere inside. Assumes nothing.
-use Prim.Native.Nat.{ℕ, zero, suc, _+_, _≤_}
+use Prim.Native.Nat.{ℕ, _+_, _≤_}
 use mathlib.Core.Bool.{Bool, true, false, cond, false≢true}
-use mathlib.Core.List.{List, [], _∷_, _++_}
-use mathlib.Core.Path.{_≡_, refl, sym, ap, _∙_, subst}
+use mathlib.Core.List.{List, [], _∷_}
+use mathlib.Core.Path.{_≡_, refl, sym, ap, _∙_}
 use mathlib.Core.Option.{some}
 use native.Mathlib.Omega.{arith}
 use lib.Dec.{eqb, ltb}
 use borrow.Author.Tests.{eqb-true}
 use Rattle.messages.specs.Message.{Message, items, substituteItems}
 use Rattle.messages.specs.Message as message
-use Rattle.scripts.specs.Tree.{Head, Body, close, part, one, isAmbient, sum, count, put, merge, mapHeads, settleBy, bare, PlainHead, Plain, settle}
+use Rattle.scripts.specs.Tree.{Head, close, part, one, isAmbient, sum, count, put, merge, mapHeads, settleBy, bare, PlainHead, Plain, settle}
 use Rattle.machine.specs.Bodies.{find, drop, alter}
-use Rattle.machine.specs.PlainMachine.{substituteHead, substituteBody}
+use Rattle.machine.specs.PlainMachine.{substituteHead, substituteBody, plain}
 use Rattle.machine.proofs.Options.{byTest, some-is, none≢some}
-use Rattle.machine.proofs.Sums.{drop-none, merge-sum, settle-sum}
-use Rattle.calculus.specs.Calculus.{Process, 𝟎, _∣_, ambient, action, input, output, _≅_, Refl, Symm, Trans, Par, Amb, Action, Input, ParComm, ParAssoc, ZeroPar, prefix, piece, process, substitute}
+use Rattle.machine.proofs.Sums.{drop-none, merge-sum, settle-sum, Shrinks, plain-numbers}
+use Rattle.calculus.specs.Calculus.{Process, _∣_, ambient, action, output, _≅_, Refl, Symm, Trans, Amb, Input, ParComm, ParAssoc, ZeroPar, prefix, piece, process, substitute}
 use Rattle.calculus.proofs.Variables.{eqb-same, eqb-flip}
 use Rattle.calculus.proofs.Congruences.{par-both, par-swap, action-items, prefix-cong, prefix-append}
 
@@ -29,6 +29,10 @@ own-count k = rw (eqb-same k)
 -- a number that does not stand in the tree is not the first part's
 pub count-other : (n k : ℕ) → one (eqb n k) ≡ 0 → eqb n k ≡ false
 count-other n k z = byTest (eqb n k) (λ t. absurd (omega (arith, rw t at z))) (λ t. t)
+
+-- moves don't make a number stand more often
+pub count-shrinks : (j : ℕ) → Shrinks plain (λ k h. one (eqb j k)) 0
+count-shrinks j = plain-numbers (λ k. one (eqb j k)) 0 (λ k l. omega arith)
 
 pub piece-cong : (h : PlainHead) {p q : Process} → p ≅ q → piece h p ≅ piece h q
 unfolding piece

@@ -1,24 +1,22 @@
 -- A move of the plain machine is a reduction of the process (000, proposition 3.4, one way), where no number stands twice and
 -- no variable is bound twice. Assumes nothing.
 use Prim.Native.Nat.{ℕ, _+_, _≤_}
-use mathlib.Core.Bool.{true, false}
-use mathlib.Core.List.{List, [], _∷_}
-use mathlib.Core.Path.{_≡_, refl, sym, ap, _∙_, subst}
+use mathlib.Core.List.{List, _∷_}
+use mathlib.Core.Path.{_≡_, sym, ap, _∙_}
 use mathlib.Core.Option.{some}
 use native.Mathlib.Omega.{arith}
 use lib.Dec.{eqb}
 use Rattle.messages.specs.Message.{Message, name, enter, exit, opens}
 use Rattle.messages.specs.declared.Named.the-variants.{Called}
-use Rattle.scripts.specs.Tree.{Head, Body, close, part, one, sum, count, put, merge, PlainHead, Plain, settle}
+use Rattle.scripts.specs.Tree.{Head, one, sum, count, put, PlainHead, Plain}
 use Rattle.machine.specs.Bodies.{find, drop, alter}
-use Rattle.machine.specs.Moves.{Moved, headName, firstOf, spentHead, spend, moveHere}
+use Rattle.machine.specs.Moves.{Moved, headName, spentHead, spend, moveHere}
 use Rattle.machine.specs.PlainMachine.{rest, substituteHead, substituteBody, plain, move}
-use Rattle.messages.specs.declared.First.the-variants.{Enter, Exit, Open}
 use Rattle.machine.proofs.Inversion.{Opened, Received, Entered, Exited, Here, by-open, by-receive, by-enter, by-exit, here-inv, Makes, now, inner, outer, plain-name, plain-enter, plain-exit, plain-open, move-inv}
-use Rattle.machine.proofs.Sums.{find-drop, apart, find-sum, drop-sum, alter-sum, map-sum, entered-target, received-target, spend-sum, made-sum, plain-numbers}
-use Rattle.calculus.specs.Calculus.{Process, 𝟎, _∣_, ambient, action, input, output, _≅_, Refl, Symm, Trans, Par, Amb, ParComm, ParAssoc, prefix, piece, process, _⟶_, RedIn, RedOut, RedOpen, RedIO, RedPar, RedAmb, RedCong}
+use Rattle.machine.proofs.Sums.{find-drop, apart, find-sum, drop-sum, alter-sum, map-sum, entered-target, received-target, spend-sum, made-sum}
+use Rattle.calculus.specs.Calculus.{Process, _∣_, ambient, action, input, output, _≅_, Refl, Symm, Trans, Par, Amb, ParComm, ParAssoc, prefix, piece, process, _⟶_, RedIn, RedOut, RedOpen, RedIO, RedPar, RedAmb, RedCong}
 use Rattle.calculus.proofs.Congruences.{par-both, par-swap}
-use Rattle.calculus.proofs.Processes.{Distinct, Once, own-count, put-process, merge-process, alter-process, alter-merge, find-process, settle-process, binds, bindings, own-binds, substitute-process}
+use Rattle.calculus.proofs.Processes.{Distinct, Once, own-count, count-shrinks, put-process, merge-process, alter-process, alter-merge, find-process, settle-process, binds, bindings, own-binds, substitute-process}
 
 -- what a count of numbers sees of a part that is found
 counted : (j a : ℕ) (b : Plain) (p : PlainHead × Plain) → find a b ≡ some p → one (eqb j a) + (count j (p .1) + count j (drop a b)) ≤ count j b
@@ -28,15 +26,15 @@ dropped : (j a : ℕ) (b : Plain) → count j (drop a b) ≤ count j b
 dropped j a b = drop-sum (λ k h. one (eqb j k)) a b
 
 spends-count : (j a : ℕ) (b : Plain) → count j (spend plain a b) ≤ count j b
-spends-count j a b = spend-sum plain (λ k h. one (eqb j k)) 0 (plain-numbers (λ k. one (eqb j k)) 0 (λ k l. omega arith)) a b
+spends-count j a b = spend-sum plain (λ k h. one (eqb j k)) 0 (count-shrinks j) a b
 
 module _ (t : ℕ) (b : Plain) {n : ℕ} {goal : PlainHead} {room : Plain} (d : count t b ≤ 1) (e : find t b ≡ some (goal, room)) (w : headName plain goal ≡ Called n) where
   -- a named ambient found, beside the others; and with its inside altered
-  pub find-named : process b ≅ ambient (name n) (process room) ∣ process (drop t b)
+  find-named : process b ≅ ambient (name n) (process room) ∣ process (drop t b)
   unfolding piece
   find-named = rw (plain-name goal n w) at (find-process t b (goal, room) d e)
 
-  pub alter-named : (G : Plain → Plain) → process (alter t (λ h. h) G b) ≅ ambient (name n) (process (G room)) ∣ process (drop t b)
+  alter-named : (G : Plain → Plain) → process (alter t (λ h. h) G b) ≅ ambient (name n) (process (G room)) ∣ process (drop t b)
   unfolding piece
   alter-named G = rw (plain-name goal n w) at (alter-process t (λ h. h) G b (goal, room) d e)
 
@@ -88,14 +86,13 @@ module _ {a t : ℕ} {b c : Plain} (d : Distinct b) where
         (Trans (par-both Refl (find-process t (drop a b) _ (omega (arith, d t, dropped t a b)) (received-target plain x))) pull)
 
     pub received-after : process c ≅ process (substituteBody (x .bound) (x .sent) (x .after)) ∣ process (drop t (drop a b))
-    unfolding substituteBody
     received-after =
         rw (x .result) (merge-process (substituteBody (x .bound) (x .sent) (x .after)) (drop t (drop a b)) (λ j. omega (
           arith,
           d j,
           counted j a b _ (x .actor),
           dropped j t (drop a b),
-          map-sum (λ k h. one (eqb j k)) (substituteHead (x .bound) (x .sent)) (x .after),
+          count-shrinks j .delivers (x .bound) (x .sent) (x .after),
         )))
 
   module _ (x : Entered plain a t b c) (is : List Message) (f : x .doer ≡ Head.action (enter (name (x .place)) ∷ is)) where
@@ -166,5 +163,5 @@ makes-reduces a t d u (outer x) = RedCong ParComm (RedPar (makes-reduces a t (λ
 pub move-reduces : (a t : ℕ) (b : Plain) (m : Moved (List Message)) → Distinct b → Once b → move a t b ≡ some m → process b ⟶ process (m .body)
 move-reduces a t b m d u e =
     let x = move-inv a t b m e in
-    let less : Distinct (x .0) = λ j. omega (arith, d j, made-sum plain (λ k h. one (eqb j k)) 0 (plain-numbers (λ k. one (eqb j k)) 0 (λ k l. omega arith)) a t (x .1)) in
+    let less : Distinct (x .0) = λ j. omega (arith, d j, made-sum plain (λ k h. one (eqb j k)) 0 (count-shrinks j) a t (x .1)) in
     rw (x .2) (RedCong Refl (makes-reduces a t d u (x .1)) (Symm (settle-process (x .0) less)))

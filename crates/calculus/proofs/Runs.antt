@@ -1,6 +1,6 @@
 -- A step told without numbers is a move of the plain machine, where no two parts have one number. Assumes nothing.
 use Prim.Native.Nat.{ℕ, _+_, _≤_}
-use mathlib.Core.Bool.{Bool, true, false, not, _&&_, cond}
+use mathlib.Core.Bool.{Bool, true, false, cond}
 use mathlib.Core.List.{List, [], _∷_}
 use mathlib.Core.Path.{_≡_, refl, sym, ap, ap₂, _∙_, subst}
 use mathlib.Core.Option.{Option, none, some}
@@ -9,20 +9,20 @@ use lib.Dec.{eqb}
 use Rattle.sets.specs.Sets.{elem}
 use Rattle.messages.specs.Message.{Message, name, enter, exit, opens, nameOf, asks, firstItem}
 use Rattle.messages.specs.declared.Named.the-variants.{Called}
-use Rattle.scripts.specs.Tree.{Head, close, part, one, sum, tops, count, put, merge, PlainHead, Plain, settle}
+use Rattle.scripts.specs.Tree.{Head, close, part, one, sum, tops, count, put, merge, PlainHead, Plain}
 use Rattle.machine.specs.Bodies.{_>>=_, orElse, check, find, drop, alter, holder}
 use Rattle.machine.specs.Moves.{isNamed, sameName, toEnter, toExit, toOpen, Moved, variableOf, messageOf, quiet, onward, headName, firstOf, spend, enterMove, exitMove, openMove, receiveMove, moveHere, anywhere}
 use Rattle.machine.specs.Moves as moves
 use Rattle.machine.specs.PlainMachine.{substituteBody, plain, settled, settledBy, move}
 use Rattle.machine.proofs.Options.{byTest, none≢some, bind-some, bind-none}
-use Rattle.machine.proofs.Inversion.{Opened, Received, Entered, Exited, inside-part, inside-close}
-use Rattle.machine.proofs.Sums.{find-none, drop-none, made-sum, plain-numbers, anywhere-sum}
+use Rattle.machine.proofs.Inversion.{Opened, Received, Entered, Exited}
+use Rattle.machine.proofs.Sums.{find-none, drop-none, anywhere-sum}
 use Rattle.calculus.specs.Order.{Part, front, behind}
-use Rattle.calculus.specs.Calculus.{Process, _∣_, ambient, _≅_, Refl, Symm, Trans, Par, Amb, prefix, piece, process}
+use Rattle.calculus.specs.Calculus.{Process, _∣_, ambient, _≅_, Refl, Trans, Par, Amb, prefix, piece, process}
 use Rattle.calculus.proofs.Variables.{eqb-same}
 use Rattle.calculus.proofs.Congruences.{par-both, par-swap}
 use Rattle.calculus.proofs.Picks.{part-sum, part-swap}
-use Rattle.calculus.proofs.Processes.{Distinct, own-count, count-other, settle-process}
+use Rattle.calculus.proofs.Processes.{Distinct, own-count, count-other, count-shrinks, settle-process}
 use Rattle.calculus.proofs.Reductions.{opened-after, received-after, entered-after, exited-after}
 use Rattle.calculus.proofs.Steps.{Step, opening, taking, entering, leaving, inside}
 
@@ -175,11 +175,10 @@ module _ (a t : ℕ) where
   within b = moves.inside plain (moveHere plain a t) b
 
   absent-within : (b : Plain) → count t b ≡ 0 → within b ≡ none
-  unfolding sum
-  absent-within close z = inside-close plain (moveHere plain a t)
+  unfolding moves.inside sum
+  absent-within close z = refl
   absent-within (part k h b r) z =
-      inside-part plain (moveHere plain a t) k h b r
-      ∙ or-none _ (onward-none _ (cond-none (isNamed (headName plain h)) (or-none _ (here-none a t b (find-none t b (omega arith))) ∙ absent-within b (omega arith))))
+      or-none _ (onward-none _ (cond-none (isNamed (headName plain h)) (or-none _ (here-none a t b (find-none t b (omega arith))) ∙ absent-within b (omega arith))))
       ∙ onward-none _ (absent-within r (omega arith))
 
   absent : (b : Plain) → count t b ≡ 0 → made b ≡ none
@@ -188,14 +187,13 @@ module _ (a t : ℕ) where
   -- a move inside a named ambient of b
   within-part : {b i c : Plain} {k n : ℕ} (m : Moved (List Message)) → Part b k (Head.ambient (name n)) i c → count t b ≤ 1 → 1 ≤ count t i → made i ≡ some m →
       (l : Moved (List Message)) × (within b ≡ some l) × (process (l .body) ≅ ambient (name n) (process (m .body)) ∣ process c)
-  unfolding process piece headName nameOf isNamed sum
-  within-part m (front {k = k} {i = i} {r = r}) d w e =
-      (_, inside-part plain (moveHere plain a t) k _ i r ∙ or-some _ (onward-some (λ s. part k _ s r) e), Refl)
+  unfolding process piece headName nameOf isNamed moves.inside sum
+  within-part m (front {k = k} {i = i} {r = r}) d w e = (_, or-some _ (onward-some (λ s. part k _ s r) e), Refl)
   within-part m (behind {l = l} {g = g} {j = j} {r = r} p) d w e =
       let z : count t j ≡ 0 = omega (arith, part-count t p) in
       let x = within-part m p (omega arith) w e in (
         _,
-        inside-part plain (moveHere plain a t) l g j r ∙ or-none _ (onward-none _ (cond-none (isNamed (headName plain g)) (absent j z))) ∙ onward-some (part l g j) (x .1),
+        or-none _ (onward-none _ (cond-none (isNamed (headName plain g)) (absent j z))) ∙ onward-some (part l g j) (x .1),
         Trans (par-both Refl (x .2)) par-swap,
       )
 
@@ -367,5 +365,5 @@ pub step-move : {b : Plain} {p : Process} → Step b p → Distinct b → (a : �
 unfolding move
 step-move {b} g d =
     let x = step-run g d in
-    let less : Distinct (x .moved .body) = λ j. omega (arith, d j, anywhere-sum plain (λ k h. one (eqb j k)) 0 (plain-numbers (λ k. one (eqb j k)) 0 (λ k l. omega arith)) (x .actor) (x .target) b (x .moved) (x .is-made)) in
+    let less : Distinct (x .moved .body) = λ j. omega (arith, d j, anywhere-sum plain (λ k h. one (eqb j k)) 0 (count-shrinks j) (x .actor) (x .target) b (x .moved) (x .is-made)) in
     (x .actor, x .target, settled (x .moved), settled-some _ (x .moved) (x .is-made), Trans (settle-process (x .moved .body) less) (x .congruent))

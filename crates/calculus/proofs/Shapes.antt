@@ -6,30 +6,35 @@ use mathlib.Core.Path.{_≡_, refl, sym, ap, subst}
 use mathlib.Core.Logic.{_⊎_, inl, inr}
 use Rattle.messages.specs.Message.{Message}
 
+-- what a process is that is no product: an ambient, one item and what it guards, an input, an output
 pub data Tag : Type 0 where
   place : Message → Tag  -- M[..]
   can : Message → Tag  -- one item
   hear : ℕ → Tag  -- (x)
   say : Message → Tag  -- ⟨M⟩
 
+-- cells one behind another; a cell is its tag, the shape inside it, and the other cells
 pub data Shape : Type 0 where
   nil : Shape
   cell : Tag → Shape → Shape → Shape
 
+-- the cells of both
 infixr 40 _⊕_
 unfoldable pub _⊕_ : Shape → Shape → Shape
 nil ⊕ t = t
 cell g i r ⊕ t = cell g i (r ⊕ t)
 
+-- items, one inside another
 unfoldable pub chain : List Message → Shape → Shape
 chain [] s = s
 chain (i ∷ is) s = cell (can i) (chain is s) nil
 
--- the cell g i is one of the first, and the rest is the last
+-- the first shape has the cell g i, and the last is what it has besides
 pub data Pick : Shape → Tag → Shape → Shape → Type 0 where
   here : {g : Tag} {i r : Shape} → Pick (cell g i r) g i r
   there : {h g : Tag} {j i r q : Shape} → Pick r g i q → Pick (cell h j r) g i (cell h j q)
 
+-- the same cells in any order, at every depth
 pub data Same : Shape → Shape → Type 0 where
   done : Same nil nil
   match : {g : Tag} {i j r q d : Shape} → Pick d g j q → Same i j → Same r q → Same (cell g i r) d
@@ -38,12 +43,12 @@ pub same-refl : (s : Shape) → Same s s
 same-refl nil = done
 same-refl (cell g i r) = match here (same-refl i) (same-refl r)
 
-pub pick-swap : {d d₁ d₂ : Shape} {g h : Tag} {i j : Shape} → Pick d g i d₁ → Pick d₁ h j d₂ → (d₃ : Shape) × Pick d h j d₃ × Pick d₃ g i d₂
+pick-swap : {d d₁ d₂ : Shape} {g h : Tag} {i j : Shape} → Pick d g i d₁ → Pick d₁ h j d₂ → (d₃ : Shape) × Pick d h j d₃ × Pick d₃ g i d₂
 pick-swap here p = (_, there p, here)
 pick-swap (there p) here = (_, here, p)
 pick-swap (there p) (there q) = let x = pick-swap p q in (_, there (x .1), there (x .2))
 
-pub pick-same : {c c′ d i : Shape} {g : Tag} → Pick c g i c′ → Same c d → (j : Shape) × (d′ : Shape) × Pick d g j d′ × Same i j × Same c′ d′
+pick-same : {c c′ d i : Shape} {g : Tag} → Pick c g i c′ → Same c d → (j : Shape) × (d′ : Shape) × Pick d g j d′ × Same i j × Same c′ d′
 pick-same here (match p a b) = (_, _, p, a, b)
 pick-same (there p) (match q a b) =
     let x = pick-same p b in
@@ -54,7 +59,7 @@ pub same-trans : {a b c : Shape} → Same a b → Same b c → Same a c
 same-trans done s = s
 same-trans (match p a b) s = let x = pick-same p s in match (x .2) (same-trans a (x .3)) (same-trans b (x .4))
 
-pub same-pick : {b i j r q : Shape} {g : Tag} → Pick b g j q → Same j i → Same q r → Same b (cell g i r)
+same-pick : {b i j r q : Shape} {g : Tag} → Pick b g j q → Same j i → Same q r → Same b (cell g i r)
 same-pick here a s = match here a s
 same-pick (there p) a (match q b s) = match (there q) b (same-pick p a s)
 
@@ -72,12 +77,12 @@ unfolding _⊕_
 append-assoc nil t u = refl
 append-assoc (cell g i r) t u = ap (cell g i) (append-assoc r t u)
 
-pub pick-left : {a b i : Shape} {g : Tag} (c : Shape) → Pick a g i b → Pick (a ⊕ c) g i (b ⊕ c)
+pick-left : {a b i : Shape} {g : Tag} (c : Shape) → Pick a g i b → Pick (a ⊕ c) g i (b ⊕ c)
 unfolding _⊕_
 pick-left c here = here
 pick-left c (there p) = there (pick-left c p)
 
-pub pick-right : {a b i : Shape} {g : Tag} (c : Shape) → Pick a g i b → Pick (c ⊕ a) g i (c ⊕ b)
+pick-right : {a b i : Shape} {g : Tag} (c : Shape) → Pick a g i b → Pick (c ⊕ a) g i (c ⊕ b)
 unfolding _⊕_
 pick-right nil p = p
 pick-right (cell h j r) p = there (pick-right r p)

@@ -1,15 +1,15 @@
 -- A reduction of the process of a tree is a step of the tree, told without numbers (000, proposition 3.4, the other way).
 -- Assumes nothing.
-use Prim.Native.Nat.{ℕ, _+_, _≤_}
-use mathlib.Core.List.{List, [], _∷_}
+use Prim.Native.Nat.{ℕ}
+use mathlib.Core.List.{List, _∷_}
 use mathlib.Core.Path.{_≡_, refl}
 use native.Mathlib.Omega.{arith}
 use Rattle.messages.specs.Message.{Message, name, enter, exit, opens, items}
-use Rattle.scripts.specs.Tree.{Head, sum, Plain}
+use Rattle.scripts.specs.Tree.{Head, Plain}
 use Rattle.machine.specs.PlainMachine.{substituteBody}
 use Rattle.calculus.specs.Satisfaction.{Divided}
 use Rattle.calculus.specs.Order.{Part}
-use Rattle.calculus.specs.Calculus.{Process, 𝟎, _∣_, ambient, action, input, output, _≅_, Refl, Symm, Trans, Par, Amb, ParComm, ParAssoc, ZeroPar, prefix, process, _⟶_, RedIn, RedOut, RedOpen, RedIO, RedPar, RedAmb, RedCong}
+use Rattle.calculus.specs.Calculus.{Process, 𝟎, _∣_, ambient, action, input, output, _≅_, Refl, Symm, Trans, Amb, ParComm, ParAssoc, ZeroPar, prefix, process, _⟶_, RedIn, RedOut, RedOpen, RedIO, RedPar, RedAmb, RedCong}
 use Rattle.calculus.proofs.Congruences.{par-both}
 use Rattle.calculus.proofs.Substitutions.{Closed, input-substitute, closed-cong, closed-both, closed-ambient, closed-output}
 use Rattle.calculus.proofs.Divisions.{Item, Settled, as-both, divided-congruent, divided-settled}

@@ -25,7 +25,7 @@ pub mentions-other : (u v : ℕ) → eqb u v ≡ false → mentions v (variable 
 unfolding mentions
 mentions-other u v e = rw e
 
-pub message-absent : (y : ℕ) (r m : Message) → mentions y m ≡ 0 → message.substitute y r m ≡ m
+message-absent : (y : ℕ) (r m : Message) → mentions y m ≡ 0 → message.substitute y r m ≡ m
 unfolding message.substitute mentions
 message-absent y r (name n) z = refl
 message-absent y r (variable u) z = rw (mentions-none u y z)
@@ -35,7 +35,7 @@ message-absent y r (opens m) z = ap opens (message-absent y r m z)
 message-absent y r empty z = refl
 message-absent y r (path m k) z = ap₂ path (message-absent y r m (omega arith)) (message-absent y r k (omega arith))
 
-pub message-twice : (x y : ℕ) (r m : Message) → mentions y m ≡ 0 → message.substitute y r (message.substitute x (variable y) m) ≡ message.substitute x r m
+message-twice : (x y : ℕ) (r m : Message) → mentions y m ≡ 0 → message.substitute y r (message.substitute x (variable y) m) ≡ message.substitute x r m
 unfolding message.substitute mentions
 message-twice x y r (name n) z = refl
 message-twice x y r (variable u) z = byTest (eqb u x) (λ t. rw (t, eqb-same y)) (λ t. rw (t, mentions-none u y z))
@@ -46,7 +46,7 @@ message-twice x y r empty z = refl
 message-twice x y r (path m k) z = ap₂ path (message-twice x y r m (omega arith)) (message-twice x y r k (omega arith))
 
 -- a variable is gone when a message without it stands for it
-pub message-gone : (x : ℕ) (r m : Message) → mentions x r ≡ 0 → mentions x (message.substitute x r m) ≡ 0
+message-gone : (x : ℕ) (r m : Message) → mentions x r ≡ 0 → mentions x (message.substitute x r m) ≡ 0
 unfolding message.substitute mentions
 message-gone x r (name n) z = refl
 message-gone x r (variable u) z = byTest (eqb u x) (λ t. rw t z) (λ t. rw t (mentions-other u x t))
@@ -56,7 +56,7 @@ message-gone x r (opens m) z = message-gone x r m z
 message-gone x r empty z = refl
 message-gone x r (path m k) z = omega (arith, message-gone x r m z, message-gone x r k z)
 
-pub message-less : (v x : ℕ) (r m : Message) → mentions v r ≡ 0 → mentions v (message.substitute x r m) ≤ mentions v m
+message-less : (v x : ℕ) (r m : Message) → mentions v r ≡ 0 → mentions v (message.substitute x r m) ≤ mentions v m
 unfolding message.substitute mentions
 message-less v x r (name n) z = omega arith
 message-less v x r (variable u) z = byTest (eqb u x) (λ t. rw t (omega arith)) (λ t. rw t (omega arith))
@@ -66,7 +66,7 @@ message-less v x r (opens m) z = message-less v x r m z
 message-less v x r empty z = omega arith
 message-less v x r (path m k) z = omega (arith, message-less v x r m z, message-less v x r k z)
 
-pub message-more : (v x : ℕ) (r m : Message) → eqb x v ≡ false → mentions v m ≤ mentions v (message.substitute x r m)
+message-more : (v x : ℕ) (r m : Message) → eqb x v ≡ false → mentions v m ≤ mentions v (message.substitute x r m)
 unfolding message.substitute mentions
 message-more v x r (name n) z = omega arith
 message-more v x r (variable u) z = byTest (eqb u x) (λ t. let e : eqb u v ≡ false = subst (λ w. eqb w v ≡ false) (sym (eqb-true u x t)) z in rw (mentions-other u v e) (omega arith)) (λ t. rw t (omega arith))
@@ -76,7 +76,7 @@ message-more v x r (opens m) z = message-more v x r m z
 message-more v x r empty z = omega arith
 message-more v x r (path m k) z = omega (arith, message-more v x r m z, message-more v x r k z)
 
-pub message-comm : (v x y : ℕ) (r m : Message) → eqb x v ≡ false → eqb y v ≡ false → mentions x r ≡ 0 → message.substitute v r (message.substitute x (variable y) m) ≡ message.substitute x (variable y) (message.substitute v r m)
+message-comm : (v x y : ℕ) (r m : Message) → eqb x v ≡ false → eqb y v ≡ false → mentions x r ≡ 0 → message.substitute v r (message.substitute x (variable y) m) ≡ message.substitute x (variable y) (message.substitute v r m)
 unfolding message.substitute
 message-comm v x y r (name n) a b z = refl
 message-comm v x y r (variable u) a b z = byTest (eqb u x)

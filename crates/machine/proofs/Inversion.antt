@@ -281,15 +281,6 @@ module _ {A : Type 0} (view : View A) where
     outer : {k : ℕ} {h : Head A} {b c r : Body (Head A)} {news : List (ℕ × Message)} → Makes g r c news → Makes g (part k h b r) (part k h b c) news
 
   module _ (g : Body (Head A) → Option (Moved A)) where
-    pub inside-part : (i : ℕ) (h : Head A) (b r : Body (Head A)) → inside view g (part i h b r) ≡
-        orElse (onward (λ c. part i h c r) (cond (isNamed (headName view h)) (anywhere view g b) none)) (onward (λ q. part i h b q) (inside view g r))
-    unfolding inside
-    inside-part i h b r = refl
-
-    pub inside-close : inside view g close ≡ none
-    unfolding inside
-    inside-close = refl
-
     pub inside-inv : (b : Body (Head A)) (m : Moved A) → inside view g b ≡ some m → Makes g b (m .body) (m .news)
     unfolding inside
     inside-inv close m e = none≢some e
