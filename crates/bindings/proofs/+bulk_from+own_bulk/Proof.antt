@@ -2,7 +2,7 @@
 -- the words and messages that are left. Assumes nothing.
 use Prim.Native.Nat.{ℕ, suc, _+_, _*_, _<_}
 use mathlib.Core.List.{List}
-use mathlib.Core.Path.{_≡_, ap, _∙_}
+use mathlib.Core.Path.{ap, _∙_}
 use native.Mathlib.Omega.{arith}
 use borrow.Author.Needs.{needs}
 use lib.ListN.{length, drop, getD, length-drop}
@@ -124,8 +124,7 @@ module _ (t : ℕ) where
       let l = ap length (c .before .before .before .before .before .given .ensures) in
       let d = length-drop (getD (c .before .before .before .before .before .before .before .before .before .before .before .before .before .before .before .before .before .args .places .now) (c .before .before .before .before .before .before .before .before .bound .result) 0) (c .before .before .before .before .before .before .before .before .before .before .before .before .before .before .before .before .before .args .script .now) in
       let m = ap length (c .before .before .before .before .tail .ensures) in
-      let e = length-drop (c .before .before .before .before .before .before .before .before .bound .result + 1) (c .before .before .before .before .before .before .before .before .before .before .before .before .before .before .before .before .before .args .variables .now) in
-      (
+      let e = length-drop (c .before .before .before .before .before .before .before .before .bound .result + 1) (c .before .before .before .before .before .before .before .before .before .before .before .before .before .before .before .before .before .args .variables .now) in (
         rank-older _ _ _ _ _ (c .before .before .before .before .before .before .before .before .before .before .before .before .before .before .before .before .before .pre .0) (omega (arith, m, e, c .before .before .before .before .before .before .before .if1 .taken)) (omega (arith, l, d, c .before .before .before .before .before .before .before .before .before .before .before .before .before .before .before .before .before .good .0)),
         (
           omega (arith, l, d, c .before .before .before .before .before .before .before .before .before .before .before .before .before .before .before .before .before .good .0),

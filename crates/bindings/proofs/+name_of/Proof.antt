@@ -1,11 +1,10 @@
 -- `bindings::name_of` meets its contract. The measure is how many bindings are left. Assumes nothing.
 use Prim.Native.Nat.{ℕ, _+_, _<_}
-use mathlib.Core.Path.{_≡_, sym, ap, _∙_}
+use mathlib.Core.Path.{sym, ap, _∙_}
 use native.Mathlib.Omega.{arith}
 use borrow.Author.Needs.{needs}
 use lib.ListN.{length, length-drop}
 use Rattle.messages.specs.Message.{nameOf}
-use Rattle.bindings.specs.Resolve.{bindingsIn}
 use Rattle.bindings.proofs.Passing.{unbound-free, name-free, given-message}
 use borrow.Fn.Kinds.{In}
 use borrow.Fn.PlainCycle.{Measures, is, falls, and}
@@ -63,9 +62,10 @@ pub +name-of-spec : {M : Type 1} → statement M
     name-of.Post
     (λ c κs. search needs)
     (λ c κs. search needs)
-    (λ c. omega arith)
     (λ c κs. omega arith)
+    (λ c. omega arith)
     (λ c κs. search needs)
+    (λ c. omega arith)
     (λ c κs. search needs)
     (name-of-name-of-requires t)
     (name-of-returns t)

@@ -1,6 +1,7 @@
--- `bindings::size_from` meets its contract. The measure falls with the words, and where there are none, with the messages. Assumes nothing.
+-- `bindings::size_from` meets its contract. The measure falls with the words, and where there are none, with the
+-- messages. Assumes nothing.
 use Prim.Native.Nat.{ℕ, _+_, _-_, _*_, _<_}
-use mathlib.Core.Path.{_≡_, sym, ap, _∙_}
+use mathlib.Core.Path.{ap}
 use native.Mathlib.Omega.{arith}
 use borrow.Author.Needs.{needs}
 use lib.ListN.{length, drop}

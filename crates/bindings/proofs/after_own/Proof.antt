@@ -1,5 +1,5 @@
 -- `bindings::after_own` meets its contract. Assumes nothing.
-use mathlib.Core.Path.{_≡_, ap}
+use mathlib.Core.Path.{ap}
 use native.Mathlib.Omega.{arith}
 use borrow.Author.Needs.{needs}
 use lib.ListN.{length, length-drop}
@@ -15,9 +15,10 @@ add-t11 : tie.Need-add-t11
 add-t11 c = rw (c .before .before .shape-of .ensures, c .before .before .before .first-word .ensures) (omega (arith, room (c .before .before .before .before .before .args .words .now) (c .before .before .before .before .before .args .pending) (shapeOf (firstWord (c .before .before .before .before .before .args .words .now)) .opened) 0 (c .before .before .before .before .before .pre .0) (omega arith) .0))
 
 returns : tie.Need-returns
-returns c = rw (c .before .before .shape-of .ensures, c .before .before .before .first-word .ensures)
-    (room (c .before .before .before .before .before .args .words .now) (c .before .before .before .before .before .args .pending) _ (c .skip .result) (c .before .before .before .before .before .pre .0) (omega arith),
-    λ σ. split-first σ (c .before .before .before .before .before .args .words .now) (c .before .before .before .before .before .args .pending) (c .skip .result) (c .before .before .before .before .before .pre .0) (rw (c .before .tail .ensures, c .before .before .shape-of .ensures, c .before .before .before .first-word .ensures) at (c .skip .ensures .1)))
+returns c = rw (c .before .before .shape-of .ensures, c .before .before .before .first-word .ensures) (
+  room (c .before .before .before .before .before .args .words .now) (c .before .before .before .before .before .args .pending) _ (c .skip .result) (c .before .before .before .before .before .pre .0) (omega arith),
+  λ σ. split-first σ (c .before .before .before .before .before .args .words .now) (c .before .before .before .before .before .args .pending) (c .skip .result) (c .before .before .before .before .before .pre .0) (rw (c .before .tail .ensures, c .before .before .shape-of .ensures, c .before .before .before .first-word .ensures) at (c .skip .ensures .1)),
+)
 
 pub after-own-spec : {M : Type 1} → statement M
 after-own-spec =

@@ -21,8 +21,7 @@ returns c = let l-variables : length (c .before .before .before .before .args .b
     let places = drop-set (c .before .before .before .before .args .b .places) (c .before .before .before .before .args .b .first) (c .before .before .before .before .args .at) (c .before .before .before .before .pre .1) (omega arith) in
     let counts = drop-set (c .before .before .before .before .args .b .counts) (c .before .before .before .before .args .b .first) (c .before .measure-held .result .count) (c .before .before .before .before .pre .1) (omega arith) in
     let sizes = drop-set (c .before .before .before .before .args .b .sizes) (c .before .before .before .before .args .b .first) (c .before .measure-held .result .size) (c .before .before .before .before .pre .1) (omega arith) in
-    let bulks = drop-set (c .before .before .before .before .args .b .bulks) (c .before .before .before .before .args .b .first) (c .before .measure-held .result .bulk) (c .before .before .before .before .pre .1) (omega arith) in
-    (
+    let bulks = drop-set (c .before .before .before .before .args .b .bulks) (c .before .before .before .before .args .b .first) (c .before .measure-held .result .bulk) (c .before .before .before .before .pre .1) (omega arith) in (
       record { within = omega arith; cached = rw (variables, places, counts, sizes, bulks) (cached-more (c .before .before .before .before .args .v) (c .before .before .before .before .args .at) (c .before .measure-held .result) (c .before .before .before .before .pre .0 .cached) (rw (c .before .before .wide .ensures) at (c .before .measure-held .ensures))) },
       rw (variables, places),
       refl,

@@ -1,5 +1,4 @@
 -- `bindings::given` meets its contract. Assumes nothing.
-use mathlib.Core.Path.{_∙_}
 use borrow.Author.Needs.{needs}
 use Rattle.bindings.proofs.given.Statement.{statement}
 use Rattle.bindings.proofs.given.Tie as tie

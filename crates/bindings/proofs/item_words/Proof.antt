@@ -1,7 +1,7 @@
 -- `bindings::item_words` meets its contract: an action's items are written with one word less than their bulk, and none of
 -- them with one word. Assumes nothing.
 use mathlib.Core.List.{List}
-use mathlib.Core.Path.{_≡_, ap, _∙_}
+use mathlib.Core.Path.{ap, _∙_}
 use borrow.Author.Needs.{needs}
 use lib.ListN.{drop}
 use Rattle.messages.specs.Message.{Message, items}

@@ -1,6 +1,5 @@
 -- `bindings::name_at` meets its contract: a name given directly stays under every binding. Assumes nothing.
-use mathlib.Core.Path.{_≡_, _∙_}
-use native.Mathlib.Omega.{arith}
+use mathlib.Core.Path.{_∙_}
 use borrow.Author.Needs.{needs}
 use borrow.Author.Tests.{lt-ltb, le-ltb}
 use Rattle.messages.specs.Message.{nameOf}

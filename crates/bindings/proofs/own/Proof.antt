@@ -1,14 +1,14 @@
 -- `bindings::own` meets its contract: a variable with a binding has the items that were counted of its message, another
 -- word those that it is itself. Assumes nothing.
 use mathlib.Core.List.{List}
-use mathlib.Core.Path.{_≡_, sym, ap, _∙_}
+use mathlib.Core.Path.{ap, _∙_}
 use native.Mathlib.Omega.{arith}
 use borrow.Author.Needs.{needs}
 use lib.ListN.{length}
 use Rattle.messages.specs.Message.{Message}
 use Rattle.bindings.specs.Resolve.{bindingsIn}
 use Rattle.bindings.specs.Measures.{capped}
-use Rattle.bindings.proofs.Passing.{unbound-free, own-free, given-items}
+use Rattle.bindings.proofs.Passing.{unbound-free, given-items}
 use Rattle.bindings.proofs.Counting.{capped-shape, kept-given}
 use Rattle.bindings.proofs.own.Statement.{statement}
 use Rattle.bindings.proofs.own.Tie as tie
