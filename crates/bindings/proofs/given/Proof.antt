@@ -4,7 +4,8 @@ use Rattle.bindings.proofs.given.Statement.{statement}
 use Rattle.bindings.proofs.given.Tie as tie
 
 returns : tie.Need-returns
-returns c = rw (c .before .wide .ensures) at (c .tail .ensures)
+returns c =
+    rw (c .before .wide .ensures) at (c .tail .ensures)
 
 pub given-spec : {M : Type 1} → statement M
 given-spec =

@@ -14,13 +14,17 @@ use Rattle.bindings.proofs.own.Statement.{statement}
 use Rattle.bindings.proofs.own.Tie as tie
 
 returns : tie.Need-returns
-returns c = λ script places ok. kept-given ok (c .before .before .bound .result) (c .before .if1 .taken)
-    ∙ ap (λ (l : List Message). capped (length l)) (given-items script (c .before .before .before .before .before .before .before .args .variables .now) places (ok .aligned) (c .before .before .bound .result) (c .before .if1 .taken) (c .before .before .before .before .before .before .before .args .words .now) (rw (c .before .before .before .first-word .ensures) at (c .before .before .bound .ensures)))
+returns c =
+    let s = c .before .before .before .before .before .before .before in
+    λ script places ok. kept-given ok (c .before .before .bound .result) (c .before .if1 .taken)
+    ∙ ap (λ (l : List Message). capped (length l)) (given-items script (s .args .variables .now) places (ok .aligned) (c .before .before .bound .result) (c .before .if1 .taken) (s .args .words .now) (rw (c .before .before .before .first-word .ensures) at (c .before .before .bound .ensures)))
 
 returns-2 : tie.Need-returns-2
-returns-2 c = λ script places ok. let e = rw (c .before .before .before .first-word .ensures) at (c .before .before .bound .ensures) in
+returns-2 c =
+    let s = c .before .before .before .before .before .before .before in
+    λ script places ok. let e = rw (c .before .before .before .first-word .ensures) at (c .before .before .bound .ensures) in
     rw (c .shape-of .ensures, c .before .before .before .first-word .ensures)
-    (capped-shape (bindingsIn script (c .before .before .before .before .before .before .before .args .variables .now) places) (c .before .before .before .before .before .before .before .args .words .now) (unbound-free script (c .before .before .before .before .before .before .before .args .variables .now) places _ (omega (arith, c .before .if1 .left))))
+    (capped-shape (bindingsIn script (s .args .variables .now) places) (s .args .words .now) (unbound-free script (s .args .variables .now) places _ (omega (arith, c .before .if1 .left))))
 
 pub own-spec : {M : Type 1} → statement M
 own-spec =
