@@ -1,0 +1,2 @@
+-- Laws of the closure machine: it moves as the plain machine does. Assumes nothing.
+pub mod Tallies
