@@ -1,2 +1,4 @@
 -- Laws of the closure machine: it moves as the plain machine does. Assumes nothing.
 pub mod Tallies
+pub mod Invariant
+pub mod Simulation

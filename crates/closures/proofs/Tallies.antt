@@ -36,7 +36,7 @@ module _ (T : Tally) where
   abbrev pub alone : ℕ → ClosureHead → Closure → ℕ
   alone i h b = T .own i h + cond (T .shut h) (sum (T .guarded) b) (of b)
 
-  open-inside : (h : ClosureHead) (b : Closure) → T .shut h ≡ false → cond (T .shut h) (sum (T .guarded) b) (of b) ≡ of b
+  pub open-inside : (h : ClosureHead) (b : Closure) → T .shut h ≡ false → cond (T .shut h) (sum (T .guarded) b) (of b) ≡ of b
   open-inside h b e = rw e
 
   pub of-part : (i : ℕ) (h : ClosureHead) (b r : Closure) → T .shut h ≡ false → of (part i h b r) ≡ T .own i h + (of b + of r)
@@ -47,7 +47,7 @@ module _ (T : Tally) where
   pub named-open : (σ : Bindings) (h : ClosureHead) (n : ℕ) → headName (under σ) h ≡ Called n → T .shut h ≡ false
   named-open σ h n e = let x = headName-inv (under σ) h n e in ap (T .shut) (x .1) ∙ T .ambients (x .0)
 
-  of-drop : (a : ℕ) (b : Closure) → of (drop a b) ≤ of b
+  pub of-drop : (a : ℕ) (b : Closure) → of (drop a b) ≤ of b
   unfolding drop of
   of-drop a close = omega arith
   of-drop a (part i h b r) = byTest (eqb a i) (λ t. rw t (omega (arith, of-drop a r))) (λ t. rw t (omega (arith, of-drop a r)))
