@@ -2,3 +2,5 @@
 pub mod Tallies
 pub mod Invariant
 pub mod Simulation
+pub mod Started
+pub mod Bound

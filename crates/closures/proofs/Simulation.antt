@@ -49,7 +49,7 @@ rest-skip (suc o) [] = refl
 rest-skip zero (m ∷ l) = refl
 rest-skip (suc o) (m ∷ l) = rest-skip o l
 
-none-left : (o : ℕ) (l : List Message) → noItems (skip o l) ≡ leb (length l) o
+pub none-left : (o : ℕ) (l : List Message) → noItems (skip o l) ≡ leb (length l) o
 none-left zero [] = refl
 none-left (suc o) [] = sym (le-leb 0 (suc o) (omega arith))
 none-left zero (m ∷ l) = sym (lt-leb (length (m ∷ l)) 0 (omega arith))

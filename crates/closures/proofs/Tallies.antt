@@ -61,7 +61,7 @@ module _ (T : Tally) where
       rw (t, ← q, eqb-true a i t) (omega (arith, of-drop i r)))
       (λ t. rw t (omega (arith, of-find a r p (rw t at e))))
 
-  of-put : (n : ℕ) (g : ClosureHead) (s b : Closure) → of (put n g s b) ≤ alone n g s + of b
+  pub of-put : (n : ℕ) (g : ClosureHead) (s b : Closure) → of (put n g s b) ≤ alone n g s + of b
   unfolding put of
   of-put n g s close = omega arith
   of-put n g s (part i h b r) = byTest (ltb n i) (λ t. rw t (omega arith))
@@ -73,7 +73,7 @@ module _ (T : Tally) where
   of-merge (part i h b r) c = omega (arith, of-put i h b (merge r c), of-merge r c)
 
   -- the inside of one part that is not shut is altered
-  of-alter : (n : ℕ) (G : Closure → Closure) (b : Closure) (p : ClosureHead × Closure) → find n b ≡ some p → T .shut (p .0) ≡ false →
+  pub of-alter : (n : ℕ) (G : Closure → Closure) (b : Closure) (p : ClosureHead × Closure) → find n b ≡ some p → T .shut (p .0) ≡ false →
       of (alter n (λ e. e) G b) + of (p .1) ≡ of b + of (G (p .1))
   unfolding find alter of
   of-alter n G close p e s = none≢some e
@@ -96,6 +96,18 @@ module _ (T : Tally) where
     unfolding alter of
     of-spend n close = omega arith
     of-spend n (part i h b r) = byTest (eqb n i) (λ t. rw t (omega (arith, spent-less i h b))) (λ t. rw t (omega (arith, of-spend n r)))
+
+    -- exactly, where the actor is found
+    pub of-spent : (n : ℕ) (b : Closure) (a : Action) (s : Closure) → find n b ≡ some (action a, s) →
+        of (spend (under σ) n b) + T .own n (action a) ≡ of b + T .own n (action (spentOne a))
+    unfolding find alter of spentHead
+    of-spent n close a s e = none≢some e
+    of-spent n (part i h b r) a s e = byTest (eqb n i)
+        (λ t.
+        let q : (h, b) ≡ (action a, s) = some-is (rw t at e) in
+        rw (t, ap (λ (x : ClosureHead × Closure). x .0) q, eqb-true n i t)
+        (omega (arith, open-inside (action a) b (T .actions a), open-inside (action (spentOne a)) b (T .actions (spentOne a)))))
+        (λ t. rw t (omega (arith, of-spent n r a s (rw t at e))))
 
     spent-open : (h : ClosureHead) → allSpent σ h ≡ true → T .shut h ≡ false
     unfolding allSpent
