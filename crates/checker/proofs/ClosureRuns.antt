@@ -1,13 +1,14 @@
 -- Lists of moves on closures: the closure machine's run unfolds to the plain machine's, halts at the same question and place,
 -- and so no list makes more moves than the script's bound. Assumes nothing.
 use Prim.Native.Nat.{ℕ, suc, _+_, _^_, _≤_, min}
-use mathlib.Core.Bool.{true, false, cond}
+use mathlib.Core.Bool.{Bool, true, false, cond, _&&_}
 use mathlib.Core.List.{List, [], _∷_, _++_}
 use mathlib.Core.Option.{Option, none, some, Option·map}
 use mathlib.Core.Path.{_≡_, refl, sym, ap, ap₂, _∙_, subst}
 use native.Mathlib.Omega.{arith}
+use lib.Dec.{leb}
 use lib.ListN.{length, length-append, length-take, take}
-use Rattle.messages.specs.Reading.{Cursor, got}
+use Rattle.messages.specs.Reading.{Cursor, Reading, refuse, got}
 use Rattle.scripts.specs.Tree.{Plain}
 use Rattle.scripts.specs.Script.{Script, readScript}
 use Rattle.scripts.specs.Measures.{receiptsIn, mostItems, movesBound}
@@ -20,10 +21,14 @@ use Rattle.closures.proofs.Invariant.{Good, move-good}
 use Rattle.closures.proofs.Simulation.{unfold-move}
 use Rattle.closures.proofs.Started.{closure-started, started-good}
 use Rattle.closures.proofs.Bound.{budget, Bounded, move-costs, started-bounded, started-budget}
-use Rattle.checker.specs.Call.{Call, Ran, actor, target, moveFits, run}
+use Rattle.rules.specs.Rule.{Rule}
+use Rattle.rules.specs.ReadRule.{readWholeRule}
+use Rattle.walk.specs.Walk.{Count, Walked, stopped, says, walkFrom}
+use Rattle.walk.specs.PlainWalk.{plainSpace}
+use Rattle.checker.specs.Call.{Call, Ran, actor, target, moveFits, run, refusal, written, finish, walked, setting, ruleRun, ruleRead, scriptRead, answer}
 use Rattle.checker.specs.Call as plain
 use Rattle.checker.specs.ClosureCall.{ClosureRan, halted, moved, afterMove, ifMade, closureRun, unfoldRan, begun}
-use Rattle.checker.specs.Standing.{After, BoundHolds}
+use Rattle.checker.specs.Standing.{After, BoundHolds, MovesBounded}
 
 -- the invariant, of a machine
 abbrev pub GoodMachine : ClosureMachine → Type 0
@@ -110,3 +115,34 @@ bound-holds c p e k m l a =
     let h : Paid 0 (length (take k (c .moves))) (movesBound (p .0)) (plain.moved m) =
       subst (Paid 0 (length (take k (c .moves))) (movesBound (p .0))) a (moves-paid (c .script) p e (p .1 .number) (take k (c .moves))) in
     omega (arith, h, length-take k (c .moves))
+
+-- ---- what the call answers
+
+finish-moves : (c : Call) (m : Machine) (a : Bool) (n : Count) → finish c m a n .moves ≡ length (c .moves)
+unfolding finish refusal
+finish-moves c m a n = byTest (leb (length (written m)) (min (length (c .buffer)) 268435456)) (λ t. rw t) (λ t. rw t)
+
+walked-moves : (c : Call) (m : Machine) (w : Walked) → walked c m w .moves ≡ length (c .moves)
+unfolding walked refusal
+walked-moves c m (stopped q i v) = refl
+walked-moves c m (says a n) = finish-moves c m a n
+
+run-moves : (c : Call) (n p : ℕ) (r : Rule) (x : ℕ) (y : Ran) → Paid 0 (length (c .moves)) x y → ruleRun c n p r y .moves ≤ x
+unfolding ruleRun refusal
+run-moves c n p r x (plain.halted q i) h = omega arith
+run-moves c n p r x (plain.moved m) h = omega (arith, walked-moves c m (walkFrom (plainSpace (n + p)) (setting c n) r (m .tree)))
+
+rule-moves : (c : Call) (b : Script) (n x : ℕ) (y : Reading (Rule × Cursor)) → Paid 0 (length (c .moves)) x (run n 0 (c .moves) (plain.begun b)) → ruleRead c b n y .moves ≤ x
+unfolding ruleRead refusal
+rule-moves c b n x (refuse q i) h = omega arith
+rule-moves c b n x (got q) h = byTest (leb 1 (c .patience) && leb (c .patience) 16777216)
+    (λ t. byTest (leb (length (c .moves)) 4096)
+    (λ u. rw (t, u) (run-moves c n (q .1 .number) (q .0) x (run n 0 (c .moves) (plain.begun b)) h))
+    (λ u. rw (t, u) (omega arith)))
+    (λ t. rw t (omega arith))
+
+-- THEOREM: the moves made, in a refused call too, are at most the bound of the script as read.
+pub moves-bounded : (c : Call) → MovesBounded c
+unfolding answer scriptRead
+moves-bounded c p e =
+    rw e (rule-moves c (p .0) (p .1 .number) (movesBound (p .0)) (readWholeRule (p .1 .number) (c .rule)) (moves-paid (c .script) p e (p .1 .number) (c .moves)))

@@ -13,7 +13,7 @@ use Rattle.rules.specs.Rule.{Rule}
 use Rattle.rules.specs.ReadRule.{readWholeRule}
 use Rattle.calculus.specs.Satisfaction.{Sat}
 use Rattle.calculus.specs.Calculus.{Satisfies, process}
-use Rattle.checker.specs.Call.{Call, Ran, moved, run, begun}
+use Rattle.checker.specs.Call.{Call, Ran, moved, run, begun, answer}
 
 -- what stands when the walk begins
 pub record Standing (c : Call) : Type 0 where
@@ -43,3 +43,7 @@ WeightHolds c = (p : Script × Cursor) → readScript (c .script) ≡ got p → 
 -- the bound: "no list makes more than r + a × s ^ (r + 1) moves"; of every list's beginning that is made, a refused one's too
 abbrev pub BoundHolds : Call → Type 0
 BoundHolds c = (p : Script × Cursor) → readScript (c .script) ≡ got p → (k : ℕ) (m : Machine) → k ≤ length (c .moves) → After c p k m → k ≤ movesBound (p .0)
+
+-- and so of what the call answers, refused or not
+abbrev pub MovesBounded : Call → Type 0
+MovesBounded c = (p : Script × Cursor) → readScript (c .script) ≡ got p → answer c .moves ≤ movesBound (p .0)
