@@ -4,3 +4,4 @@ pub mod Door
 pub mod Begun
 pub mod Answers
 pub mod Verdict
+pub mod ClosureRuns

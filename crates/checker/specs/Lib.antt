@@ -1,4 +1,5 @@
 -- What the contracts of `checker` cite. Assumes nothing: these are definitions.
 pub mod Call
 pub mod Standing
+pub mod ClosureCall
 pub mod Examples

@@ -3,16 +3,17 @@
 use Prim.Native.Nat.{ℕ, _≤_}
 use mathlib.Core.List.{List, []}
 use mathlib.Core.Path.{_≡_}
-use lib.ListN.{take}
+use lib.ListN.{length, take}
 use Rattle.messages.specs.Reading.{Cursor, got}
 use Rattle.scripts.specs.Script.{Script, readScript}
+use Rattle.scripts.specs.Measures.{movesBound}
 use Rattle.scripts.specs.Tree.{parts}
 use Rattle.machine.specs.PlainMachine.{Machine, weightOf}
 use Rattle.rules.specs.Rule.{Rule}
 use Rattle.rules.specs.ReadRule.{readWholeRule}
 use Rattle.calculus.specs.Satisfaction.{Sat}
 use Rattle.calculus.specs.Calculus.{Satisfies, process}
-use Rattle.checker.specs.Call.{Call, Ran, moved, run, begun}
+use Rattle.checker.specs.Call.{Call, Ran, moved, run, begun, answer}
 
 -- what stands when the walk begins
 pub record Standing (c : Call) : Type 0 where
@@ -38,3 +39,11 @@ After c p k m = run (p .1 .number) 0 (take k (c .moves)) (begun (p .0)) ≡ move
 -- "parts in the tree plus twice the receipts made are at most the script's parts", before the first move and after each
 abbrev pub WeightHolds : Call → Type 0
 WeightHolds c = (p : Script × Cursor) → readScript (c .script) ≡ got p → (k : ℕ) (m : Machine) → After c p k m → weightOf m ≤ parts (p .0)
+
+-- the bound: "no list makes more than r + a × s ^ (r + 1) moves"; of every list's beginning that is made, a refused one's too
+abbrev pub BoundHolds : Call → Type 0
+BoundHolds c = (p : Script × Cursor) → readScript (c .script) ≡ got p → (k : ℕ) (m : Machine) → k ≤ length (c .moves) → After c p k m → k ≤ movesBound (p .0)
+
+-- and so of what the call answers, refused or not
+abbrev pub MovesBounded : Call → Type 0
+MovesBounded c = (p : Script × Cursor) → readScript (c .script) ≡ got p → answer c .moves ≤ movesBound (p .0)

@@ -1,0 +1,146 @@
+-- The invariant of a closure under bindings: a receipt is the only one of its variable, the variable is used nowhere outside
+-- the receipt and is new to the bindings, and no action inside a receipt has spent an item. Moves keep it. Assumes nothing.
+use Prim.Native.Nat.{ℕ, _+_, _≤_}
+use mathlib.Core.Bool.{Bool, true, false, cond}
+use mathlib.Core.List.{List, [], _∷_, _++_}
+use mathlib.Core.Path.{_≡_, refl, sym, ap, _∙_}
+use mathlib.Core.Option.{some}
+use native.Mathlib.Omega.{arith}
+use lib.Dec.{eqb}
+use borrow.Author.Tests.{eqb-true, eqb-false, eq-eqb}
+use Rattle.messages.specs.Message.{Message, name, variable, enter, exit, opens, empty, path}
+use Rattle.messages.specs.declared.Named.the-variants.{Called}
+use Rattle.scripts.specs.Tree.{Head, ambient, action, receipt, output, Body, close, part, one, sum}
+use Rattle.machine.specs.Moves.{Moved, headName}
+use Rattle.machine.proofs.Options.{byTest}
+use Rattle.bindings.proofs.Substitution.{Fresh, New}
+use Rattle.closures.specs.Closure.{Action, ClosureHead, Closure, Bindings, under, settleUnder, closureMove}
+use Rattle.closures.proofs.Tallies.{Tally, of, alone, of-part, named-open, of-settle, Takes, Step, spends, takes, move-step}
+
+-- how often a variable stands in a message
+unfoldable pub uses : ℕ → Message → ℕ
+uses v (name n) = 0
+uses v (variable u) = one (eqb u v)
+uses v (enter m) = uses v m
+uses v (exit m) = uses v m
+uses v (opens m) = uses v m
+uses v empty = 0
+uses v (path m k) = uses v m + uses v k
+
+one-none : (t : Bool) → one t ≡ 0 → t ≡ false
+one-none true e = absurd (omega arith)
+one-none false e = refl
+
+pub uses-none : (v : ℕ) (m : Message) → uses v m ≡ 0 → Fresh v m
+unfolding uses Fresh
+uses-none v (name n) z = tt
+uses-none v (variable u) z = eqb-false u v (one-none (eqb u v) z)
+uses-none v (enter m) z = uses-none v m z
+uses-none v (exit m) z = uses-none v m z
+uses-none v (opens m) z = uses-none v m z
+uses-none v empty z = tt
+uses-none v (path m k) z = (uses-none v m (omega arith), uses-none v k (omega arith))
+
+abbrev pub usesIn : ℕ → ClosureHead → ℕ
+usesIn v (ambient m) = uses v m
+usesIn v (action a) = uses v (a .message)
+usesIn v (receipt u) = 0
+usesIn v (output m) = uses v m
+
+-- a receipt of that variable
+abbrev pub receives : ℕ → ClosureHead → Bool
+receives v (ambient m) = false
+receives v (action a) = false
+receives v (receipt u) = eqb u v
+receives v (output m) = false
+
+-- the items that are spent
+abbrev pub spentIn : ClosureHead → ℕ
+spentIn (ambient m) = 0
+spentIn (action a) = a .offset
+spentIn (receipt u) = 0
+spentIn (output m) = 0
+
+-- how many receipts a variable has
+abbrev pub receipts : ℕ → Tally
+receipts v = record {
+  own = λ k h. one (receives v h);
+  shut = λ h. false;
+  guarded = λ k h. 0;
+  ambients = λ m. refl;
+  actions = λ a. refl;
+  spends = λ k a. omega arith;
+}
+
+-- how often it is used outside its receipts, with the items that are spent inside them
+abbrev pub loose : ℕ → Tally
+loose v = record {
+  own = λ k h. usesIn v h;
+  shut = receives v;
+  guarded = λ k h. spentIn h;
+  ambients = λ m. refl;
+  actions = λ a. refl;
+  spends = λ k a. omega arith;
+}
+
+pub record Good (σ : Bindings) (b : Closure) : Type 0 where
+  pub once : (v : ℕ) → of (receipts v) b ≤ 1
+  pub apart : (v : ℕ) → 1 ≤ of (receipts v) b → of (loose v) b ≡ 0
+  pub new : (v : ℕ) → 1 ≤ of (receipts v) b → New v σ
+
+pub not-received : (v : ℕ) (h : ClosureHead) → one (receives v h) ≡ 0 → receives v h ≡ false
+not-received v h e = one-none (receives v h) e
+
+pub received-self : (v : ℕ) → eqb v v ≡ true
+received-self v = eq-eqb v v refl
+
+-- with less in it, a closure is good too
+pub good-less : (σ : Bindings) (b c : Closure) → ((T : Tally) → of T c ≤ of T b) → Good σ b → Good σ c
+good-less σ b c f G = record {
+  once = λ v. omega (arith, f (receipts v), G .once v);
+  apart = λ v n. omega (arith, f (loose v), G .apart v (omega (arith, f (receipts v))));
+  new = λ v n. G .new v (omega (arith, f (receipts v)));
+}
+
+pub good-settled : (σ τ : Bindings) (b : Closure) → Good σ b → Good σ (settleUnder τ b)
+good-settled σ τ b = good-less σ b (settleUnder τ b) (λ T. of-settle T τ b)
+
+pub good-rest : (σ : Bindings) (i : ℕ) (h : ClosureHead) (b r : Closure) → Good σ (part i h b r) → Good σ r
+unfolding of
+good-rest σ i h b r = good-less σ (part i h b r) r (λ T. omega arith)
+
+pub good-inside : (σ : Bindings) (i n : ℕ) (h : ClosureHead) (b r : Closure) → headName (under σ) h ≡ Called n → Good σ (part i h b r) → Good σ b
+good-inside σ i n h b r e = good-less σ (part i h b r) b (λ T. omega (arith, of-part T i h b r (named-open T σ h n e)))
+
+-- what a receipt that is made does to the two
+module _ (b c : Closure) (news : Bindings) (x : Takes b c news) where
+  pub receipts-taken : (u : ℕ) → of (receipts u) c + one (eqb (x .bound) u) ≤ of (receipts u) b
+  receipts-taken u = omega (arith, x .law (receipts u))
+
+  pub bound-received : 1 ≤ of (receipts (x .bound)) b
+  bound-received = omega (arith, ap one (received-self (x .bound)), receipts-taken (x .bound))
+
+  loose-taken : (u : ℕ) → eqb (x .bound) u ≡ false → of (loose u) c + uses u (x .sent) ≤ of (loose u) b
+  loose-taken u t = omega (arith, rw t at (x .law (loose u)))
+
+  good-takes : (σ : Bindings) → Good σ b → Good ((x .bound, x .sent) ∷ σ) c
+  unfolding New
+  good-takes σ G = record {
+    once = λ v. omega (arith, receipts-taken v, G .once v);
+    apart = λ v n. omega (arith, loose-taken v (other v n), G .apart v (before v n));
+    new = λ v n. (eqb-false (x .bound) v (other v n), uses-none v (x .sent) (omega (arith, loose-taken v (other v n), G .apart v (before v n))), G .new v (before v n));
+  }
+    where
+      before : (v : ℕ) → 1 ≤ of (receipts v) c → 1 ≤ of (receipts v) b
+      before v n = omega (arith, receipts-taken v)
+
+      other : (v : ℕ) → 1 ≤ of (receipts v) c → eqb (x .bound) v ≡ false
+      other v n = one-none (eqb (x .bound) v) (omega (arith, receipts-taken v, G .once v))
+
+pub good-step : (σ : Bindings) (b c : Closure) (news : Bindings) → Step b c news → Good σ b → Good (news ++ σ) c
+good-step σ b c news (spends e l) G = rw e (good-less σ b c l G)
+good-step σ b c news (takes x) G = rw (x .told) (good-takes b c news x σ G)
+
+-- THEOREM: a closure move keeps the invariant, with the new bindings.
+pub move-good : (σ : Bindings) (a t : ℕ) (b : Closure) (m : Moved Action) → closureMove σ a t b ≡ some m → Good σ b → Good (m .news ++ σ) (m .body)
+move-good σ a t b m e = good-step σ b (m .body) (m .news) (move-step σ a t b m e)
