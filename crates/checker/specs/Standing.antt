@@ -40,7 +40,8 @@ After c p k m = run (p .1 .number) 0 (take k (c .moves)) (begun (p .0)) ≡ move
 abbrev pub WeightHolds : Call → Type 0
 WeightHolds c = (p : Script × Cursor) → readScript (c .script) ≡ got p → (k : ℕ) (m : Machine) → After c p k m → weightOf m ≤ parts (p .0)
 
--- the bound: "no list makes more than r + a × s ^ (r + 1) moves"; of every list's beginning that is made, a refused one's too
+-- the bound, r + a × s ^ (r + 1): "The bound counts the moves made, in a refused call too"; here of every beginning of a list
+-- that is made
 abbrev pub BoundHolds : Call → Type 0
 BoundHolds c = (p : Script × Cursor) → readScript (c .script) ≡ got p → (k : ℕ) (m : Machine) → k ≤ length (c .moves) → After c p k m → k ≤ movesBound (p .0)
 
