@@ -49,11 +49,11 @@ message-known = record {
     rises = omega (arith, x .index);
     bound = λ u d. mentions-other v u (ne-eqb v u (λ y. true≢false (sym e ∙ ap (λ (z : ℕ). member z around) y ∙ d)));
   };
-  wraps = λ around c q p x h.
-    ( record { rises = omega (arith, x .index, h .rises); bound = h .bound }
-    , record { rises = omega (arith, x .index, h .rises); bound = h .bound }
-    , record { rises = omega (arith, x .index, h .rises); bound = h .bound }
-    );
+  wraps = λ around c q p x h. (
+    record { rises = omega (arith, x .index, h .rises); bound = h .bound },
+    record { rises = omega (arith, x .index, h .rises); bound = h .bound },
+    record { rises = omega (arith, x .index, h .rises); bound = h .bound },
+  );
   empties = λ around c q x. record { rises = omega (arith, x .index); bound = λ v d. refl };
   paths = λ around c q p r x h g. record { rises = omega (arith, x .index, h .rises, g .rises); bound = λ v d. omega (arith, h .bound v d, g .bound v d) };
 }
@@ -94,9 +94,9 @@ module _ (around : List ℕ) (c : Cursor) (q : ℕ × Cursor) (x : Next c q) (m 
   with-message h b r B R z u f = record {
     rises = omega (arith, x .index, k .rises, B .rises, R .rises);
     receipts = λ v.
-      let w = two-ranges v (m .1 .index) (b .1 .index) (r .1 .index) _ _ (B .receipts v) (R .receipts v) (B .rises) (R .rises) in
-      let e : bindings v (hold (b .0)) + bindings v (hold (r .0)) ≡ binds v (holdHead h) + (bindings v (hold (b .0)) + bindings v (hold (r .0))) = omega (arith, z v) in
-      subst (Range v (c .index) (r .1 .index)) e (sooner v (c .index) (m .1 .index) (r .1 .index) _ (omega (arith, x .index, k .rises)) w);
+        let w = two-ranges v (m .1 .index) (b .1 .index) (r .1 .index) _ _ (B .receipts v) (R .receipts v) (B .rises) (R .rises) in
+        let e : bindings v (hold (b .0)) + bindings v (hold (r .0)) ≡ binds v (holdHead h) + (bindings v (hold (b .0)) + bindings v (hold (r .0))) = omega (arith, z v) in
+        subst (Range v (c .index) (r .1 .index)) e (sooner v (c .index) (m .1 .index) (r .1 .index) _ (omega (arith, x .index, k .rises)) w);
     bound = λ v d. omega (arith, f v (process (hold (b .0))) (k .bound v d) (B .bound v d), R .bound v d);
     itemised = omega (arith, u, B .itemised, R .itemised);
   }
@@ -125,11 +125,11 @@ unfolding hold mapHeads sum process holdHead binds untidy piece
 receipt-bound around c q b r x B R = record {
   rises = omega (arith, x .index, B .rises, R .rises);
   receipts = λ v.
-    let w = two-ranges v (q .1 .index) (b .1 .index) (r .1 .index) _ _ (B .receipts v) (R .receipts v) (B .rises) (R .rises) in
-    two-ranges v (c .index) (c .index + 1) (r .1 .index) _ _ (one-range v (c .index)) (sooner v (c .index + 1) (q .1 .index) (r .1 .index) _ (omega (arith, x .index)) w) (omega arith) (omega (arith, x .index, B .rises, R .rises));
+      let w = two-ranges v (q .1 .index) (b .1 .index) (r .1 .index) _ _ (B .receipts v) (R .receipts v) (B .rises) (R .rises) in
+      two-ranges v (c .index) (c .index + 1) (r .1 .index) _ _ (one-range v (c .index)) (sooner v (c .index + 1) (q .1 .index) (r .1 .index) _ (omega (arith, x .index)) w) (omega arith) (omega (arith, x .index, B .rises, R .rises));
   bound = λ v d. both-free v (input (c .index) (process (hold (b .0)))) (process (hold (r .0)))
-    (byTest (eqb (c .index) v) (λ t. free-same (c .index) v (process (hold (b .0))) t) (λ t. free-other (c .index) v (process (hold (b .0))) t ∙ B .bound v (member-cons v (c .index) around t d)))
-    (R .bound v d);
+      (byTest (eqb (c .index) v) (λ t. free-same (c .index) v (process (hold (b .0))) t) (λ t. free-other (c .index) v (process (hold (b .0))) t ∙ B .bound v (member-cons v (c .index) around t d)))
+      (R .bound v d);
   itemised = omega (arith, B .itemised, R .itemised);
 }
 
@@ -189,16 +189,16 @@ module _ (c : Cursor) (q : ℕ × Cursor) (x : Next c q) where
 rule-placing : rule.Cases Placing
 rule-placing = record {
   leaves = λ somes c q x. (record { rises = omega (arith, x .number); places = tt }, record { rises = omega (arith, x .number); places = tt });
-  ones = λ somes c q p x h.
-    ( record { rises = omega (arith, x .number, h .rises); places = down c q x (p .0) (h .places) }
-    , record { rises = omega (arith, x .number, h .rises); places = down c q x (p .0) (h .places) }
-    , record { rises = omega (arith, x .number, h .rises); places = down c q x (p .0) (h .places) }
-    );
+  ones = λ somes c q p x h. (
+    record { rises = omega (arith, x .number, h .rises); places = down c q x (p .0) (h .places) },
+    record { rises = omega (arith, x .number, h .rises); places = down c q x (p .0) (h .places) },
+    record { rises = omega (arith, x .number, h .rises); places = down c q x (p .0) (h .places) },
+  );
   twos = λ somes c q p r x h g.
-    let w : Places (c .number) (r .0) = places-down (r .0) (c .number) (p .1 .number) (omega (arith, x .number, h .rises)) (g .places) in
-    ( record { rises = omega (arith, x .number, h .rises, g .rises); places = (down c q x (p .0) (h .places), w) }
-    , record { rises = omega (arith, x .number, h .rises, g .rises); places = (down c q x (p .0) (h .places), w) }
-    );
+      let w : Places (c .number) (r .0) = places-down (r .0) (c .number) (p .1 .number) (omega (arith, x .number, h .rises)) (g .places) in (
+        record { rises = omega (arith, x .number, h .rises, g .rises); places = (down c q x (p .0) (h .places), w) },
+        record { rises = omega (arith, x .number, h .rises, g .rises); places = (down c q x (p .0) (h .places), w) },
+      );
   ats = λ somes c q p x e o h. record { rises = omega (arith, x .number, h .rises); places = down c q x (p .0) (h .places) };
   chooses = λ somes c q p x l h. record { rises = omega (arith, x .number, h .rises); places = down c q x (p .0) (h .places) };
   places = λ somes c q p x e o h. record { rises = omega (arith, x .number, h .rises); places = (omega (arith, x .number), h .places) };

@@ -113,7 +113,7 @@ moves-paid ws p e n moves =
 pub bound-holds : (c : Call) → BoundHolds c
 bound-holds c p e k m l a =
     let h : Paid 0 (length (take k (c .moves))) (movesBound (p .0)) (plain.moved m) =
-      subst (Paid 0 (length (take k (c .moves))) (movesBound (p .0))) a (moves-paid (c .script) p e (p .1 .number) (take k (c .moves))) in
+    subst (Paid 0 (length (take k (c .moves))) (movesBound (p .0))) a (moves-paid (c .script) p e (p .1 .number) (take k (c .moves))) in
     omega (arith, h, length-take k (c .moves))
 
 -- ---- what the call answers

@@ -88,20 +88,20 @@ SaidIf G around c p = Low G c → Said G c p
 message-said : (G : ℕ) → message.Cases (SaidIf G)
 message-said G = record {
   names = λ around c q n x e l.
-    let w = word-name (q .0) n e in
-    record { low = low-next G c q x l; number = x .number; names = omega (arith, low-head (q .0) (q .1 .left) (w .0), rw (x .words) at l, w .1) };
+      let w = word-name (q .0) n e in
+      record { low = low-next G c q x l; number = x .number; names = omega (arith, low-head (q .0) (q .1 .left) (w .0), rw (x .words) at l, w .1) };
   variables = λ around c q v x e l. record { low = low-next G c q x l; number = x .number; names = tt };
   wraps = λ around c q p x h.
-    let z : Low G c → Said G (q .1) p = λ l. h (low-next G c q x l) in
-    ( (λ l. record { low = z l .low; number = z l .number ∙ x .number; names = z l .names })
-    , (λ l. record { low = z l .low; number = z l .number ∙ x .number; names = z l .names })
-    , (λ l. record { low = z l .low; number = z l .number ∙ x .number; names = z l .names })
-    );
+      let z : Low G c → Said G (q .1) p = λ l. h (low-next G c q x l) in (
+        (λ l. record { low = z l .low; number = z l .number ∙ x .number; names = z l .names }),
+        (λ l. record { low = z l .low; number = z l .number ∙ x .number; names = z l .names }),
+        (λ l. record { low = z l .low; number = z l .number ∙ x .number; names = z l .names }),
+      );
   empties = λ around c q x l. record { low = low-next G c q x l; number = x .number; names = tt };
   paths = λ around c q p r x h g l.
-    let a = h (low-next G c q x l) in
-    let b = g (a .low) in
-    record { low = b .low; number = b .number ∙ a .number ∙ x .number; names = (a .names, b .names) };
+      let a = h (low-next G c q x l) in
+      let b = g (a .low) in
+      record { low = b .low; number = b .number ∙ a .number ∙ x .number; names = (a .names, b .names) };
 }
 
 -- every name of a part as it is written has P
@@ -128,11 +128,11 @@ module _ (G : ℕ) (c : Cursor) where
   part-fits h d b r l w x y = record {
     low = y .low;
     rises = omega (arith, x .rises, y .rises);
-    fits =
-      ( (omega (arith, x .rises, y .rises), w)
-      , more-everywhere (Inked (λ k. k < b .1 .number) (λ n. n ≤ G)) (Inked (λ k. k < r .1 .number) (λ n. n ≤ G)) (λ k g z. (omega (arith, z .0, y .rises), z .1)) (b .0) (x .fits)
-      , y .fits
-      );
+    fits = (
+      (omega (arith, x .rises, y .rises), w),
+      more-everywhere (Inked (λ k. k < b .1 .number) (λ n. n ≤ G)) (Inked (λ k. k < r .1 .number) (λ n. n ≤ G)) (λ k g z. (omega (arith, z .0, y .rises), z .1)) (b .0) (x .fits),
+      y .fits,
+    );
   }
 
   none-fits : (d : Cursor) → Low G d → d .number ≡ c .number → Bodied G c (close, d)
@@ -143,19 +143,19 @@ body-said G = record {
   messages = message.message-case (SaidIf G) (message-said G);
   closed = λ around c q x l. none-fits G c (q .1) (low-next G c q x l) (x .number);
   ambients = λ around c q m b r x h g f l.
-    let a = h (low-next G c q x l) in
-    let d = g (a .low) in
-    part-fits G c (ambient (m .0)) (m .1) b r (omega (arith, a .number, x .number)) (a .names) d (f (d .low));
+      let a = h (low-next G c q x l) in
+      let d = g (a .low) in
+      part-fits G c (ambient (m .0)) (m .1) b r (omega (arith, a .number, x .number)) (a .names) d (f (d .low));
   actions = λ around c q m b r x h g f l.
-    let a = h (low-next G c q x l) in
-    let d = g (a .low) in
-    part-fits G c (action (m .0)) (m .1) b r (omega (arith, a .number, x .number)) (a .names) d (f (d .low));
+      let a = h (low-next G c q x l) in
+      let d = g (a .low) in
+      part-fits G c (action (m .0)) (m .1) b r (omega (arith, a .number, x .number)) (a .names) d (f (d .low));
   receipts = λ around c q b r x g f l.
-    let d = g (low-next G c q x l) in
-    part-fits G c (receipt (c .index)) (nextPart (q .1)) b r (omega (arith, x .number)) tt d (f (d .low));
+      let d = g (low-next G c q x l) in
+      part-fits G c (receipt (c .index)) (nextPart (q .1)) b r (omega (arith, x .number)) tt d (f (d .low));
   outputs = λ around c q m r x h f l.
-    let a = h (low-next G c q x l) in
-    part-fits G c (output (m .0)) (m .1) (close, m .1) r (omega (arith, a .number, x .number)) (a .names) (none-fits G (m .1) (m .1) (a .low) refl) (f (a .low));
+      let a = h (low-next G c q x l) in
+      part-fits G c (output (m .0)) (m .1) (close, m .1) r (omega (arith, a .number, x .number)) (a .names) (none-fits G (m .1) (m .1) (a .low) refl) (f (a .low));
 }
 
 held-all : (P : ℕ → Type 0) (h : Head Message) → WrittenAll P h → HeadAll P (holdHead h)
@@ -255,26 +255,26 @@ module _ (G : ℕ) where
 
   rule-said : rule.Cases (RuledIf G)
   rule-said = record {
-    leaves = λ somes c q x.
-      ( (λ l. record { low = rule-next G c q x l .1; rises = omega (arith, x .number); fits = tt })
-      , (λ l. record { low = rule-next G c q x l .1; rises = omega (arith, x .number); fits = tt })
-      );
-    ones = λ somes c q p x h.
-      ( ruled-one c q p (negation (c .index)) x h (λ J P z. z)
-      , ruled-one c q p (sometime (c .index)) x h (λ J P z. z)
-      , ruled-one c q p (somewhere (c .index)) x h (λ J P z. z)
-      );
-    twos = λ somes c q p r x h k.
-      ( ruled-two c q p r (either (c .index)) x h k (λ J P y z. (y, z))
-      , ruled-two c q p r (beside (c .index)) x h k (λ J P y z. (y, z))
-      );
+    leaves = λ somes c q x. (
+      (λ l. record { low = rule-next G c q x l .1; rises = omega (arith, x .number); fits = tt }),
+      (λ l. record { low = rule-next G c q x l .1; rises = omega (arith, x .number); fits = tt }),
+    );
+    ones = λ somes c q p x h. (
+      ruled-one c q p (negation (c .index)) x h (λ J P z. z),
+      ruled-one c q p (sometime (c .index)) x h (λ J P z. z),
+      ruled-one c q p (somewhere (c .index)) x h (λ J P z. z),
+    );
+    twos = λ somes c q p r x h k. (
+      ruled-two c q p r (either (c .index)) x h k (λ J P y z. (y, z)),
+      ruled-two c q p r (beside (c .index)) x h k (λ J P y z. (y, z)),
+    );
     ats = λ somes c q p x e o h l.
-      let a = h (rule-next G c q x l .1) in
-      record { low = a .low; rises = omega (arith, a .rises, x .number); fits = (term-fits G (q .0) (at-termed (q .0) e) (rule-next G c q x l .0), a .fits) };
+        let a = h (rule-next G c q x l .1) in
+        record { low = a .low; rises = omega (arith, a .rises, x .number); fits = (term-fits G (q .0) (at-termed (q .0) e) (rule-next G c q x l .0), a .fits) };
     chooses = λ somes c q p x s h. ruled-one c q p (some-name (c .index)) x h (λ J P z. z);
     places = λ somes c q p x e o h l.
-      let a = h (rule-next G c q x l .1) in
-      record { low = a .low; rises = omega (arith, a .rises, x .number); fits = (omega (arith, a .rises), term-fits G (q .0) (placed-termed (q .0) e) (rule-next G c q x l .0), a .fits) };
+        let a = h (rule-next G c q x l .1) in
+        record { low = a .low; rises = omega (arith, a .rises, x .number); fits = (omega (arith, a .rises), term-fits G (q .0) (placed-termed (q .0) e) (rule-next G c q x l .0), a .fits) };
   }
 
 -- THEOREM: in a rule as read every PLACED's place is below their number, and no name is above the greatest.

@@ -33,8 +33,8 @@ known c s = record {
   names = tt;
   rule = rule-more _ _ _ _ (λ j h. omega arith) (λ n h. omega arith) (s .rule .0) (rule-fits (s .script .1 .number) (c .rule) (s .rule) (s .rule-read));
   tree = fits-more (λ k. k < s .script .1 .number) _ (λ n. n ≤ greatestName (c .script)) _ (λ k h. omega arith) (λ n h. omega arith) (s .machine .tree)
-    (run-keeps (λ m. Fits (λ k. k < s .script .1 .number) (λ n. n ≤ greatestName (c .script)) (m .tree)) (λ a t m r x e. move-fits _ _ a t (m .tree) r e x .2)
-    (s .script .1 .number) 0 (c .moves) (begun (s .script .0)) (s .machine) (script-fits (c .script) (s .script) (s .script-read)) (s .moves-made));
+      (run-keeps (λ m. Fits (λ k. k < s .script .1 .number) (λ n. n ≤ greatestName (c .script)) (m .tree)) (λ a t m r x e. move-fits _ _ a t (m .tree) r e x .2)
+      (s .script .1 .number) 0 (c .moves) (begun (s .script .0)) (s .machine) (script-fits (c .script) (s .script) (s .script-read)) (s .moves-made));
 }
 
 -- what the walk of a standing call says is right

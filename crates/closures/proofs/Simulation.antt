@@ -174,11 +174,11 @@ module _ (σ : Bindings) where
     good-inside = good-inside σ;
     good-rest = good-rest σ;
     around = λ i n h c r m e g x.
-      let (p, q) = around i n h c (m .body) r (m .news) e g (makes-step σ a t x) in
-      ap₂ (λ (k : PlainHead) (d : Plain). record { body = part i k (K σ m .body) d; news = plainNews σ (m .news) }) p q;
+        let (p, q) = around i n h c (m .body) r (m .news) e g (makes-step σ a t x) in
+        ap₂ (λ (k : PlainHead) (d : Plain). record { body = part i k (K σ m .body) d; news = plainNews σ (m .news) }) p q;
     beside = λ i h c r m g x.
-      let (p, q) = beside i h c r (m .body) (m .news) g (makes-step σ a t x) in
-      ap₂ (λ (k : PlainHead) (d : Plain). record { body = part i k d (K σ m .body); news = plainNews σ (m .news) }) p q;
+        let (p, q) = beside i h c r (m .body) (m .news) g (makes-step σ a t x) in
+        ap₂ (λ (k : PlainHead) (d : Plain). record { body = part i k d (K σ m .body); news = plainNews σ (m .news) }) p q;
   }) b G
 
 -- settling

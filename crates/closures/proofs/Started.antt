@@ -83,11 +83,11 @@ message-known = record {
     bound = λ u d. ap one (ne-eqb v u (λ y. true≢false (sym e ∙ ap (λ (z : ℕ). member z around) y ∙ d)));
   };
   wraps = λ around c q p x h.
-    let k : c .index ≤ p .1 .index = omega (arith, x .index, h .rises) in
-    ( record { rises = k; bound = h .bound }
-    , record { rises = k; bound = h .bound }
-    , record { rises = k; bound = h .bound }
-    );
+      let k : c .index ≤ p .1 .index = omega (arith, x .index, h .rises) in (
+        record { rises = k; bound = h .bound },
+        record { rises = k; bound = h .bound },
+        record { rises = k; bound = h .bound },
+      );
   empties = λ around c q x. record { rises = omega (arith, x .index); bound = λ v d. refl };
   paths = λ around c q p r x h g. record { rises = omega (arith, x .index, h .rises, g .rises); bound = λ v d. omega (arith, h .bound v d, g .bound v d) };
 }
@@ -117,8 +117,8 @@ module _ (around : List ℕ) (c : Cursor) (q : ℕ × Cursor) (x : Next c q) (m 
   with-message h b r B R n z u = record {
     rises = omega (arith, x .index, k .rises, B .rises, R .rises);
     ranges = λ v. rw (n v)
-      (sooner v (c .index) (m .1 .index) (r .1 .index) _ (omega (arith, x .index, k .rises))
-      (subst (Range v (m .1 .index) (r .1 .index)) (omega arith) (two-ranges v (m .1 .index) (b .1 .index) (r .1 .index) _ _ (B .ranges v) (R .ranges v) (B .rises) (R .rises))));
+        (sooner v (c .index) (m .1 .index) (r .1 .index) _ (omega (arith, x .index, k .rises))
+        (subst (Range v (m .1 .index) (r .1 .index)) (omega arith) (two-ranges v (m .1 .index) (b .1 .index) (r .1 .index) _ _ (B .ranges v) (R .ranges v) (B .rises) (R .rises))));
     bound = λ v d. rw (n v) (omega (arith, u v, k .bound v d, B .bound v d, R .bound v d));
     whole = omega (arith, z, B .whole, R .whole);
   }
@@ -133,11 +133,11 @@ unfolding closureOf mapHeads sum of wholeHead
 receipt-bound around c q b r x B R = record {
   rises = omega (arith, x .index, B .rises, R .rises);
   ranges = λ v.
-    let w = two-ranges v (q .1 .index) (b .1 .index) (r .1 .index) _ _ (B .ranges v) (R .ranges v) (B .rises) (R .rises) in
-    two-ranges v (c .index) (c .index + 1) (r .1 .index) _ _ (one-range v (c .index)) (sooner v (c .index + 1) (q .1 .index) (r .1 .index) _ (omega (arith, x .index)) w) (omega arith) (omega (arith, x .index, B .rises, R .rises));
+      let w = two-ranges v (q .1 .index) (b .1 .index) (r .1 .index) _ _ (B .ranges v) (R .ranges v) (B .rises) (R .rises) in
+      two-ranges v (c .index) (c .index + 1) (r .1 .index) _ _ (one-range v (c .index)) (sooner v (c .index + 1) (q .1 .index) (r .1 .index) _ (omega (arith, x .index)) w) (omega arith) (omega (arith, x .index, B .rises, R .rises));
   bound = λ v d. byTest (eqb (c .index) v)
-    (λ t. rw t (omega (arith, B .whole, R .bound v d)))
-    (λ t. rw t (omega (arith, B .bound v (member-cons v (c .index) around t d), R .bound v d)));
+      (λ t. rw t (omega (arith, B .whole, R .bound v d)))
+      (λ t. rw t (omega (arith, B .bound v (member-cons v (c .index) around t d), R .bound v d)));
   whole = omega (arith, B .whole, R .whole);
 }
 

@@ -103,23 +103,32 @@ module _ {A : Type 0} (view : View A) (Q : ℕ → Head A → Type 0) (K : Keeps
       ((o .doer, p), (o .goal, q), rw (o .result) (spend-everywhere a _ (merge-everywhere Q (o .room) (drop t b) z (drop-everywhere Q t b x))))
   here-everywhere a t b c news (by-receive o) x =
       let (p, y) = find-everywhere Q a b _ (o .actor) x in
-      let (q, z) = find-everywhere Q t b _ (o .target) x in
-      ((receipt (o .bound), p), (output (o .sent), q), rw (o .result)
-      (merge-everywhere Q (view .delivered (o .bound) (o .sent) (o .after)) (drop t (drop a b)) (K .delivers t (o .bound) (o .sent) (o .after) q y) (drop-everywhere Q t (drop a b) (drop-everywhere Q a b x))))
+      let (q, z) = find-everywhere Q t b _ (o .target) x in (
+        (receipt (o .bound), p),
+        (output (o .sent), q),
+        rw (o .result)
+            (merge-everywhere Q (view .delivered (o .bound) (o .sent) (o .after)) (drop t (drop a b)) (K .delivers t (o .bound) (o .sent) (o .after) q y) (drop-everywhere Q t (drop a b) (drop-everywhere Q a b x))),
+      )
   here-everywhere a t b c news (by-enter o e) x =
       let (q, z) = find-everywhere Q t b _ (o .target) x in
       let (s, y) = find-everywhere Q (o .mover) b _ (o .around) x in
-      let (p, w) = find-everywhere Q a (o .inside) _ (o .actor) y in
-      ((o .doer, p), (o .goal, q), rw (o .result)
-      (alter-everywhere Q t (λ g. g) (put (o .mover) (o .shell) (spend view a (o .inside))) (λ k h u. u)
-      (λ d u. put-everywhere Q (o .mover) (o .shell) (spend view a (o .inside)) d s (spend-everywhere a (o .inside) y) u) (drop (o .mover) b) (drop-everywhere Q (o .mover) b x)))
+      let (p, w) = find-everywhere Q a (o .inside) _ (o .actor) y in (
+        (o .doer, p),
+        (o .goal, q),
+        rw (o .result)
+            (alter-everywhere Q t (λ g. g) (put (o .mover) (o .shell) (spend view a (o .inside))) (λ k h u. u)
+            (λ d u. put-everywhere Q (o .mover) (o .shell) (spend view a (o .inside)) d s (spend-everywhere a (o .inside) y) u) (drop (o .mover) b) (drop-everywhere Q (o .mover) b x)),
+      )
   here-everywhere a t b c news (by-exit o e) x =
       let (q, z) = find-everywhere Q t b _ (o .target) x in
       let (s, y) = find-everywhere Q (o .mover) (o .room) _ (o .around) z in
-      let (p, w) = find-everywhere Q a (o .inside) _ (o .actor) y in
-      ((o .doer, p), (o .goal, q), rw (o .result)
-      (put-everywhere Q (o .mover) (o .shell) (spend view a (o .inside)) (alter t (λ g. g) (drop (o .mover)) b) s (spend-everywhere a (o .inside) y)
-      (alter-everywhere Q t (λ g. g) (drop (o .mover)) (λ k h u. u) (drop-everywhere Q (o .mover)) b x)))
+      let (p, w) = find-everywhere Q a (o .inside) _ (o .actor) y in (
+        (o .doer, p),
+        (o .goal, q),
+        rw (o .result)
+            (put-everywhere Q (o .mover) (o .shell) (spend view a (o .inside)) (alter t (λ g. g) (drop (o .mover)) b) s (spend-everywhere a (o .inside) y)
+            (alter-everywhere Q t (λ g. g) (drop (o .mover)) (λ k h u. u) (drop-everywhere Q (o .mover)) b x)),
+      )
 
   pub makes-everywhere : (a t : ℕ) {b c : Body (Head A)} {news : List (ℕ × Message)} → Makes view (moveHere view a t) b c news → Everywhere Q b → Kept a t c
   makes-everywhere a t (now {b} m e) x = here-everywhere a t b (m .body) (m .news) (here-inv view a t b m e) x

@@ -263,8 +263,8 @@ module _ {A B : Type 0} (old : View A) (new : View B) (onAction : A → B) (onMe
     -- a receipt, where what is delivered is the same
     pub receive-map : (a t : ℕ) (b : Body (Head A)) →
         ((v : ℕ) (m : Message) (s c : Body (Head A)) → find a b ≡ some (receipt v, s) → find t b ≡ some (output m, c) →
-          record { body = merge (new .delivered v (onMessage m) (mapHeads F s)) (mapHeads F (drop t (drop a b))); news = (v, onMessage m) ∷ [] }
-          ≡ K (record { body = merge (old .delivered v m s) (drop t (drop a b)); news = (v, m) ∷ [] })) →
+        record { body = merge (new .delivered v (onMessage m) (mapHeads F s)) (mapHeads F (drop t (drop a b))); news = (v, onMessage m) ∷ [] }
+        ≡ K (record { body = merge (old .delivered v m s) (drop t (drop a b)); news = (v, m) ∷ [] })) →
         receiveMove new a t (mapHeads F b) ≡ Option·map K (receiveMove old a t b)
     unfolding receiveMove
     receive-map a t b d =

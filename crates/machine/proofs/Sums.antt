@@ -117,8 +117,11 @@ pub merge-exact : {H : Type 0} (f : ℕ → H → ℕ) (b c : Body H) → ((j : 
 unfolding merge sum
 merge-exact f close c d = omega arith
 merge-exact f (part i h b r) c d =
-    omega (arith, merge-exact f r c (λ j. omega (arith, d j)),
-    put-exact f i h b (merge r c) (omega (arith, d i, one-same i, merge-sum (λ k g. one (eqb i k)) r c)))
+    omega (
+      arith,
+      merge-exact f r c (λ j. omega (arith, d j)),
+      put-exact f i h b (merge r c) (omega (arith, d i, one-same i, merge-sum (λ k g. one (eqb i k)) r c)),
+    )
 
 -- a sum over other heads
 pub map-sum : {G H : Type 0} (f : ℕ → H → ℕ) (F : G → H) (b : Body G) → sum f (mapHeads F b) ≡ sum (λ i h. f i (F h)) b

@@ -18,7 +18,7 @@ pub record Cases (M : List ℕ → Cursor → Message × Cursor → Type 0) : Ty
   pub names : (around : List ℕ) (c : Cursor) (q : ℕ × Cursor) (n : ℕ) → Next c q → messageWord (q .0) ≡ Name n → M around c (name n, q .1)
   pub variables : (around : List ℕ) (c : Cursor) (q : ℕ × Cursor) (v : ℕ) → Next c q → member v around ≡ true → M around c (variable v, q .1)
   pub wraps : (around : List ℕ) (c : Cursor) (q : ℕ × Cursor) (p : Message × Cursor) → Next c q → M around (q .1) p
-    → M around c (enter (p .0), p .1) × M around c (exit (p .0), p .1) × M around c (opens (p .0), p .1)
+      → M around c (enter (p .0), p .1) × M around c (exit (p .0), p .1) × M around c (opens (p .0), p .1)
   pub empties : (around : List ℕ) (c : Cursor) (q : ℕ × Cursor) → Next c q → M around c (empty, q .1)
   pub paths : (around : List ℕ) (c : Cursor) (q : ℕ × Cursor) (p r : Message × Cursor) → Next c q → M around (q .1) p → M around (p .1) r → M around c (path (p .0) (r .0), r .1)
 

@@ -119,9 +119,9 @@ closures-related limit = record {
   only = λ n m b x. subst (λ (t : Plain). Both Unfolds (only (m .bindings) n (m .tree)) (plain-walk.only n t)) (x .1) (only-unfolded (m .bindings) n (m .tree) (x .0));
   divisions = λ m b x. pairwise-map (λ d e. Unfolds (d .0) (e .0) × Unfolds (d .1) (e .1)) (shares (m .bindings))
       (pairwise-more (Shares (m .bindings) (m .tree)) _
-      (λ d e y.
-      ( (good-less (m .bindings) (m .tree) (d .0) (λ T. omega (arith, y .counts T)) (x .0), y .share)
-      , (good-less (m .bindings) (m .tree) (d .1) (λ T. omega (arith, y .counts T)) (x .0), y .others)
+      (λ d e y. (
+        (good-less (m .bindings) (m .tree) (d .0) (λ T. omega (arith, y .counts T)) (x .0), y .share),
+        (good-less (m .bindings) (m .tree) (d .1) (λ T. omega (arith, y .counts T)) (x .0), y .others),
       ))
       (subst (λ (t : Plain). Pairwise (Shares (m .bindings) (m .tree)) (divisions (m .tree)) (plain-walk.divisions t)) (x .1) (divisions-unfolded (m .bindings) (m .tree))));
   nexts = λ m b x. subst (λ (t : Plain). Pairwise Unfolds (nexts (m .bindings) limit (m .tree)) (plain-walk.nexts limit t)) (x .1) (nexts-unfolded limit (m .bindings) (m .tree) (x .0));
