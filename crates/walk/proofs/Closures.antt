@@ -1,20 +1,19 @@
 -- The walk over a closure is the walk over the tree that it unfolds to, with its visits and its stops. Assumes nothing.
 use Prim.Native.Nat.{ℕ, _+_}
 use mathlib.Core.Bool.{Bool, true, false, cond}
-use mathlib.Core.List.{List, [], _∷_, _++_, map}
-use mathlib.Core.Path.{_≡_, refl, sym, ap, ap₂, _∙_, subst}
+use mathlib.Core.List.{List, [], _++_}
+use mathlib.Core.Path.{_≡_, refl, ap, _∙_, subst}
 use mathlib.Core.Option.{Option, none, some, Option·map}
 use native.Mathlib.Omega.{arith}
 use Rattle.messages.specs.Message.{Message, name}
-use Rattle.messages.specs.declared.Named.{Named}
 use Rattle.messages.specs.declared.Named.the-variants.{Called}
-use Rattle.scripts.specs.Tree.{ambient, action, receipt, output, close, part, mapHeads, PlainHead, Plain}
+use Rattle.scripts.specs.Tree.{ambient, action, receipt, output, close, part, mapHeads, Plain}
 use Rattle.bindings.proofs.Resolving.{resolve-name}
 use Rattle.machine.specs.Moves.{Moved, headName, isNamed, sameName}
-use Rattle.machine.specs.PlainMachine.{plain, move}
+use Rattle.machine.specs.PlainMachine.{plain}
 use Rattle.machine.proofs.Options.{byTest}
 use Rattle.machine.proofs.Inversion.{isNamed-inv, sameName-inv}
-use Rattle.rules.specs.Rule.{Names, Rule}
+use Rattle.rules.specs.Rule.{Rule}
 use Rattle.calculus.specs.Satisfaction.{wrapped}
 use Rattle.closures.specs.Closure.{Action, ClosureHead, Closure, Bindings, under, closureMove, unfoldHead, unfolded, unfoldedMove, ClosureMachine}
 use Rattle.closures.proofs.Tallies.{Tally, of}
@@ -119,9 +118,9 @@ closures-related limit = record {
   only = λ n m b x. subst (λ (t : Plain). Both Unfolds (only (m .bindings) n (m .tree)) (plain-walk.only n t)) (x .1) (only-unfolded (m .bindings) n (m .tree) (x .0));
   divisions = λ m b x. pairwise-map (λ d e. Unfolds (d .0) (e .0) × Unfolds (d .1) (e .1)) (shares (m .bindings))
       (pairwise-more (Shares (m .bindings) (m .tree)) _
-      (λ d e y.
-      ( (good-less (m .bindings) (m .tree) (d .0) (λ T. omega (arith, y .counts T)) (x .0), y .share)
-      , (good-less (m .bindings) (m .tree) (d .1) (λ T. omega (arith, y .counts T)) (x .0), y .others)
+      (λ d e y. (
+        (good-less (m .bindings) (m .tree) (d .0) (λ T. omega (arith, y .counts T)) (x .0), y .share),
+        (good-less (m .bindings) (m .tree) (d .1) (λ T. omega (arith, y .counts T)) (x .0), y .others),
       ))
       (subst (λ (t : Plain). Pairwise (Shares (m .bindings) (m .tree)) (divisions (m .tree)) (plain-walk.divisions t)) (x .1) (divisions-unfolded (m .bindings) (m .tree))));
   nexts = λ m b x. subst (λ (t : Plain). Pairwise Unfolds (nexts (m .bindings) limit (m .tree)) (plain-walk.nexts limit t)) (x .1) (nexts-unfolded limit (m .bindings) (m .tree) (x .0));
