@@ -1,20 +1,20 @@
 -- The tree that a script begins with is good: settled, its parts numbered apart and below the number of parts, its receipts'
 -- variables apart, and no variable free; and a rule's PLACED words have their places from 0 up. Assumes nothing.
-use Prim.Native.Nat.{ℕ, zero, suc, _+_, _≤_, _<_}
-use mathlib.Core.Bool.{Bool, true, false, cond, _||_}
-use mathlib.Core.List.{List, [], _∷_}
+use Prim.Native.Nat.{ℕ, _+_, _≤_}
+use mathlib.Core.Bool.{true, false}
+use mathlib.Core.List.{List, _∷_}
 use mathlib.Core.Path.{_≡_, refl, sym, ap, _∙_, subst}
 use native.Mathlib.Omega.{arith}
-use lib.Dec.{eqb, ltb}
-use borrow.Author.Tests.{eqb-true, eqb-false, eq-eqb, ne-eqb, ltb-true, ltb-false}
+use lib.Dec.{eqb}
+use borrow.Author.Tests.{eqb-false, ne-eqb}
 use Rattle.messages.specs.Words.{member}
-use Rattle.messages.specs.Reading.{Cursor, cursor, got, nextPart}
+use Rattle.messages.specs.Reading.{Cursor, got, nextPart}
 use Rattle.messages.specs.Message.{Message, items}
 use Rattle.messages.proofs.Readings.{Next}
 use Rattle.messages.proofs.Cases as message
-use Rattle.scripts.specs.Tree.{Head, Body, close, part, one, sum, parts, count, mapHeads, bare, Plain, settle}
+use Rattle.scripts.specs.Tree.{Head, close, part, one, sum, parts, count, mapHeads, bare, settle}
 use Rattle.scripts.specs.Script.{Written, Script, readScript, holdHead, hold, started}
-use Rattle.scripts.proofs.Numbers.{Range, numbered-range}
+use Rattle.scripts.proofs.Numbers.{Range, two-ranges, sooner, one-range, numbered-range}
 use Rattle.scripts.proofs.Cases as body
 use Rattle.scripts.proofs.Tabled.{script-tabled, script-number}
 use Rattle.machine.proofs.Options.{byTest}
@@ -25,7 +25,7 @@ use Rattle.rules.proofs.Cases as rule
 use Rattle.calculus.specs.Calculus.{Process, _∣_, action, input, piece, process, prefix, mentions}
 use Rattle.calculus.proofs.Variables.{free, free-same, free-other, mentions-other}
 use Rattle.calculus.proofs.Congruences.{action-items}
-use Rattle.calculus.proofs.Substitutions.{Closed, free-cong, closed-cong}
+use Rattle.calculus.proofs.Substitutions.{free-cong, closed-cong}
 use Rattle.calculus.proofs.Processes.{binds, bindings, settle-process}
 use Rattle.calculus.proofs.Kept.{Good, compounds-items, untidy, settle-settled}
 use Rattle.calculus.proofs.Agreement.{Places}
@@ -64,18 +64,6 @@ record Bound (around : List ℕ) (c : Cursor) (p : Script × Cursor) : Type 0 wh
   bound : (v : ℕ) → member v around ≡ false → free v (process (hold (p .0))) ≡ 0
   itemised : sum (λ k h. untidy h) (hold (p .0)) ≡ 0
 
--- two stretches of indices, one behind the other
-two-ranges : (v lo mid hi j k : ℕ) → Range v lo mid j → Range v mid hi k → lo ≤ mid → mid ≤ hi → Range v lo hi (j + k)
-two-ranges v lo mid hi j k x y a b = record {
-  once = byTest (ltb v mid) (λ t. omega (arith, x .once, y .under (ltb-true v mid t))) (λ t. omega (arith, y .once, x .over (ltb-false v mid t)));
-  under = λ h. omega (arith, x .under h, y .under (omega arith));
-  over = λ h. omega (arith, x .over (omega arith), y .over h);
-}
-
--- the stretch may begin sooner
-sooner : (v lo from hi k : ℕ) → lo ≤ from → Range v from hi k → Range v lo hi k
-sooner v lo from hi k l x = record { once = x .once; under = λ h. x .under (omega arith); over = x .over }
-
 none-bound : (around : List ℕ) (c d : Cursor) → c .index ≤ d .index → Bound around c (close, d)
 unfolding hold mapHeads sum process free
 none-bound around c d l = record {
@@ -113,11 +101,6 @@ both-free v p q x y = omega arith
 member-cons : (v i : ℕ) (around : List ℕ) → eqb i v ≡ false → member v around ≡ false → member v (i ∷ around) ≡ false
 unfolding member
 member-cons v i around t d = rw (ne-eqb v i (λ e. eqb-false i v t (sym e)), d)
-
-one-range : (v i : ℕ) → Range v i (i + 1) (one (eqb v i))
-one-range v i = byTest (eqb v i)
-    (λ t. let e = eqb-true v i t in rw t (record { once = omega arith; under = λ h. absurd (omega arith); over = λ h. absurd (omega arith) }))
-    (λ t. rw t (record { once = omega arith; under = λ h. refl; over = λ h. refl }))
 
 receipt-bound : (around : List ℕ) (c : Cursor) (q : ℕ × Cursor) (b r : Script × Cursor) → Next c q → Bound (c .index ∷ around) (nextPart (q .1)) b → Bound around (b .1) r
     → Bound around c (part (c .number) (body.at (c .index) (Head.receipt (c .index))) (b .0) (r .0), r .1)

@@ -1,10 +1,10 @@
 -- Lists of moves on closures: the closure machine's run unfolds to the plain machine's, halts at the same question and place,
 -- and so no list makes more moves than the script's bound. Assumes nothing.
 use Prim.Native.Nat.{ℕ, suc, _+_, _^_, _≤_, min}
-use mathlib.Core.Bool.{Bool, true, false, cond, _&&_}
+use mathlib.Core.Bool.{Bool, _&&_}
 use mathlib.Core.List.{List, [], _∷_, _++_}
 use mathlib.Core.Option.{Option, none, some, Option·map}
-use mathlib.Core.Path.{_≡_, refl, sym, ap, ap₂, _∙_, subst}
+use mathlib.Core.Path.{_≡_, refl, sym, ap, _∙_, subst}
 use native.Mathlib.Omega.{arith}
 use lib.Dec.{leb}
 use lib.ListN.{length, length-append, length-take, take}
@@ -13,9 +13,9 @@ use Rattle.scripts.specs.Tree.{Plain}
 use Rattle.scripts.specs.Script.{Script, readScript}
 use Rattle.scripts.specs.Measures.{receiptsIn, mostItems, movesBound}
 use Rattle.machine.specs.Moves.{Moved}
-use Rattle.machine.specs.PlainMachine.{Machine, move}
+use Rattle.machine.specs.PlainMachine.{Machine}
 use Rattle.machine.proofs.Options.{byTest}
-use Rattle.closures.specs.Closure.{Action, Bindings, closureMove, unfolded, plainNews, unfoldedMove, ClosureMachine, unfoldMachine, settleUnder, closureOf}
+use Rattle.closures.specs.Closure.{Action, Bindings, closureMove, unfolded, plainNews, unfoldedMove, ClosureMachine, unfoldMachine}
 use Rattle.closures.proofs.Tallies.{of}
 use Rattle.closures.proofs.Invariant.{Good, move-good}
 use Rattle.closures.proofs.Simulation.{unfold-move}
@@ -28,7 +28,7 @@ use Rattle.walk.specs.PlainWalk.{plainSpace}
 use Rattle.checker.specs.Call.{Call, Ran, actor, target, moveFits, run, refusal, written, finish, walked, setting, ruleRun, ruleRead, scriptRead, answer}
 use Rattle.checker.specs.Call as plain
 use Rattle.checker.specs.ClosureCall.{ClosureRan, halted, moved, afterMove, ifMade, closureRun, unfoldRan, begun}
-use Rattle.checker.specs.Standing.{After, BoundHolds, MovesBounded}
+use Rattle.checker.specs.Standing.{BoundHolds, MovesBounded}
 
 -- the invariant, of a machine
 abbrev pub GoodMachine : ClosureMachine → Type 0

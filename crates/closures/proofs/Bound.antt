@@ -1,23 +1,21 @@
 -- THE BOUND: each move makes a receipt or raises one offset, and no offset passes s ^ (r + 1); so every move takes one from
 -- a budget that is at most r + a × s ^ (r + 1) when the script begins. Assumes nothing.
-use Prim.Native.Nat.{ℕ, zero, suc, _+_, _-_, _*_, _^_, _≤_, _<_, max}
-use mathlib.Core.Bool.{Bool, true, false, cond}
+use Prim.Native.Nat.{ℕ, zero, suc, _+_, _-_, _*_, _^_, _≤_, _<_}
+use mathlib.Core.Bool.{false, cond}
 use mathlib.Core.List.{List, [], _∷_, _++_}
 use mathlib.Core.Path.{_≡_, refl, sym, ap, _∙_, subst}
-use mathlib.Core.Option.{Option, none, some}
+use mathlib.Core.Option.{some}
 use native.Mathlib.Omega.{arith}
 use native.Mathlib.Nat.{pow-zero, pow-succ', mul-assoc, mul-le-mul-right, pow-le-pow-right, le-trans}
-use lib.Dec.{eqb, ltb, leb}
+use lib.Dec.{eqb, ltb}
 use lib.ListN.{length, length-append, drop as skip}
-use borrow.Author.Tests.{eqb-true, eq-eqb, ne-eqb, leb-false}
+use borrow.Author.Tests.{eq-eqb, leb-false}
 use Rattle.messages.specs.Message.{Message, name, variable, enter, exit, opens, empty, path, items, firstItem, substitute}
-use Rattle.messages.specs.declared.Named.{Named}
-use Rattle.messages.specs.declared.Named.the-variants.{Called}
 use Rattle.messages.specs.declared.First.{First}
-use Rattle.messages.specs.declared.First.the-variants.{Nothing, Enter, Exit, Open, Other}
+use Rattle.messages.specs.declared.First.the-variants.{Nothing}
 use Rattle.messages.specs.Reading.{Cursor, got}
 use Rattle.scripts.specs.Tree.{Head, ambient, action, receipt, output, Body, close, part, one, sum, count, greatest, put, merge, mapHeads, noItems}
-use Rattle.scripts.specs.Script.{Written, Script, readScript}
+use Rattle.scripts.specs.Script.{Script, readScript}
 use Rattle.scripts.specs.Measures.{receiptsIn, actionsIn, mostItems, movesBound, isReceipt, isAction, itemsOf}
 use Rattle.bindings.specs.Resolve.{resolve}
 use Rattle.machine.specs.Bodies.{find, drop, alter}
@@ -25,8 +23,8 @@ use Rattle.machine.specs.Moves.{Moved, firstOf, spend, moveHere}
 use Rattle.machine.proofs.Options.{byTest}
 use Rattle.machine.proofs.Inversion.{headName-inv, Here, by-open, by-receive, by-enter, by-exit, here-inv, Makes, now, inner, outer, found}
 use Rattle.machine.proofs.Sums.{find-drop, find-sum, apart, entered-target, by-numbers, made-sum, settle-sum}
-use Rattle.closures.specs.Closure.{Action, ClosureHead, Closure, Bindings, itemsLeft, spentOne, under, allSpent, settleUnder, closureMove, wholeHead, closureOf}
-use Rattle.closures.proofs.Tallies.{Tally, of, alone, open-inside, of-part, named-open, of-drop, of-find, of-put, of-merge, of-alter, of-spent, of-settle, Takes, Step, spends, takes, makes-step, closure-inv, move-step}
+use Rattle.closures.specs.Closure.{Action, ClosureHead, Closure, Bindings, itemsLeft, under, allSpent, settleUnder, closureMove, wholeHead, closureOf}
+use Rattle.closures.proofs.Tallies.{Tally, of, of-drop, of-find, of-put, of-merge, of-alter, of-spent, of-settle, Step, spends, takes, closure-inv, move-step}
 use Rattle.closures.proofs.Simulation.{none-left}
 use Rattle.closures.proofs.Started.{script-distinct}
 

@@ -1,21 +1,20 @@
 -- The invariant of a closure under bindings: a receipt is the only one of its variable, the variable is used nowhere outside
 -- the receipt and is new to the bindings, and no action inside a receipt has spent an item. Moves keep it. Assumes nothing.
 use Prim.Native.Nat.{ℕ, _+_, _≤_}
-use mathlib.Core.Bool.{Bool, true, false, cond}
-use mathlib.Core.List.{List, [], _∷_, _++_}
-use mathlib.Core.Path.{_≡_, refl, sym, ap, _∙_}
+use mathlib.Core.Bool.{Bool, true, false}
+use mathlib.Core.List.{_∷_, _++_}
+use mathlib.Core.Path.{_≡_, refl, sym, ap}
 use mathlib.Core.Option.{some}
 use native.Mathlib.Omega.{arith}
 use lib.Dec.{eqb}
-use borrow.Author.Tests.{eqb-true, eqb-false, eq-eqb}
+use borrow.Author.Tests.{eqb-false, eq-eqb}
 use Rattle.messages.specs.Message.{Message, name, variable, enter, exit, opens, empty, path}
 use Rattle.messages.specs.declared.Named.the-variants.{Called}
-use Rattle.scripts.specs.Tree.{Head, ambient, action, receipt, output, Body, close, part, one, sum}
+use Rattle.scripts.specs.Tree.{ambient, action, receipt, output, part, one}
 use Rattle.machine.specs.Moves.{Moved, headName}
-use Rattle.machine.proofs.Options.{byTest}
 use Rattle.bindings.proofs.Substitution.{Fresh, New}
 use Rattle.closures.specs.Closure.{Action, ClosureHead, Closure, Bindings, under, settleUnder, closureMove}
-use Rattle.closures.proofs.Tallies.{Tally, of, alone, of-part, named-open, of-settle, Takes, Step, spends, takes, move-step}
+use Rattle.closures.proofs.Tallies.{Tally, of, of-part, named-open, of-settle, Takes, Step, spends, takes, move-step}
 
 -- how often a variable stands in a message
 unfoldable pub uses : ℕ → Message → ℕ
@@ -51,7 +50,7 @@ usesIn v (output m) = uses v m
 abbrev pub receives : ℕ → ClosureHead → Bool
 receives v (ambient m) = false
 receives v (action a) = false
-receives v (receipt u) = eqb u v
+receives v (receipt u) = eqb v u
 receives v (output m) = false
 
 -- the items that are spent
@@ -114,13 +113,13 @@ good-inside σ i n h b r e = good-less σ (part i h b r) b (λ T. omega (arith, 
 
 -- what a receipt that is made does to the two
 module _ (b c : Closure) (news : Bindings) (x : Takes b c news) where
-  pub receipts-taken : (u : ℕ) → of (receipts u) c + one (eqb (x .bound) u) ≤ of (receipts u) b
+  pub receipts-taken : (u : ℕ) → of (receipts u) c + one (eqb u (x .bound)) ≤ of (receipts u) b
   receipts-taken u = omega (arith, x .law (receipts u))
 
   pub bound-received : 1 ≤ of (receipts (x .bound)) b
   bound-received = omega (arith, ap one (received-self (x .bound)), receipts-taken (x .bound))
 
-  loose-taken : (u : ℕ) → eqb (x .bound) u ≡ false → of (loose u) c + uses u (x .sent) ≤ of (loose u) b
+  loose-taken : (u : ℕ) → eqb u (x .bound) ≡ false → of (loose u) c + uses u (x .sent) ≤ of (loose u) b
   loose-taken u t = omega (arith, rw t at (x .law (loose u)))
 
   good-takes : (σ : Bindings) → Good σ b → Good ((x .bound, x .sent) ∷ σ) c
@@ -128,14 +127,14 @@ module _ (b c : Closure) (news : Bindings) (x : Takes b c news) where
   good-takes σ G = record {
     once = λ v. omega (arith, receipts-taken v, G .once v);
     apart = λ v n. omega (arith, loose-taken v (other v n), G .apart v (before v n));
-    new = λ v n. (eqb-false (x .bound) v (other v n), uses-none v (x .sent) (omega (arith, loose-taken v (other v n), G .apart v (before v n))), G .new v (before v n));
+    new = λ v n. (λ e. eqb-false v (x .bound) (other v n) (sym e), uses-none v (x .sent) (omega (arith, loose-taken v (other v n), G .apart v (before v n))), G .new v (before v n));
   }
     where
       before : (v : ℕ) → 1 ≤ of (receipts v) c → 1 ≤ of (receipts v) b
       before v n = omega (arith, receipts-taken v)
 
-      other : (v : ℕ) → 1 ≤ of (receipts v) c → eqb (x .bound) v ≡ false
-      other v n = one-none (eqb (x .bound) v) (omega (arith, receipts-taken v, G .once v))
+      other : (v : ℕ) → 1 ≤ of (receipts v) c → eqb v (x .bound) ≡ false
+      other v n = one-none (eqb v (x .bound)) (omega (arith, receipts-taken v, G .once v))
 
 pub good-step : (σ : Bindings) (b c : Closure) (news : Bindings) → Step b c news → Good σ b → Good (news ++ σ) c
 good-step σ b c news (spends e l) G = rw e (good-less σ b c l G)

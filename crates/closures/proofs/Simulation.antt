@@ -1,7 +1,7 @@
 -- THE SIMULATION: the plain machine can make a move on the tree that a closure unfolds to exactly if the closure machine can
 -- make it on the closure, and what it leaves is the tree that the new closure unfolds to. Assumes nothing.
 use Prim.Native.Nat.{ℕ, zero, suc, _+_, _≤_, compare·suc-suc}
-use mathlib.Core.Bool.{Bool, true, false, cond}
+use mathlib.Core.Bool.{false}
 use mathlib.Core.List.{List, [], _∷_, _++_}
 use mathlib.Core.Path.{_≡_, refl, sym, ap, ap₂, _∙_}
 use mathlib.Core.Option.{Option, none, some, Option·map}
@@ -9,22 +9,21 @@ use native.Mathlib.Omega.{arith}
 use lib.Dec.{eqb, leb}
 use lib.ListN.{length, drop as skip}
 use borrow.Author.Tests.{le-leb, lt-leb}
-use Rattle.messages.specs.Message.{Message, items, nameOf, firstItem, substitute, substituteItems}
+use Rattle.messages.specs.Message.{Message, items, nameOf, firstItem, substitute}
 use Rattle.messages.specs.declared.Named.{Named}
 use Rattle.messages.specs.declared.Named.the-variants.{Called, Nameless}
 use Rattle.messages.specs.declared.First.{First}
 use Rattle.messages.specs.declared.First.the-variants.{Nothing, Enter, Exit, Open, Other}
-use Rattle.scripts.specs.Tree.{Head, ambient, action, receipt, output, isAmbient, Body, close, part, one, sum, merge, mapHeads, noItems, bare, settle, PlainHead, Plain}
+use Rattle.scripts.specs.Tree.{ambient, action, receipt, output, close, part, one, sum, merge, mapHeads, noItems, bare, settle, PlainHead, Plain}
 use Rattle.bindings.specs.Resolve.{resolve}
 use Rattle.bindings.proofs.Substitution.{New, substitute-fresh, resolve-substitute, items-substitute}
 use Rattle.machine.specs.Bodies.{find, drop}
-use Rattle.machine.specs.Moves.{View, Moved, quiet, headName, moveHere, anywhere}
+use Rattle.machine.specs.Moves.{Moved, headName, moveHere, anywhere}
 use Rattle.machine.specs.PlainMachine.{rest, substituteHead, substituteBody, plain, settledBy, move}
-use Rattle.machine.proofs.Inversion.{Makes}
-use Rattle.machine.proofs.Naturality.{renamed, asked, mapHead, isAmbient-map, Translates, named-map, merge-map, settle-map, receive-map, here-map, Searches, anywhere-map}
-use Rattle.closures.specs.Closure.{Action, ClosureHead, Closure, Bindings, itemsLeft, spentOne, under, allSpent, settleUnder, settledUnder, closureMove, unfoldHead, unfolded, plainNews, unfoldedMove}
+use Rattle.machine.proofs.Naturality.{renamed, asked, mapHead, isAmbient-map, Translates, named-map, merge-map, settle-map, receive-map, here-map, anywhere-map}
+use Rattle.closures.specs.Closure.{Action, ClosureHead, Closure, Bindings, itemsLeft, under, allSpent, settleUnder, settledUnder, closureMove, unfoldHead, unfolded, plainNews, unfoldedMove}
 use Rattle.closures.proofs.Tallies.{of, of-drop, of-find, of-part, named-open, Step, spends, takes, makes-step}
-use Rattle.closures.proofs.Invariant.{uses, uses-none, usesIn, receives, spentIn, receipts, loose, Good, not-received, received-self, good-inside, good-rest, receipts-taken, bound-received}
+use Rattle.closures.proofs.Invariant.{uses, uses-none, usesIn, receives, spentIn, receipts, loose, Good, not-received, received-self, good-inside, good-rest, bound-received}
 
 -- Unfolding is a change of heads as Naturality has them.
 abbrev U : Bindings → ClosureHead → PlainHead

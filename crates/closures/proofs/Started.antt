@@ -1,27 +1,27 @@
 -- The closure that a script begins with: it unfolds to the plain machine's tree, and the invariant holds of it.
 -- Assumes nothing.
-use Prim.Native.Nat.{ℕ, _+_, _≤_, _<_}
-use mathlib.Core.Bool.{Bool, true, false, cond, _||_}
+use Prim.Native.Nat.{ℕ, _+_, _≤_}
+use mathlib.Core.Bool.{true, false}
 use mathlib.Core.List.{List, [], _∷_}
 use mathlib.Core.Path.{_≡_, refl, sym, ap, _∙_, subst}
 use native.Mathlib.Omega.{arith}
-use lib.Dec.{eqb, ltb}
-use borrow.Author.Tests.{eqb-true, eqb-false, ne-eqb, ltb-true, ltb-false}
+use lib.Dec.{eqb}
+use borrow.Author.Tests.{ne-eqb}
 use Rattle.messages.specs.Words.{member}
-use Rattle.messages.specs.Reading.{Cursor, cursor, got, nextPart}
-use Rattle.messages.specs.Message.{Message, items}
+use Rattle.messages.specs.Reading.{Cursor, got, nextPart}
+use Rattle.messages.specs.Message.{Message}
 use Rattle.messages.proofs.Readings.{Next}
 use Rattle.messages.proofs.Cases as message
-use Rattle.scripts.specs.Tree.{Head, ambient, action, receipt, output, Body, close, part, one, sum, count, parts, mapHeads, settle}
+use Rattle.scripts.specs.Tree.{Head, ambient, action, receipt, output, close, part, one, sum, count, mapHeads, settle}
 use Rattle.scripts.specs.Script.{Written, Script, readScript, holdHead, hold, started}
 use Rattle.scripts.proofs.Cases as body
-use Rattle.scripts.proofs.Numbers.{Range, numbered-range}
+use Rattle.scripts.proofs.Numbers.{Range, two-ranges, sooner, one-range, numbered-range}
 use Rattle.scripts.proofs.Tabled.{script-tabled}
 use Rattle.bindings.specs.Resolve.{resolve}
 use Rattle.bindings.proofs.Substitution.{New}
 use Rattle.machine.proofs.Options.{byTest}
 use Rattle.machine.proofs.Sums.{map-sum}
-use Rattle.closures.specs.Closure.{ClosureHead, Closure, itemsLeft, settleUnder, unfoldHead, unfolded, wholeHead, closureOf}
+use Rattle.closures.specs.Closure.{itemsLeft, settleUnder, unfoldHead, unfolded, wholeHead, closureOf}
 use Rattle.closures.proofs.Tallies.{of}
 use Rattle.closures.proofs.Invariant.{uses, usesIn, receives, spentIn, receipts, loose, Good, good-settled}
 use Rattle.closures.proofs.Simulation.{settle-unfolded}
@@ -44,25 +44,6 @@ closure-held (part i w b r) = rw (held (w .head), closure-held b, closure-held r
 pub closure-started : (b : Script) → unfolded [] (settleUnder [] (closureOf b)) ≡ started b
 unfolding started
 closure-started b = sym (settle-unfolded [] (closureOf b)) ∙ ap settle (closure-held b)
-
--- ---- stretches of indices
-
--- one behind the other
-pub two-ranges : (v lo mid hi j k : ℕ) → Range v lo mid j → Range v mid hi k → lo ≤ mid → mid ≤ hi → Range v lo hi (j + k)
-two-ranges v lo mid hi j k x y a b = record {
-  once = byTest (ltb v mid) (λ t. omega (arith, x .once, y .under (ltb-true v mid t))) (λ t. omega (arith, y .once, x .over (ltb-false v mid t)));
-  under = λ h. omega (arith, x .under h, y .under (omega arith));
-  over = λ h. omega (arith, x .over (omega arith), y .over h);
-}
-
--- a stretch may begin sooner
-pub sooner : (v lo from hi k : ℕ) → lo ≤ from → Range v from hi k → Range v lo hi k
-sooner v lo from hi k l x = record { once = x .once; under = λ h. x .under (omega arith); over = x .over }
-
-pub one-range : (v i : ℕ) → Range v i (i + 1) (one (eqb i v))
-one-range v i = byTest (eqb i v)
-    (λ t. let e = eqb-true i v t in rw t (record { once = omega arith; under = λ h. absurd (omega arith); over = λ h. absurd (omega arith) }))
-    (λ t. rw t (record { once = omega arith; under = λ h. refl; over = λ h. refl }))
 
 -- ---- variables
 
@@ -123,9 +104,9 @@ module _ (around : List ℕ) (c : Cursor) (q : ℕ × Cursor) (x : Next c q) (m 
     whole = omega (arith, z, B .whole, R .whole);
   }
 
-member-cons : (v i : ℕ) (around : List ℕ) → eqb i v ≡ false → member v around ≡ false → member v (i ∷ around) ≡ false
+member-cons : (v i : ℕ) (around : List ℕ) → eqb v i ≡ false → member v around ≡ false → member v (i ∷ around) ≡ false
 unfolding member
-member-cons v i around t d = rw (ne-eqb v i (λ e. eqb-false i v t (sym e)), d)
+member-cons v i around t d = rw (t, d)
 
 receipt-bound : (around : List ℕ) (c : Cursor) (q : ℕ × Cursor) (b r : Script × Cursor) → Next c q → Bound (c .index ∷ around) (nextPart (q .1)) b → Bound around (b .1) r →
     Bound around c (part (c .number) (body.at (c .index) (receipt (c .index))) (b .0) (r .0), r .1)
@@ -135,7 +116,7 @@ receipt-bound around c q b r x B R = record {
   ranges = λ v.
       let w = two-ranges v (q .1 .index) (b .1 .index) (r .1 .index) _ _ (B .ranges v) (R .ranges v) (B .rises) (R .rises) in
       two-ranges v (c .index) (c .index + 1) (r .1 .index) _ _ (one-range v (c .index)) (sooner v (c .index + 1) (q .1 .index) (r .1 .index) _ (omega (arith, x .index)) w) (omega arith) (omega (arith, x .index, B .rises, R .rises));
-  bound = λ v d. byTest (eqb (c .index) v)
+  bound = λ v d. byTest (eqb v (c .index))
       (λ t. rw t (omega (arith, B .whole, R .bound v d)))
       (λ t. rw t (omega (arith, B .bound v (member-cons v (c .index) around t d), R .bound v d)));
   whole = omega (arith, B .whole, R .whole);

@@ -2,16 +2,15 @@
 -- for what a receipt lets out; so each part of the invariant, and the bound, is a tally. Assumes nothing.
 use Prim.Native.Nat.{ℕ, _+_, _≤_}
 use mathlib.Core.Bool.{Bool, true, false, cond, false≢true}
-use mathlib.Core.List.{List, [], _∷_, _++_}
-use mathlib.Core.Path.{_≡_, refl, sym, ap, _∙_, subst}
-use mathlib.Core.Logic.{_⊎_, inl, inr}
+use mathlib.Core.List.{[], _∷_, _++_}
+use mathlib.Core.Path.{_≡_, refl, ap, _∙_, subst}
 use mathlib.Core.Option.{Option, none, some}
 use native.Mathlib.Omega.{arith}
 use lib.Dec.{eqb, ltb}
 use borrow.Author.Tests.{eqb-true}
 use Rattle.messages.specs.Message.{Message}
 use Rattle.messages.specs.declared.Named.the-variants.{Called}
-use Rattle.scripts.specs.Tree.{Head, ambient, action, receipt, output, isAmbient, Body, close, part, sum, put, merge, settleBy}
+use Rattle.scripts.specs.Tree.{ambient, action, receipt, output, isAmbient, close, part, sum, put, merge, settleBy}
 use Rattle.machine.specs.Bodies.{find, drop, alter}
 use Rattle.machine.specs.Moves.{Moved, headName, spentHead, spend, moveHere, anywhere}
 use Rattle.machine.proofs.Options.{byTest, some-is, none≢some}

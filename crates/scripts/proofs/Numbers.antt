@@ -1,4 +1,5 @@
--- A tree whose parts are numbered in word order has each number once, from the first number on. Assumes nothing.
+-- Stretches of numbers: a tree whose parts are numbered in word order has each number once, from the first number on.
+-- Assumes nothing.
 use Prim.Native.Nat.{ℕ, zero, suc, _+_, _≤_, _<_}
 use mathlib.Core.Bool.{Bool, true, false}
 use mathlib.Core.Path.{_≡_, refl, ap}
@@ -21,6 +22,24 @@ pub record Range (j n m k : ℕ) : Type 0 where
   pub once : k ≤ 1
   pub under : j < n → k ≡ 0
   pub over : m ≤ j → k ≡ 0
+
+-- two stretches of numbers, one behind the other
+pub two-ranges : (v lo mid hi j k : ℕ) → Range v lo mid j → Range v mid hi k → lo ≤ mid → mid ≤ hi → Range v lo hi (j + k)
+two-ranges v lo mid hi j k x y a b = record {
+  once = byTest (ltb v mid) (λ t. omega (arith, x .once, y .under (ltb-true v mid t))) (λ t. omega (arith, y .once, x .over (ltb-false v mid t)));
+  under = λ h. omega (arith, x .under h, y .under (omega arith));
+  over = λ h. omega (arith, x .over (omega arith), y .over h);
+}
+
+-- a stretch may begin sooner
+pub sooner : (v lo from hi k : ℕ) → lo ≤ from → Range v from hi k → Range v lo hi k
+sooner v lo from hi k l x = record { once = x .once; under = λ h. x .under (omega arith); over = x .over }
+
+-- a number by itself
+pub one-range : (v i : ℕ) → Range v i (i + 1) (one (eqb v i))
+one-range v i = byTest (eqb v i)
+    (λ t. let e = eqb-true v i t in rw t (record { once = omega arith; under = λ h. absurd (omega arith); over = λ h. absurd (omega arith) }))
+    (λ t. rw t (record { once = omega arith; under = λ h. refl; over = λ h. refl }))
 
 module _ {H : Type 0} (j : ℕ) where
   pub numbered-range : (n : ℕ) (b : Body H) → Numbered n b → Range j n (n + parts b) (count j b)

@@ -1,20 +1,19 @@
 -- The walk over a closure is the walk over the tree that it unfolds to, with its visits and its stops. Assumes nothing.
 use Prim.Native.Nat.{ℕ, _+_}
 use mathlib.Core.Bool.{Bool, true, false, cond}
-use mathlib.Core.List.{List, [], _∷_, _++_, map}
-use mathlib.Core.Path.{_≡_, refl, sym, ap, ap₂, _∙_, subst}
+use mathlib.Core.List.{List, [], _++_}
+use mathlib.Core.Path.{_≡_, refl, ap, _∙_, subst}
 use mathlib.Core.Option.{Option, none, some, Option·map}
 use native.Mathlib.Omega.{arith}
 use Rattle.messages.specs.Message.{Message, name}
-use Rattle.messages.specs.declared.Named.{Named}
 use Rattle.messages.specs.declared.Named.the-variants.{Called}
-use Rattle.scripts.specs.Tree.{ambient, action, receipt, output, close, part, mapHeads, PlainHead, Plain}
+use Rattle.scripts.specs.Tree.{ambient, action, receipt, output, close, part, mapHeads, Plain}
 use Rattle.bindings.proofs.Resolving.{resolve-name}
 use Rattle.machine.specs.Moves.{Moved, headName, isNamed, sameName}
-use Rattle.machine.specs.PlainMachine.{plain, move}
+use Rattle.machine.specs.PlainMachine.{plain}
 use Rattle.machine.proofs.Options.{byTest}
 use Rattle.machine.proofs.Inversion.{isNamed-inv, sameName-inv}
-use Rattle.rules.specs.Rule.{Names, Rule}
+use Rattle.rules.specs.Rule.{Rule}
 use Rattle.calculus.specs.Satisfaction.{wrapped}
 use Rattle.closures.specs.Closure.{Action, ClosureHead, Closure, Bindings, under, closureMove, unfoldHead, unfolded, unfoldedMove, ClosureMachine}
 use Rattle.closures.proofs.Tallies.{Tally, of}
