@@ -7,7 +7,7 @@ use native.Mathlib.Omega.{arith}
 use native.Mathlib.Nat.{add-zero}
 use lib.ListN.{length, drop, set, getD, length-append, length-drop}
 use lib.Seq.{drop-drop, drop-nil, drop-append-le, drop-append-add}
-use Rattle.messages.specs.Message.{Message, variable, items, asks, firstItem}
+use Rattle.messages.specs.Message.{Message, items, asks, firstItem}
 use Rattle.messages.specs.Spelling.{top, push, spelled, messageAt}
 use Rattle.messages.specs.declared.MessageWord.{MessageWord}
 use Rattle.messages.specs.declared.MessageWord.the-variants.{Name, Variable, Enter, Exit, Open, Empty, Path, Unfit}
@@ -15,8 +15,10 @@ use Rattle.messages.specs.declared.First.the-variants.{Nothing}
 use Rattle.bindings.specs.Resolve.{resolve, bindingsIn}
 use Rattle.bindings.specs.Measures.{capped, size, itemsSize, bulk, cappedItems, itemCount, itemBulk, keptOf, Kept, Cached}
 use Rattle.bindings.specs.Passes.{firstWord, firsts, allSizes, shapeOf, arityOf, boundAt, ownItems, ownSize}
+use Rattle.bindings.specs.Held.{Measures}
+use Rattle.bindings.specs.declared.Measured.{Measured}
 use Rattle.bindings.proofs.Resolving.{resolve-name, resolve-enter, resolve-exit, resolve-opens, resolve-empty, resolve-path, given, given-next}
-use Rattle.bindings.proofs.Passing.{firsts-first, Free, Bound, bound, bound-variable, given-place, given-items, own-free, items-small}
+use Rattle.bindings.proofs.Passing.{firsts-first, Free, bound, bound-variable, given-place, own-free, items-small}
 
 -- sums that stop at 2^32 - 1
 
@@ -97,6 +99,10 @@ cached-none script = record { counted = kept-none itemCount script; sized = kept
 
 pub cached-drop : {script vs ps cs ss bs : List ℕ} (k : ℕ) → Cached script vs ps cs ss bs → Cached script (drop k vs) (drop k ps) (drop k cs) (drop k ss) (drop k bs)
 cached-drop k ok = record { counted = kept-drop (ok .counted) k; sized = kept-drop (ok .sized) k; bulked = kept-drop (ok .bulked) k }
+
+-- one binding more, and what was counted of its message
+pub cached-more : {script vs ps cs ss bs : List ℕ} (v a : ℕ) (r : Measured) → Cached script vs ps cs ss bs → Measures (resolve (bindingsIn script vs ps) (messageAt (drop a script))) r → Cached script (v ∷ vs) (a ∷ ps) (r .count ∷ cs) (r .size ∷ ss) (r .bulk ∷ bs)
+cached-more v a r ok m = record { counted = kept-more (ok .counted) v a (r .count) (m .count); sized = kept-more (ok .sized) v a (r .size) (m .size); bulked = kept-more (ok .bulked) v a (r .bulk) (m .bulk) }
 
 -- an array that is filled from the end: the part from the place before is one longer
 pub drop-set : (l : List ℕ) (f v : ℕ) → 0 < f → f ≤ length l → drop (f - 1) (set l (f - 1) v) ≡ v ∷ drop f l

@@ -1,0 +1,24 @@
+-- `bindings::bulk_of` meets its contract. Assumes nothing.
+use mathlib.Core.List.{List}
+use mathlib.Core.Path.{ap, _∙_}
+use borrow.Author.Needs.{needs}
+use lib.ListN.{drop}
+use Rattle.messages.specs.Message.{Message}
+use Rattle.bindings.specs.Measures.{capped, bulk}
+use Rattle.bindings.proofs.Passing.{one-message}
+use Rattle.bindings.proofs.bulk_of.Statement.{statement}
+use Rattle.bindings.proofs.bulk_of.Tie as tie
+
+returns : tie.Need-returns
+returns c =
+    let s = c .before .before .before .before .before .before .before .before in
+    (rw (c .before .tail .ensures) at (c .bulk-from .ensures))
+    ∙ ap (λ (l : List Message). capped (bulk l)) (one-message _ (drop (s .args .at) (s .args .script .now)))
+
+pub bulk-of-spec : {M : Type 1} → statement M
+bulk-of-spec =
+    tie.close
+    (tie.spec
+    (λ c κs. search needs)
+    (λ c κs. search needs)
+    returns)
