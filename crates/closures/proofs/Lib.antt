@@ -1,0 +1,3 @@
+-- Laws of the closures and of the arrays that hold them. Assumes nothing.
+pub mod Heads
+pub mod Holding
