@@ -244,11 +244,7 @@ module _ (σ : Bindings) (k : ℕ → List ℕ) (w : ℕ → ClosureHead) (t : �
       go true false e (inr a) b =
           subst (λ (n : ℕ). Seen (part i h s r) n (look true (orElse (g s) (inside (under σ) g s)))) (sym (first (placeBelow σ t s) (placeBelow σ t r) (a .0)))
           (inr (a .0, into i h s r once held (placeBelow σ t s) _ (subst (Focus s (placeBelow σ t s)) (sym (not-top s e)) (a .1))))
-      go false e q a b =
-          around-unnamed (next 65 false none refl refl b)
-        where
-          around-unnamed : Seen (part i h s r) (firstPlace 65 (placeBelow σ t r)) (look false none) → Seen (part i h s r) (firstPlace 65 (placeBelow σ t r)) (look false (orElse (g s) (inside (under σ) g s)))
-          around-unnamed z = z
+      go false e q a b = next 65 false none refl refl b
 
   -- the same from the top: b is the part in whose body, `here`, t stands, 64 for the top
   pub record Site (f : Closure) (b : ℕ) : Type 0 where
