@@ -1,6 +1,10 @@
--- Laws of the closure machine: it moves as the plain machine does. Assumes nothing.
+-- Laws of the closure machine, which moves as the plain machine does, and of the arrays that hold a closure.
 pub mod Tallies
 pub mod Invariant
 pub mod Simulation
 pub mod Started
 pub mod Bound
+pub mod Heads
+pub mod Holding
+pub mod Focus
+pub mod Search

@@ -1,0 +1,86 @@
+-- What the part table and an offset hold of a head, kind by kind. Assumes nothing.
+use Prim.Native.Nat.{ℕ, _≤_, _<_, min}
+use mathlib.Core.Bool.{Bool, true, false, cond}
+use mathlib.Core.List.{List}
+use mathlib.Core.Path.{_≡_, refl, sym, ap, _∙_}
+use native.Mathlib.Omega.{arith}
+use lib.Dec.{eqb, leb}
+use lib.ListN.{length, drop}
+use borrow.Author.Tests.{eqb-true, eqb-false, eq-eqb, ne-eqb, leb-true, leb-false, le-leb, lt-leb}
+use Rattle.messages.specs.Message.{Message, items, nameOf, firstItem}
+use Rattle.messages.specs.Spelling.{messageAt}
+use Rattle.messages.specs.declared.Named.the-variants.{Nameless}
+use Rattle.messages.specs.declared.First.the-variants.{Nothing}
+use Rattle.scripts.specs.Tree.{ambient, action, receipt, output, isAmbient}
+use Rattle.bindings.specs.Resolve.{resolve, messageOf}
+use Rattle.bindings.specs.Measures.{capped}
+use Rattle.machine.specs.Moves.{headName, firstOf}
+use Rattle.machine.proofs.Options.{byTest}
+use Rattle.closures.specs.Closure.{Action, ClosureHead, Bindings, itemsLeft, under, allSpent}
+use Rattle.closures.specs.Represents.{headOf}
+
+-- a count that stops at 2^32 - 1 is compared as the count itself
+capped-test : (c n o : ℕ) → c ≡ capped n → o < 4294967295 → leb c o ≡ leb n o
+unfolding capped
+capped-test c n o e h = byTest (leb n o)
+    (λ t. le-leb c o (let z : n ≤ o = leb-true n o t in omega arith) ∙ sym t)
+    (λ t. lt-leb c o (let z : o < n = leb-false n o t in omega arith) ∙ sym t)
+
+module _ (script : List ℕ) (kind start offset : ℕ) where
+  abbrev word : Message
+  word = messageAt (drop start script)
+
+  pub by-kind : (P : ClosureHead → Type 0) → (kind ≡ 1 → P (ambient (messageOf script start)))
+      → (kind ≡ 2 → P (action (record { offset = offset; message = word }))) → (kind ≡ 3 → P (receipt start))
+      → ((kind ≡ 1 → ⊥) → (kind ≡ 2 → ⊥) → (kind ≡ 3 → ⊥) → P (output word)) → P (headOf script kind start offset)
+  unfolding headOf
+  by-kind P a b r o = byTest (eqb kind 1)
+      (λ t. rw t (a (eqb-true kind 1 t)))
+      (λ t. byTest (eqb kind 2)
+      (λ u. rw (t, u) (b (eqb-true kind 2 u)))
+      (λ u. byTest (eqb kind 3)
+      (λ v. rw (t, u, v) (r (eqb-true kind 3 v)))
+      (λ v. rw (t, u, v) (o (eqb-false kind 1 t) (eqb-false kind 2 u) (eqb-false kind 3 v)))))
+
+  pub head-ambient : kind ≡ 1 → headOf script kind start offset ≡ ambient (messageOf script start)
+  head-ambient e = by-kind (λ h. h ≡ ambient (messageOf script start)) (λ f. refl) (λ f. absurd (omega arith)) (λ f. absurd (omega arith)) (λ a b c. absurd (a e))
+
+  pub head-action : kind ≡ 2 → headOf script kind start offset ≡ action (record { offset = offset; message = word })
+  head-action e = by-kind (λ h. h ≡ action (record { offset = offset; message = word })) (λ f. absurd (omega arith)) (λ f. refl) (λ f. absurd (omega arith)) (λ a b c. absurd (b e))
+
+  pub head-receipt : kind ≡ 3 → headOf script kind start offset ≡ receipt start
+  head-receipt e = by-kind (λ h. h ≡ receipt start) (λ f. absurd (omega arith)) (λ f. absurd (omega arith)) (λ f. refl) (λ a b c. absurd (c e))
+
+  -- who is an ambient
+  pub is-ambient : kind ≡ 1 → isAmbient (headOf script kind start offset) ≡ true
+  unfolding isAmbient
+  is-ambient e = ap isAmbient (head-ambient e)
+
+  pub not-ambient : (kind ≡ 1 → ⊥) → isAmbient (headOf script kind start offset) ≡ false
+  unfolding isAmbient
+  not-ambient n = by-kind (λ h. isAmbient h ≡ false) (λ f. absurd (n f)) (λ f. refl) (λ f. refl) (λ a b c. refl)
+
+  module _ (σ : Bindings) where
+    pub no-name : (kind ≡ 1 → ⊥) → Nameless ≡ headName (under σ) (headOf script kind start offset)
+    unfolding headName
+    no-name n = by-kind (λ h. Nameless ≡ headName (under σ) h) (λ f. absurd (n f)) (λ f. refl) (λ f. refl) (λ a b c. refl)
+
+    pub the-name : kind ≡ 1 → nameOf (resolve σ (messageOf script start)) ≡ headName (under σ) (headOf script kind start offset)
+    unfolding headName
+    the-name e = sym (ap (headName (under σ)) (head-ambient e))
+
+    pub no-item : (kind ≡ 2 → ⊥) → Nothing ≡ firstOf (under σ) (headOf script kind start offset)
+    unfolding firstOf
+    no-item n = by-kind (λ h. Nothing ≡ firstOf (under σ) h) (λ f. refl) (λ f. absurd (n f)) (λ f. refl) (λ a b c. refl)
+
+    pub the-item : kind ≡ 2 → firstItem (drop offset (items (resolve σ word))) ≡ firstOf (under σ) (headOf script kind start offset)
+    unfolding firstOf itemsLeft
+    the-item e = sym (ap (firstOf (under σ)) (head-action e))
+
+    pub not-spent : (kind ≡ 2 → ⊥) → false ≡ allSpent σ (headOf script kind start offset)
+    unfolding allSpent
+    not-spent n = by-kind (λ h. false ≡ allSpent σ h) (λ f. refl) (λ f. absurd (n f)) (λ f. refl) (λ a b c. refl)
+
+    pub is-spent : (c : ℕ) → kind ≡ 2 → offset < 4294967295 → c ≡ capped (length (items (resolve σ word))) → leb c offset ≡ allSpent σ (headOf script kind start offset)
+    unfolding allSpent
+    is-spent c e l q = capped-test c (length (items (resolve σ word))) offset q l ∙ sym (ap (allSpent σ) (head-action e))

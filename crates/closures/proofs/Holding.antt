@@ -1,0 +1,140 @@
+-- What putting in, taking out and changing a part do to a body's own numbers and to being held, and what is looked up in a
+-- body that is held. Assumes nothing.
+use Prim.Native.Nat.{ℕ, _+_, _≤_}
+use mathlib.Core.Bool.{Bool, true, false, not, _||_, cond, true≢false}
+use mathlib.Core.List.{List, [], _∷_}
+use mathlib.Core.Option.{none, some}
+use mathlib.Core.Path.{_≡_, refl, sym, ap, _∙_, subst}
+use native.Mathlib.Omega.{arith}
+use lib.Dec.{eqb, ltb}
+use borrow.Author.Tests.{eqb-true, eq-eqb}
+use Rattle.sets.specs.Sets.{elem, insert, remove, join, keep}
+use Rattle.scripts.specs.Tree.{Body, close, part, one, tops, sum, count, put, merge}
+use Rattle.scripts.specs.Represents.{Held}
+use Rattle.machine.specs.Bodies.{find, drop, alter}
+use Rattle.machine.proofs.Options.{byTest, some-is, none≢some}
+use Rattle.machine.proofs.Sums.{drop-none}
+
+-- a sum over the numbers of all parts, at any depth
+abbrev pub total : {H : Type 0} → (ℕ → ℕ) → Body H → ℕ
+total v b = sum (λ i h. v i) b
+
+pub self : (i : ℕ) → one (eqb i i) ≡ 1
+self i = ap one (eq-eqb i i refl)
+
+module _ {H : Type 0} where
+  -- ---- a body's own numbers
+
+  pub tops-put : (n : ℕ) (g : H) (s b : Body H) → tops (put n g s b) ≡ insert n (tops b)
+  unfolding tops put insert
+  tops-put n g s close = refl
+  tops-put n g s (part i h b r) = byTest (ltb n i) (λ t. rw t)
+      (λ t. byTest (eqb n i) (λ u. rw (t, u)) (λ u. rw (t, u) (ap (λ (l : List ℕ). i ∷ l) (tops-put n g s r))))
+
+  pub tops-drop : (n : ℕ) (b : Body H) → tops (drop n b) ≡ remove n (tops b)
+  unfolding tops drop keep
+  tops-drop n close = refl
+  tops-drop n (part i h b r) = byTest (eqb n i) (λ t. rw t (tops-drop n r)) (λ t. rw t (ap (λ (l : List ℕ). i ∷ l) (tops-drop n r)))
+
+  pub tops-alter : (n : ℕ) (f : H → H) (g : Body H → Body H) (b : Body H) → tops (alter n f g b) ≡ tops b
+  unfolding tops alter
+  tops-alter n f g close = refl
+  tops-alter n f g (part i h b r) = byTest (eqb n i) (λ t. rw t) (λ t. rw t (ap (λ (l : List ℕ). i ∷ l) (tops-alter n f g r)))
+
+  pub tops-merge : (b c : Body H) → tops (merge b c) ≡ join (tops b) (tops c)
+  unfolding tops merge join
+  tops-merge close c = refl
+  tops-merge (part i h b r) c = tops-put i h b (merge r c) ∙ ap (insert i) (tops-merge r c)
+
+  -- a number among them stands in the body, and one that stands nowhere is not among them
+  pub in-count : (n : ℕ) (b : Body H) → elem n (tops b) ≡ true → 1 ≤ count n b
+  unfolding tops elem sum
+  in-count n close e = absurd (true≢false (sym e))
+  in-count n (part i h b r) e = byTest (eqb n i)
+      (λ t. rw t (omega arith))
+      (λ t. omega (arith, in-count n r (rw t at e)))
+
+  pub not-in : (n : ℕ) (b : Body H) → count n b ≡ 0 → elem n (tops b) ≡ false
+  not-in n b e = byTest (elem n (tops b)) (λ t. absurd (let z : ⊥ = omega (arith, in-count n b t) in z)) (λ t. t)
+
+  pub differ : (i j : ℕ) (b : Body H) → 1 ≤ count i b → count j b ≡ 0 → i ≡ j → ⊥
+  differ i j b m z e = let c : 1 ≤ count j b = subst (λ (n : ℕ). 1 ≤ count n b) e m in omega arith
+
+-- ---- being held
+
+-- bodies and heads that agree at the numbers of a tree hold the same tree
+pub frame : {H : Type 0} (k k′ : ℕ → List ℕ) (w w′ : ℕ → H) (b : Body H) → Held k w b
+    → ((i : ℕ) → 1 ≤ count i b → (k i ≡ k′ i) × (w i ≡ w′ i)) → Held k′ w′ b
+unfolding sum
+frame k k′ w w′ close p a = tt
+frame k k′ w w′ (part i h b r) p a =
+    let e = a i (omega (arith, self i)) in (
+      sym (e .0) ∙ p .0,
+      sym (e .1) ∙ p .1,
+      frame k k′ w w′ b (p .2) (λ j m. a j (omega arith)),
+      frame k k′ w w′ r (p .3) (λ j m. a j (omega arith)),
+    )
+
+module _ {H : Type 0} (k : ℕ → List ℕ) (w : ℕ → H) where
+  pub held-drop : (n : ℕ) (b : Body H) → Held k w b → Held k w (drop n b)
+  unfolding drop
+  held-drop n close p = tt
+  held-drop n (part i h b r) p = byTest (eqb n i) (λ t. rw t (held-drop n r (p .3))) (λ t. rw t (p .0, p .1, p .2, held-drop n r (p .3)))
+
+  pub held-put : (n : ℕ) (g : H) (s b : Body H) → k n ≡ tops s → w n ≡ g → Held k w s → Held k w b → Held k w (put n g s b)
+  unfolding put
+  held-put n g s close e d q p = (e, d, q, tt)
+  held-put n g s (part i h b r) e d q p = byTest (ltb n i) (λ t. rw t (e, d, q, p))
+      (λ t. byTest (eqb n i) (λ u. rw (t, u) p) (λ u. rw (t, u) (p .0, p .1, p .2, held-put n g s r e d q (p .3))))
+
+  pub held-merge : (b c : Body H) → Held k w b → Held k w c → Held k w (merge b c)
+  unfolding merge
+  held-merge close c p q = q
+  held-merge (part i h b r) c p q = held-put i h b (merge r c) (p .0) (p .1) (p .2) (held-merge r c (p .3) q)
+
+  -- what is looked up in a body that is held
+  pub record Found (n : ℕ) (b : Body H) : Type 0 where
+    pub room : Body H
+    pub found : find n b ≡ some (w n, room)
+    pub own : k n ≡ tops room
+    pub held : Held k w room
+
+  pub found-in : (n : ℕ) (b : Body H) → Held k w b → elem n (tops b) ≡ true → Found n b
+  unfolding find tops elem
+  found-in n close p e = absurd (true≢false (sym e))
+  found-in n (part i h b r) p e = byTest (eqb n i)
+      (λ t. record { room = b; found = rw (t, eqb-true n i t, p .1); own = rw (eqb-true n i t) (p .0); held = p .2 })
+      (λ t. let F = found-in n r (p .3) (rw t at e) in record { room = F .room; found = rw t (F .found); own = F .own; held = F .held })
+
+pub not-found : {H : Type 0} (n : ℕ) (b : Body H) → elem n (tops b) ≡ false → find n b ≡ none
+unfolding find tops elem
+not-found n close e = refl
+not-found n (part i h b r) e = byTest (eqb n i) (λ t. absurd (true≢false (rw t at e))) (λ t. rw t (not-found n r (rw t at e)))
+
+-- the body with one of its own parts changed: what else stands in it is held as it was
+module _ {H : Type 0} where
+  pub held-alter : (k k′ : ℕ → List ℕ) (w w′ : ℕ → H) (n : ℕ) (f : H → H) (g : Body H → Body H) (b room : Body H) → find n b ≡ some (w n, room) → count n b ≤ 1
+      → Held k w b → ((i : ℕ) → 1 ≤ count i (drop n b) → (k i ≡ k′ i) × (w i ≡ w′ i))
+      → k′ n ≡ tops (g room) → w′ n ≡ f (w n) → Held k′ w′ (g room) → Held k′ w′ (alter n f g b)
+  unfolding find drop alter sum
+  held-alter k k′ w w′ n f g close room e m p a x y q = none≢some e
+  held-alter k k′ w w′ n f g (part i h b r) room e m p a x y q = byTest (eqb n i)
+      (λ t.
+      let z : n ≡ i = eqb-true n i t in
+      let u : (h, b) ≡ (w n, room) = some-is (rw t at e) in
+      let out : drop n r ≡ r = drop-none n r (omega (arith, rw t at m)) in
+      rw t (
+        ap k′ (sym z) ∙ x ∙ ap (λ (p : H × Body H). tops (g (p .1))) (sym u),
+        ap w′ (sym z) ∙ y ∙ ap (λ (p : H × Body H). f (p .0)) (sym u),
+        subst (λ (p : H × Body H). Held k′ w′ (g (p .1))) (sym u) q,
+        frame k k′ w w′ r (p .3) (λ j l. (rw (t, out) at a) j l),
+      ))
+      (λ t.
+      let c : (j : ℕ) → 1 ≤ one (eqb j i) + (count j b + count j (drop n r)) → (k j ≡ k′ j) × (w j ≡ w′ j) = rw t at a in
+      let d = c i (omega (arith, self i)) in
+      rw t (
+        sym (d .0) ∙ p .0,
+        sym (d .1) ∙ p .1,
+        frame k k′ w w′ b (p .2) (λ j l. c j (omega arith)),
+        held-alter k k′ w w′ n f g r room (rw t at e) (omega arith) (p .3) (λ j l. c j (omega arith)) x y q,
+      ))
