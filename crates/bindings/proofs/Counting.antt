@@ -7,7 +7,7 @@ use native.Mathlib.Omega.{arith}
 use native.Mathlib.Nat.{add-zero}
 use lib.ListN.{length, drop, set, getD, length-append, length-drop}
 use lib.Seq.{drop-drop, drop-nil, drop-append-le, drop-append-add}
-use Rattle.messages.specs.Message.{Message, variable, items, asks, firstItem}
+use Rattle.messages.specs.Message.{Message, items, asks, firstItem}
 use Rattle.messages.specs.Spelling.{top, push, spelled, messageAt}
 use Rattle.messages.specs.declared.MessageWord.{MessageWord}
 use Rattle.messages.specs.declared.MessageWord.the-variants.{Name, Variable, Enter, Exit, Open, Empty, Path, Unfit}
@@ -18,7 +18,7 @@ use Rattle.bindings.specs.Passes.{firstWord, firsts, allSizes, shapeOf, 
 use Rattle.bindings.specs.Held.{Measures}
 use Rattle.bindings.specs.declared.Measured.{Measured}
 use Rattle.bindings.proofs.Resolving.{resolve-name, resolve-enter, resolve-exit, resolve-opens, resolve-empty, resolve-path, given, given-next}
-use Rattle.bindings.proofs.Passing.{firsts-first, Free, Bound, bound, bound-variable, given-place, given-items, own-free, items-small}
+use Rattle.bindings.proofs.Passing.{firsts-first, Free, bound, bound-variable, given-place, own-free, items-small}
 
 -- sums that stop at 2^32 - 1
 

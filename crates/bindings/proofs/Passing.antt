@@ -1,17 +1,16 @@
 -- Laws of a pass over words: what the first word begins, its own items, and where they end. Assumes nothing.
-use Prim.Native.Nat.{ℕ, zero, suc, _+_, _-_, _*_, _^_, _≤_, _<_}
+use Prim.Native.Nat.{ℕ, zero, suc, _+_, _-_, _*_, _≤_, _<_}
 use mathlib.Core.List.{List, [], _∷_, _++_, append-assoc, append-nil}
 use mathlib.Core.Path.{_≡_, refl, sym, ap, _∙_}
 use native.Mathlib.Omega.{arith}
 use native.Mathlib.Nat.{add-comm, add-zero}
 use lib.ListN.{length, drop, getD, length-drop}
 use lib.Seq.{drop-drop, drop-nil}
-use Rattle.messages.specs.Message.{Message, name, variable, enter, exit, opens, empty, path, items, nameOf, asks}
+use Rattle.messages.specs.Message.{Message, variable, empty, items, nameOf, asks}
 use Rattle.messages.specs.ReadMessage.{messageWord}
 use Rattle.messages.specs.Spelling.{top, push, spelled, messageAt}
 use Rattle.messages.specs.declared.MessageWord.{MessageWord}
 use Rattle.messages.specs.declared.MessageWord.the-variants.{Name, Variable, Enter, Exit, Open, Empty, Path, Unfit}
-use Rattle.messages.specs.declared.Named.{Named}
 use Rattle.bindings.specs.Resolve.{resolve, bindingsIn, place}
 use Rattle.bindings.specs.Passes.{firstWord, firsts, allItems, shapeOf, arityOf, boundAt, plainName, plainItem, wordItems, ownItems}
 use Rattle.bindings.proofs.Resolving.{resolve-name, resolve-enter, resolve-exit, resolve-opens, resolve-empty, resolve-path, resolve-unbound, resolve-bound, given}

@@ -1,7 +1,6 @@
 -- The substitution lemma: a receipt's new binding in front of the older ones is what the plain machine does to messages
 -- into which it has already substituted. Assumes nothing.
 use Prim.Native.Nat.{ℕ}
-use mathlib.Core.Bool.{Bool, true, false}
 use mathlib.Core.List.{List, [], _∷_, _++_, append-assoc, append-nil}
 use mathlib.Core.Path.{_≡_, refl, sym, ap, _∙_}
 use lib.Dec.{eqb}

@@ -1,5 +1,6 @@
 -- What one pass over the words of messages goes by: the first word, what it has of its own, and what stands behind it.
--- Words that end too early are read as if EMPTY stood behind them, as they are spelled. Assumes nothing: these are definitions.
+-- Words that end too early are read as if EMPTY stood behind them, as they are spelled.
+-- Assumes nothing: these are definitions.
 use Prim.Native.Nat.{ℕ, zero, suc, _+_}
 use mathlib.Core.List.{List, [], _∷_, _++_}
 use lib.ListN.{length, drop}
@@ -38,18 +39,18 @@ allSizes σ (m ∷ ms) = size (resolve σ m) + allSizes σ ms
 
 -- How a word begins a message: how many items it is of its own if it is no variable with a binding, how many messages
 -- behind it are closed in such an item, and how many stand open, as those of PATH, whose items are their own.
-abbrev pub shaped : (items closed opened : ℕ) → Shape
-shaped i c o = record { items = i; closed = c; opened = o }
+abbrev pub shapeWith : (items closed opened : ℕ) → Shape
+shapeWith i c o = record { items = i; closed = c; opened = o }
 
 unfoldable pub shapeOf : MessageWord → Shape
-shapeOf (Name n) = shaped 1 0 0
-shapeOf (Variable v) = shaped 1 0 0
-shapeOf Enter = shaped 1 1 0
-shapeOf Exit = shaped 1 1 0
-shapeOf Open = shaped 1 1 0
-shapeOf Empty = shaped 0 0 0
-shapeOf Path = shaped 0 0 2
-shapeOf Unfit = shaped 0 0 0
+shapeOf (Name n) = shapeWith 1 0 0
+shapeOf (Variable v) = shapeWith 1 0 0
+shapeOf Enter = shapeWith 1 1 0
+shapeOf Exit = shapeWith 1 1 0
+shapeOf Open = shapeWith 1 1 0
+shapeOf Empty = shapeWith 0 0 0
+shapeOf Path = shapeWith 0 0 2
+shapeOf Unfit = shapeWith 0 0 0
 
 -- how many messages stand in a message that begins with such a word
 abbrev pub arityOf : MessageWord → ℕ

@@ -1,7 +1,7 @@
 -- Messages under bindings. A binding is a receipt's variable and the message that the receipt was given.
 -- Assumes nothing: these are definitions.
 use Prim.Native.Nat.{ℕ, suc, _-_}
-use mathlib.Core.Bool.{Bool, true, false, cond}
+use mathlib.Core.Bool.{cond}
 use mathlib.Core.List.{List, [], _∷_}
 use lib.Dec.{eqb, ltb}
 use lib.ListN.{drop}

@@ -1,7 +1,8 @@
 // Messages under bindings, read from the script's words, and the holder of the bindings. A binding says that a receipt was
 // given the message at a word of the script. Bindings are lent newest first, in slices: the variables, the indices of the
 // messages' first words, and what was counted of each message when it was bound. What is older than a binding is the tail
-// behind it. Each operation is one pass over words, since a variable's counts are at hand. It rests on messages.
+// behind it. Each operation is one pass over words, since a variable's counts are at hand; counts stop at
+// 2^32 - 1. It rests on the promises of messages.
 use messages::First;
 use messages::MessageWord;
 use messages::Named;
@@ -10,11 +11,11 @@ ghost use mathlib.Core.Path.{_≡_};
 ghost use Prim.Native.Nat.{ℕ, _+_, _-_, _*_, _<_, _≤_, _^_};
 ghost use mathlib.Core.List.{List, [], _∷_, _++_};
 ghost use lib.ListN.{length, drop, getD};
-ghost use Rattle.messages.specs.Message.{Message, items, nameOf, asks, firstItem};
+ghost use Rattle.messages.specs.Message.{Message, items, nameOf, firstItem};
 ghost use Rattle.messages.specs.Spelling.{spelled, messageAt};
 ghost use Rattle.bindings.specs.Resolve.{resolve, bindingsIn, place, messageOf};
 ghost use Rattle.bindings.specs.Measures.{capped, size, itemsSize, bulk, cappedItems, itemCount, Kept, Cached};
-ghost use Rattle.bindings.specs.Passes.{firstWord, firsts, allItems, allSizes, shapeOf, arityOf, boundAt, plainName, plainItem, ownItems, ownSize};
+ghost use Rattle.bindings.specs.Passes.{firstWord, firsts, allItems, allSizes, shapeWith, shapeOf, arityOf, boundAt, plainName, plainItem, ownItems, ownSize};
 ghost use Rattle.bindings.specs.Held.{Measures, bindingsOf, Held};
 
 // How a word begins a message: the items that it is of its own, the messages behind it that are closed in such an item,
@@ -60,7 +61,11 @@ pub fn wide(x: u32) -> usize
 pub fn sum(a: u32, b: u32) -> u32
     ensures { λ r. ⌜ r ≡ capped (a + b) ⌝ }
 {
-    if a <= 4294967295 - b { a + b } else { 4294967295 }
+    if a <= 4294967295 - b {
+        a + b
+    } else {
+        4294967295
+    }
 }
 
 // What stands from an index on, nothing where there is not so much.
@@ -102,19 +107,30 @@ pub fn first_word(words: &[u32]) -> MessageWord
     message_word(words[0])
 }
 
+// The shape with these numbers.
+fn shaped(items: u32, closed: usize, opened: usize) -> Shape
+    ensures { λ r. ⌜ r ≡ shapeWith items closed opened ⌝ }
+{
+    Shape {
+        items,
+        closed,
+        opened,
+    }
+}
+
 // How the word begins a message.
 pub fn shape_of(m: MessageWord) -> Shape
     ensures { λ r. ⌜ r ≡ shapeOf m ⌝ }
 {
     match m {
-        MessageWord::Name(_) => Shape { items: 1, closed: 0, opened: 0 },
-        MessageWord::Variable(_) => Shape { items: 1, closed: 0, opened: 0 },
-        MessageWord::Enter => Shape { items: 1, closed: 1, opened: 0 },
-        MessageWord::Exit => Shape { items: 1, closed: 1, opened: 0 },
-        MessageWord::Open => Shape { items: 1, closed: 1, opened: 0 },
-        MessageWord::Empty => Shape { items: 0, closed: 0, opened: 0 },
-        MessageWord::Path => Shape { items: 0, closed: 0, opened: 2 },
-        MessageWord::Unfit => Shape { items: 0, closed: 0, opened: 0 },
+        MessageWord::Name(_) => shaped(1, 0, 0),
+        MessageWord::Variable(_) => shaped(1, 0, 0),
+        MessageWord::Enter => shaped(1, 1, 0),
+        MessageWord::Exit => shaped(1, 1, 0),
+        MessageWord::Open => shaped(1, 1, 0),
+        MessageWord::Empty => shaped(0, 0, 0),
+        MessageWord::Path => shaped(0, 0, 2),
+        MessageWord::Unfit => shaped(0, 0, 0),
     }
 }
 
@@ -166,8 +182,12 @@ pub fn name_of(script: &[u32], words: &[u32], variables: &[u32], places: &[u32])
     let m = first_word(words);
     let k = bound(m, variables);
     if k < variables.len() {
-        let older = k + 1;
-        return name_of(script, given(script, places, k), tail(variables, older), tail(places, older));
+        return name_of(
+            script,
+            given(script, places, k),
+            tail(variables, k + 1),
+            tail(places, k + 1),
+        );
     }
     plain_name(m)
 }
@@ -243,7 +263,13 @@ fn count_from(words: &[u32], pending: usize, variables: &[u32], counts: &[u32]) 
 }
 
 // The number of items of the message at a word of the script, after the bindings.
-pub fn item_count(script: &[u32], at: usize, variables: &[u32], places: &[u32], counts: &[u32]) -> u32
+pub fn item_count(
+    script: &[u32],
+    at: usize,
+    variables: &[u32],
+    places: &[u32],
+    counts: &[u32],
+) -> u32
     requires { ⌜ Kept itemCount (now script) (now variables) (now places) (now counts) ⌝ }
     ensures { λ r. ⌜ r ≡ capped (length (items (resolve (bindingsIn (now (script .entry)) (now (variables .entry)) (now (places .entry))) (messageAt (drop at (now (script .entry))))))) ⌝ }
 {
@@ -268,7 +294,14 @@ fn plain_item(m: MessageWord, inside: Named) -> First
 }
 
 // The first from the offset on of the items that the first of the words has of its own.
-fn own_item(script: &[u32], words: &[u32], offset: u32, variables: &[u32], places: &[u32], counts: &[u32]) -> First
+fn own_item(
+    script: &[u32],
+    words: &[u32],
+    offset: u32,
+    variables: &[u32],
+    places: &[u32],
+    counts: &[u32],
+) -> First
     requires { ⌜ Kept itemCount (now script) (now variables) (now places) (now counts) × (offset < 4294967295) × (offset < length (ownItems (bindingsIn (now script) (now variables) (now places)) (now words))) ⌝ }
     ensures { λ r. ⌜ r ≡ firstItem (drop offset (ownItems (bindingsIn (now (script .entry)) (now (variables .entry)) (now (places .entry))) (now (words .entry)))) ⌝ }
 {
@@ -276,13 +309,29 @@ fn own_item(script: &[u32], words: &[u32], offset: u32, variables: &[u32], place
     let k = bound(m, variables);
     if k < variables.len() {
         let older = k + 1;
-        return first_from(script, given(script, places, k), 1, offset, tail(variables, older), tail(places, older), tail(counts, older));
+        return first_from(
+            script,
+            given(script, places, k),
+            1,
+            offset,
+            tail(variables, older),
+            tail(places, older),
+            tail(counts, older),
+        );
     }
     plain_item(m, name_of(script, tail(words, 1), variables, places))
 }
 
 // The first from the offset on of the items of the first `pending` messages of the words, after the bindings.
-fn first_from(script: &[u32], words: &[u32], pending: usize, offset: u32, variables: &[u32], places: &[u32], counts: &[u32]) -> First
+fn first_from(
+    script: &[u32],
+    words: &[u32],
+    pending: usize,
+    offset: u32,
+    variables: &[u32],
+    places: &[u32],
+    counts: &[u32],
+) -> First
     requires { ⌜ (pending + length (now words) < 2 ^ 64) × Kept itemCount (now script) (now variables) (now places) (now counts) × (offset < 4294967295) ⌝ }
     ensures { λ r. ⌜ r ≡ firstItem (drop offset (allItems (bindingsIn (now (script .entry)) (now (variables .entry)) (now (places .entry))) (firsts pending (spelled (now (words .entry)))))) ⌝ }
 {
@@ -296,15 +345,39 @@ fn first_from(script: &[u32], words: &[u32], pending: usize, offset: u32, variab
     }
     let used = b.used;
     let left = b.left;
-    first_from(script, tail(words, used), left, offset - o, variables, places, counts)
+    let rest = offset - o;
+    first_from(
+        script,
+        tail(words, used),
+        left,
+        rest,
+        variables,
+        places,
+        counts,
+    )
 }
 
 // The first from the offset on of the items of the message at a word of the script, after the bindings.
-pub fn first_item(script: &[u32], at: usize, offset: u32, variables: &[u32], places: &[u32], counts: &[u32]) -> First
+pub fn first_item(
+    script: &[u32],
+    at: usize,
+    offset: u32,
+    variables: &[u32],
+    places: &[u32],
+    counts: &[u32],
+) -> First
     requires { ⌜ Kept itemCount (now script) (now variables) (now places) (now counts) × (offset < 4294967295) ⌝ }
     ensures { λ r. ⌜ r ≡ firstItem (drop offset (items (resolve (bindingsIn (now (script .entry)) (now (variables .entry)) (now (places .entry))) (messageAt (drop at (now (script .entry))))))) ⌝ }
 {
-    first_from(script, tail(script, at), 1, offset, variables, places, counts)
+    first_from(
+        script,
+        tail(script, at),
+        1,
+        offset,
+        variables,
+        places,
+        counts,
+    )
 }
 
 // The number of words that a word is written with itself, after the bindings.
@@ -330,7 +403,10 @@ pub fn size_from(words: &[u32], pending: usize, variables: &[u32], sizes: &[u32]
     let m = first_word(words);
     let o = own_size(m, variables, sizes);
     let a = arity(m);
-    sum(o, size_from(tail(words, 1), pending - 1 + a, variables, sizes))
+    sum(
+        o,
+        size_from(tail(words, 1), pending - 1 + a, variables, sizes),
+    )
 }
 
 // The number of words that the message at a word of the script is written with, after the bindings.
@@ -342,7 +418,16 @@ pub fn words_of(script: &[u32], at: usize, variables: &[u32], places: &[u32], si
 }
 
 // The bulk of those from the offset on of the items that the first of the words has of its own.
-fn own_bulk(script: &[u32], words: &[u32], offset: u32, variables: &[u32], places: &[u32], counts: &[u32], sizes: &[u32], bulks: &[u32]) -> u32
+fn own_bulk(
+    script: &[u32],
+    words: &[u32],
+    offset: u32,
+    variables: &[u32],
+    places: &[u32],
+    counts: &[u32],
+    sizes: &[u32],
+    bulks: &[u32],
+) -> u32
     requires { ⌜ Cached (now script) (now variables) (now places) (now counts) (now sizes) (now bulks) × (offset < 4294967295) × (offset < length (ownItems (bindingsIn (now script) (now variables) (now places)) (now words))) ⌝ }
     ensures { λ r. ⌜ r ≡ capped (bulk (drop offset (ownItems (bindingsIn (now (script .entry)) (now (variables .entry)) (now (places .entry))) (now (words .entry))))) ⌝ }
 {
@@ -352,13 +437,33 @@ fn own_bulk(script: &[u32], words: &[u32], offset: u32, variables: &[u32], place
             return bulks[k];
         }
         let older = k + 1;
-        return bulk_from(script, given(script, places, k), 1, offset, tail(variables, older), tail(places, older), tail(counts, older), tail(sizes, older), tail(bulks, older));
+        return bulk_from(
+            script,
+            given(script, places, k),
+            1,
+            offset,
+            tail(variables, older),
+            tail(places, older),
+            tail(counts, older),
+            tail(sizes, older),
+            tail(bulks, older),
+        );
     }
     sum(1, size_from(words, 1, variables, sizes))
 }
 
 // The bulk of those from the offset on of the items of the first `pending` messages of the words, after the bindings.
-fn bulk_from(script: &[u32], words: &[u32], pending: usize, offset: u32, variables: &[u32], places: &[u32], counts: &[u32], sizes: &[u32], bulks: &[u32]) -> u32
+fn bulk_from(
+    script: &[u32],
+    words: &[u32],
+    pending: usize,
+    offset: u32,
+    variables: &[u32],
+    places: &[u32],
+    counts: &[u32],
+    sizes: &[u32],
+    bulks: &[u32],
+) -> u32
     requires { ⌜ (pending + length (now words) < 2 ^ 64) × Cached (now script) (now variables) (now places) (now counts) (now sizes) (now bulks) × (offset < 4294967295) ⌝ }
     ensures { λ r. ⌜ r ≡ capped (bulk (drop offset (allItems (bindingsIn (now (script .entry)) (now (variables .entry)) (now (places .entry))) (firsts pending (spelled (now (words .entry))))))) ⌝ }
 {
@@ -370,31 +475,108 @@ fn bulk_from(script: &[u32], words: &[u32], pending: usize, offset: u32, variabl
     let used = b.used;
     let left = b.left;
     if o <= offset {
-        return bulk_from(script, tail(words, used), left, offset - o, variables, places, counts, sizes, bulks);
+        return bulk_from(
+            script,
+            tail(words, used),
+            left,
+            offset - o,
+            variables,
+            places,
+            counts,
+            sizes,
+            bulks,
+        );
     }
-    let here = own_bulk(script, words, offset, variables, places, counts, sizes, bulks);
-    sum(here, bulk_from(script, tail(words, used), left, 0, variables, places, counts, sizes, bulks))
+    let here = own_bulk(
+        script,
+        words,
+        offset,
+        variables,
+        places,
+        counts,
+        sizes,
+        bulks,
+    );
+    sum(
+        here,
+        bulk_from(
+            script,
+            tail(words, used),
+            left,
+            0,
+            variables,
+            places,
+            counts,
+            sizes,
+            bulks,
+        ),
+    )
 }
 
 // The bulk of the items of the message at a word of the script, after the bindings.
-pub fn bulk_of(script: &[u32], at: usize, variables: &[u32], places: &[u32], counts: &[u32], sizes: &[u32], bulks: &[u32]) -> u32
+pub fn bulk_of(
+    script: &[u32],
+    at: usize,
+    variables: &[u32],
+    places: &[u32],
+    counts: &[u32],
+    sizes: &[u32],
+    bulks: &[u32],
+) -> u32
     requires { ⌜ Cached (now script) (now variables) (now places) (now counts) (now sizes) (now bulks) ⌝ }
     ensures { λ r. ⌜ r ≡ capped (bulk (items (resolve (bindingsIn (now (script .entry)) (now (variables .entry)) (now (places .entry))) (messageAt (drop at (now (script .entry))))))) ⌝ }
 {
-    bulk_from(script, tail(script, at), 1, 0, variables, places, counts, sizes, bulks)
+    bulk_from(
+        script,
+        tail(script, at),
+        1,
+        0,
+        variables,
+        places,
+        counts,
+        sizes,
+        bulks,
+    )
 }
 
 // The number of words, at most 2^32 - 2, that an action's items from the offset on are written with.
-pub fn item_words(script: &[u32], at: usize, offset: u32, variables: &[u32], places: &[u32], counts: &[u32], sizes: &[u32], bulks: &[u32]) -> u32
+pub fn item_words(
+    script: &[u32],
+    at: usize,
+    offset: u32,
+    variables: &[u32],
+    places: &[u32],
+    counts: &[u32],
+    sizes: &[u32],
+    bulks: &[u32],
+) -> u32
     requires { ⌜ Cached (now script) (now variables) (now places) (now counts) (now sizes) (now bulks) × (offset < 4294967295) ⌝ }
     ensures { λ r. ⌜ r ≡ cappedItems (itemsSize (drop offset (items (resolve (bindingsIn (now (script .entry)) (now (variables .entry)) (now (places .entry))) (messageAt (drop at (now (script .entry)))))))) ⌝ }
 {
-    let b = bulk_from(script, tail(script, at), 1, offset, variables, places, counts, sizes, bulks);
+    let b = bulk_from(
+        script,
+        tail(script, at),
+        1,
+        offset,
+        variables,
+        places,
+        counts,
+        sizes,
+        bulks,
+    );
     if b == 0 { 1 } else { b - 1 }
 }
 
 // What is counted of the message at a word of the script, after the bindings.
-fn measure(script: &[u32], at: usize, variables: &[u32], places: &[u32], counts: &[u32], sizes: &[u32], bulks: &[u32]) -> Measured
+fn measure(
+    script: &[u32],
+    at: usize,
+    variables: &[u32],
+    places: &[u32],
+    counts: &[u32],
+    sizes: &[u32],
+    bulks: &[u32],
+) -> Measured
     requires { ⌜ Cached (now script) (now variables) (now places) (now counts) (now sizes) (now bulks) ⌝ }
     ensures { λ r. ⌜ Measures (resolve (bindingsIn (now (script .entry)) (now (variables .entry)) (now (places .entry))) (messageAt (drop at (now (script .entry))))) r ⌝ }
 {
@@ -416,7 +598,15 @@ fn measure_held(script: &[u32], at: usize, b: Bindings) -> Measured
     let sizes = b.sizes;
     let bulks = b.bulks;
     let first = b.first;
-    measure(script, at, tail(&variables, first), tail(&places, first), tail(&counts, first), tail(&sizes, first), tail(&bulks, first))
+    measure(
+        script,
+        at,
+        tail(&variables, first),
+        tail(&places, first),
+        tail(&counts, first),
+        tail(&sizes, first),
+        tail(&bulks, first),
+    )
 }
 
 // No bindings.

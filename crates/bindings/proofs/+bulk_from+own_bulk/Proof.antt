@@ -2,7 +2,7 @@
 -- the words and messages that are left. Assumes nothing.
 use Prim.Native.Nat.{ℕ, suc, _+_, _*_, _<_}
 use mathlib.Core.List.{List}
-use mathlib.Core.Path.{_≡_, ap, _∙_}
+use mathlib.Core.Path.{ap, _∙_}
 use native.Mathlib.Omega.{arith}
 use borrow.Author.Needs.{needs}
 use lib.ListN.{length, drop, getD, length-drop}
@@ -61,7 +61,8 @@ own-bulk-claims t = (first-word-reads.Asked, first-word-reads.Learnt, bound-read
 module _ (t : ℕ) where
   bulk-from-returns : bulk-from-lts.Need-returns (bulk-from-claims t) (bulk-from-at t) bulk-from.Post
   bulk-from-returns c =
-      bulk-none _ (c .before .before .before .before .before .before .before .before .args .offset) (none-pending (bindingsIn (c .before .before .before .before .before .before .before .before .args .script .now) (c .before .before .before .before .before .before .before .before .args .variables .now) (c .before .before .before .before .before .before .before .before .args .places .now)) _ (spelled (c .before .before .before .before .before .before .before .before .args .words .now)) (c .if1 .taken))
+      let s = c .before .before .before .before .before .before .before .before in
+      bulk-none _ (s .args .offset) (none-pending (bindingsIn (s .args .script .now) (s .args .variables .now) (s .args .places .now)) _ (spelled (s .args .words .now)) (c .if1 .taken))
 
   bulk-from-own-requires : bulk-from-lts.Need-own-requires (bulk-from-claims t) (bulk-from-at t) bulk-from.Post
   bulk-from-own-requires c κs =
@@ -73,34 +74,42 @@ module _ (t : ℕ) where
 
   bulk-from-bulk-from-requires : bulk-from-lts.Need-bulk-from-requires (bulk-from-claims t) (bulk-from-at t) bulk-from.Post
   bulk-from-bulk-from-requires c κs =
+      let s = c .before .before .before .before .before .before .before .before .before .before .before .before in
       let l = ap length (c .tail .ensures) in
-      let s = c .before .before .after-own .ensures .0 in
-      (rank-less _ _ _ _ (c .before .before .before .before .before .before .before .before .before .before .before .before .pre .0) (omega (arith, l, s .1)), (omega (arith, l, s .0, c .before .before .before .before .before .before .before .before .before .before .before .before .pre .1 .0), c .before .before .before .before .before .before .before .before .before .before .before .before .pre .1 .1, omega (arith, c .before .before .before .before .before .before .before .before .before .before .before .before .pre .1 .2)))
+      let room = c .before .before .after-own .ensures .0 in
+      (rank-less _ _ _ _ (s .pre .0) (omega (arith, l, room .1)), (omega (arith, l, room .0, s .pre .1 .0), s .pre .1 .1, omega (arith, s .pre .1 .2)))
 
   bulk-from-returns-2 : bulk-from-lts.Need-returns-2 (bulk-from-claims t) (bulk-from-at t) bulk-from.Post
   bulk-from-returns-2 c =
+      let s = c .before .before .before .before .before .before .before .before .before .before .before .before .before in
+      let σ = bindingsIn (s .args .script .now) (s .args .variables .now) (s .args .places .now) in
       c .bulk-from .ensures
-      ∙ rw (c .before .tail .ensures) (ap (λ (l : List Message). capped (bulk l)) (drop-past _ (ownItems (bindingsIn (c .before .before .before .before .before .before .before .before .before .before .before .before .before .args .script .now) (c .before .before .before .before .before .before .before .before .before .before .before .before .before .args .variables .now) (c .before .before .before .before .before .before .before .before .before .before .before .before .before .args .places .now)) (c .before .before .before .before .before .before .before .before .before .before .before .before .before .args .words .now)) (allItems (bindingsIn (c .before .before .before .before .before .before .before .before .before .before .before .before .before .args .script .now) (c .before .before .before .before .before .before .before .before .before .before .before .before .before .args .variables .now) (c .before .before .before .before .before .before .before .before .before .before .before .before .before .args .places .now)) (firsts (c .before .before .before .after-own .result .left) (spelled (drop (c .before .before .before .after-own .result .used) (c .before .before .before .before .before .before .before .before .before .before .before .before .before .args .words .now))))) (c .before .before .before .before .before .before .before .before .before .before .before .before .before .args .offset) (c .before .before .before .before .own .result) (c .before .before .before .after-own .ensures .1 (bindingsIn (c .before .before .before .before .before .before .before .before .before .before .before .before .before .args .script .now) (c .before .before .before .before .before .before .before .before .before .before .before .before .before .args .variables .now) (c .before .before .before .before .before .before .before .before .before .before .before .before .before .args .places .now))) (c .before .before .before .before .own .ensures (c .before .before .before .before .before .before .before .before .before .before .before .before .before .args .script .now) (c .before .before .before .before .before .before .before .before .before .before .before .before .before .args .places .now) (c .before .before .before .before .before .before .before .before .before .before .before .before .before .pre .1 .1 .counted)) (c .before .before .if2 .taken) (c .before .before .before .before .before .before .before .before .before .before .before .before .before .pre .1 .2)))
+      ∙ rw (c .before .tail .ensures) (ap (λ (l : List Message). capped (bulk l)) (drop-past _ (ownItems σ (s .args .words .now)) (allItems σ (firsts (c .before .before .before .after-own .result .left) (spelled (drop (c .before .before .before .after-own .result .used) (s .args .words .now))))) (s .args .offset) (c .before .before .before .before .own .result) (c .before .before .before .after-own .ensures .1 σ) (c .before .before .before .before .own .ensures (s .args .script .now) (s .args .places .now) (s .pre .1 .1 .counted)) (c .before .before .if2 .taken) (s .pre .1 .2)))
 
   bulk-from-own-bulk-requires : bulk-from-lts.Need-own-bulk-requires (bulk-from-claims t) (bulk-from-at t) bulk-from.Post
   bulk-from-own-bulk-requires c κs =
-      (rank-less _ _ _ _ (c .before .before .before .before .before .before .before .before .before .before .before .pre .0) (omega arith), (c .before .before .before .before .before .before .before .before .before .before .before .pre .1 .1, c .before .before .before .before .before .before .before .before .before .before .before .pre .1 .2, below-count _ _ _ (c .before .before .own .ensures (c .before .before .before .before .before .before .before .before .before .before .before .args .script .now) (c .before .before .before .before .before .before .before .before .before .before .before .args .places .now) (c .before .before .before .before .before .before .before .before .before .before .before .pre .1 .1 .counted)) (c .if2 .left)))
+      let s = c .before .before .before .before .before .before .before .before .before .before .before in
+      (rank-less _ _ _ _ (s .pre .0) (omega arith), (s .pre .1 .1, s .pre .1 .2, below-count _ _ _ (c .before .before .own .ensures (s .args .script .now) (s .args .places .now) (s .pre .1 .1 .counted)) (c .if2 .left)))
 
   bulk-from-bulk-from-requires-2 : bulk-from-lts.Need-bulk-from-requires-2 (bulk-from-claims t) (bulk-from-at t) bulk-from.Post
   bulk-from-bulk-from-requires-2 c κs =
+      let s = c .before .before .before .before .before .before .before .before .before .before .before .before .before in
       let l = ap length (c .tail2 .ensures) in
-      let s = c .before .before .before .after-own .ensures .0 in
-      (rank-less _ _ _ _ (c .before .before .before .before .before .before .before .before .before .before .before .before .before .pre .0) (omega (arith, l, s .1)), (omega (arith, l, s .0, c .before .before .before .before .before .before .before .before .before .before .before .before .before .pre .1 .0), c .before .before .before .before .before .before .before .before .before .before .before .before .before .pre .1 .1, omega arith))
+      let room = c .before .before .before .after-own .ensures .0 in
+      (rank-less _ _ _ _ (s .pre .0) (omega (arith, l, room .1)), (omega (arith, l, room .0, s .pre .1 .0), s .pre .1 .1, omega arith))
 
   bulk-from-returns-3 : bulk-from-lts.Need-returns-3 (bulk-from-claims t) (bulk-from-at t) bulk-from.Post
   bulk-from-returns-3 c =
-      bulk-sum (drop (c .before .before .before .before .before .before .before .before .before .before .before .before .before .before .before .args .offset) (ownItems (bindingsIn (c .before .before .before .before .before .before .before .before .before .before .before .before .before .before .before .args .script .now) (c .before .before .before .before .before .before .before .before .before .before .before .before .before .before .before .args .variables .now) (c .before .before .before .before .before .before .before .before .before .before .before .before .before .before .before .args .places .now)) (c .before .before .before .before .before .before .before .before .before .before .before .before .before .before .before .args .words .now))) (allItems (bindingsIn (c .before .before .before .before .before .before .before .before .before .before .before .before .before .before .before .args .script .now) (c .before .before .before .before .before .before .before .before .before .before .before .before .before .before .before .args .variables .now) (c .before .before .before .before .before .before .before .before .before .before .before .before .before .before .before .args .places .now)) (firsts (c .before .before .before .before .before .after-own .result .left) (spelled (drop (c .before .before .before .before .before .after-own .result .used) (c .before .before .before .before .before .before .before .before .before .before .before .before .before .before .before .args .words .now))))) _
-      (drop-within _ (ownItems (bindingsIn (c .before .before .before .before .before .before .before .before .before .before .before .before .before .before .before .args .script .now) (c .before .before .before .before .before .before .before .before .before .before .before .before .before .before .before .args .variables .now) (c .before .before .before .before .before .before .before .before .before .before .before .before .before .before .before .args .places .now)) (c .before .before .before .before .before .before .before .before .before .before .before .before .before .before .before .args .words .now)) (allItems (bindingsIn (c .before .before .before .before .before .before .before .before .before .before .before .before .before .before .before .args .script .now) (c .before .before .before .before .before .before .before .before .before .before .before .before .before .before .before .args .variables .now) (c .before .before .before .before .before .before .before .before .before .before .before .before .before .before .before .args .places .now)) (firsts (c .before .before .before .before .before .after-own .result .left) (spelled (drop (c .before .before .before .before .before .after-own .result .used) (c .before .before .before .before .before .before .before .before .before .before .before .before .before .before .before .args .words .now))))) (c .before .before .before .before .before .before .before .before .before .before .before .before .before .before .before .args .offset) (c .before .before .before .before .before .before .own .result) (c .before .before .before .before .before .after-own .ensures .1 (bindingsIn (c .before .before .before .before .before .before .before .before .before .before .before .before .before .before .before .args .script .now) (c .before .before .before .before .before .before .before .before .before .before .before .before .before .before .before .args .variables .now) (c .before .before .before .before .before .before .before .before .before .before .before .before .before .before .before .args .places .now))) (c .before .before .before .before .before .before .own .ensures (c .before .before .before .before .before .before .before .before .before .before .before .before .before .before .before .args .script .now) (c .before .before .before .before .before .before .before .before .before .before .before .before .before .before .before .args .places .now) (c .before .before .before .before .before .before .before .before .before .before .before .before .before .before .before .pre .1 .1 .counted)) (c .before .before .before .before .if2 .left))
+      let s = c .before .before .before .before .before .before .before .before .before .before .before .before .before .before .before in
+      let σ = bindingsIn (s .args .script .now) (s .args .variables .now) (s .args .places .now) in
+      bulk-sum (drop (s .args .offset) (ownItems σ (s .args .words .now))) (allItems σ (firsts (c .before .before .before .before .before .after-own .result .left) (spelled (drop (c .before .before .before .before .before .after-own .result .used) (s .args .words .now))))) _
+      (drop-within _ (ownItems σ (s .args .words .now)) (allItems σ (firsts (c .before .before .before .before .before .after-own .result .left) (spelled (drop (c .before .before .before .before .before .after-own .result .used) (s .args .words .now))))) (s .args .offset) (c .before .before .before .before .before .before .own .result) (c .before .before .before .before .before .after-own .ensures .1 σ) (c .before .before .before .before .before .before .own .ensures (s .args .script .now) (s .args .places .now) (s .pre .1 .1 .counted)) (c .before .before .before .before .if2 .left))
       (c .before .before .before .own-bulk .ensures) (rw (c .before .before .tail2 .ensures) at (c .before .bulk-from2 .ensures)) (c .sum .ensures)
 
   own-bulk-mul-result : own-bulk-lts.Need-mul-result (own-bulk-claims t) (own-bulk-at t) own-bulk.Post
   own-bulk-mul-result c =
-      omega (arith, kept-length (c .before .before .before .before .before .before .before .before .before .before .before .pre .1 .0 .bulked), c .before .if1 .taken, c .before .before .before .before .before .before .before .before .before .before .before .good .1 .1 .1 .1 .1 .1 .1 .0)
+      let s = c .before .before .before .before .before .before .before .before .before .before .before in
+      omega (arith, kept-length (s .pre .1 .0 .bulked), c .before .if1 .taken, s .good .1 .1 .1 .1 .1 .1 .1 .0)
 
   own-bulk-shared-slice-read-result : own-bulk-lts.Need-shared-slice-read-result (own-bulk-claims t) (own-bulk-at t) own-bulk.Post
   own-bulk-shared-slice-read-result c =
@@ -108,8 +117,9 @@ module _ (t : ℕ) where
 
   own-bulk-returns : own-bulk-lts.Need-returns (own-bulk-claims t) (own-bulk-at t) own-bulk.Post
   own-bulk-returns c =
-      kept-given (c .before .before .before .before .before .before .before .before .before .before .before .before .pre .1 .0 .bulked) (c .before .before .before .bound .result) (c .before .before .if1 .taken)
-      ∙ rw (c .before .if2 .taken) (ap (λ (l : List Message). capped (bulk l)) (given-items (c .before .before .before .before .before .before .before .before .before .before .before .before .args .script .now) (c .before .before .before .before .before .before .before .before .before .before .before .before .args .variables .now) (c .before .before .before .before .before .before .before .before .before .before .before .before .args .places .now) (c .before .before .before .before .before .before .before .before .before .before .before .before .pre .1 .0 .counted .aligned) (c .before .before .before .bound .result) (c .before .before .if1 .taken) (c .before .before .before .before .before .before .before .before .before .before .before .before .args .words .now) (rw (c .before .before .before .before .first-word .ensures) at (c .before .before .before .bound .ensures))))
+      let s = c .before .before .before .before .before .before .before .before .before .before .before .before in
+      kept-given (s .pre .1 .0 .bulked) (c .before .before .before .bound .result) (c .before .before .if1 .taken)
+      ∙ rw (c .before .if2 .taken) (ap (λ (l : List Message). capped (bulk l)) (given-items (s .args .script .now) (s .args .variables .now) (s .args .places .now) (s .pre .1 .0 .counted .aligned) (c .before .before .before .bound .result) (c .before .before .if1 .taken) (s .args .words .now) (rw (c .before .before .before .before .first-word .ensures) at (c .before .before .before .bound .ensures))))
 
   own-bulk-add-older : own-bulk-lts.Need-add-older (own-bulk-claims t) (own-bulk-at t) own-bulk.Post
   own-bulk-add-older c =
@@ -121,36 +131,39 @@ module _ (t : ℕ) where
 
   own-bulk-bulk-from-requires : own-bulk-lts.Need-bulk-from-requires (own-bulk-claims t) (own-bulk-at t) own-bulk.Post
   own-bulk-bulk-from-requires c κs =
+      let s = c .before .before .before .before .before .before .before .before .before .before .before .before .before .before .before .before .before in
       let l = ap length (c .before .before .before .before .before .given .ensures) in
-      let d = length-drop (getD (c .before .before .before .before .before .before .before .before .before .before .before .before .before .before .before .before .before .args .places .now) (c .before .before .before .before .before .before .before .before .bound .result) 0) (c .before .before .before .before .before .before .before .before .before .before .before .before .before .before .before .before .before .args .script .now) in
+      let d = length-drop (getD (s .args .places .now) (c .before .before .before .before .before .before .before .before .bound .result) 0) (s .args .script .now) in
       let m = ap length (c .before .before .before .before .tail .ensures) in
-      let e = length-drop (c .before .before .before .before .before .before .before .before .bound .result + 1) (c .before .before .before .before .before .before .before .before .before .before .before .before .before .before .before .before .before .args .variables .now) in
-      (
-        rank-older _ _ _ _ _ (c .before .before .before .before .before .before .before .before .before .before .before .before .before .before .before .before .before .pre .0) (omega (arith, m, e, c .before .before .before .before .before .before .before .if1 .taken)) (omega (arith, l, d, c .before .before .before .before .before .before .before .before .before .before .before .before .before .before .before .before .before .good .0)),
+      let e = length-drop (c .before .before .before .before .before .before .before .before .bound .result + 1) (s .args .variables .now) in (
+        rank-older _ _ _ _ _ (s .pre .0) (omega (arith, m, e, c .before .before .before .before .before .before .before .if1 .taken)) (omega (arith, l, d, s .good .0)),
         (
-          omega (arith, l, d, c .before .before .before .before .before .before .before .before .before .before .before .before .before .before .before .before .before .good .0),
-          rw (c .before .before .before .before .tail .ensures, c .before .before .before .tail2 .ensures, c .before .before .tail3 .ensures, c .before .tail4 .ensures, c .tail5 .ensures) (cached-drop (c .before .before .before .before .before .before .before .before .bound .result + 1) (c .before .before .before .before .before .before .before .before .before .before .before .before .before .before .before .before .before .pre .1 .0)),
-          c .before .before .before .before .before .before .before .before .before .before .before .before .before .before .before .before .before .pre .1 .1,
+          omega (arith, l, d, s .good .0),
+          rw (c .before .before .before .before .tail .ensures, c .before .before .before .tail2 .ensures, c .before .before .tail3 .ensures, c .before .tail4 .ensures, c .tail5 .ensures) (cached-drop (c .before .before .before .before .before .before .before .before .bound .result + 1) (s .pre .1 .0)),
+          s .pre .1 .1,
         ),
       )
 
   own-bulk-returns-2 : own-bulk-lts.Need-returns-2 (own-bulk-claims t) (own-bulk-at t) own-bulk.Post
   own-bulk-returns-2 c =
+      let s = c .before .before .before .before .before .before .before .before .before .before .before .before .before .before .before .before .before .before in
       c .bulk-from .ensures
       ∙ rw (c .before .before .before .before .before .before .given .ensures, c .before .before .before .before .before .tail .ensures, c .before .before .before .before .tail2 .ensures)
-      (ap (λ (l : List Message). capped (bulk (drop (c .before .before .before .before .before .before .before .before .before .before .before .before .before .before .before .before .before .before .args .offset) l))) (one-message _ _ ∙ given-items (c .before .before .before .before .before .before .before .before .before .before .before .before .before .before .before .before .before .before .args .script .now) (c .before .before .before .before .before .before .before .before .before .before .before .before .before .before .before .before .before .before .args .variables .now) (c .before .before .before .before .before .before .before .before .before .before .before .before .before .before .before .before .before .before .args .places .now) (c .before .before .before .before .before .before .before .before .before .before .before .before .before .before .before .before .before .before .pre .1 .0 .counted .aligned) (c .before .before .before .before .before .before .before .before .before .bound .result) (c .before .before .before .before .before .before .before .before .if1 .taken) (c .before .before .before .before .before .before .before .before .before .before .before .before .before .before .before .before .before .before .args .words .now) (rw (c .before .before .before .before .before .before .before .before .before .before .first-word .ensures) at (c .before .before .before .before .before .before .before .before .before .bound .ensures))))
+      (ap (λ (l : List Message). capped (bulk (drop (s .args .offset) l))) (one-message _ _ ∙ given-items (s .args .script .now) (s .args .variables .now) (s .args .places .now) (s .pre .1 .0 .counted .aligned) (c .before .before .before .before .before .before .before .before .before .bound .result) (c .before .before .before .before .before .before .before .before .if1 .taken) (s .args .words .now) (rw (c .before .before .before .before .before .before .before .before .before .before .first-word .ensures) at (c .before .before .before .before .before .before .before .before .before .bound .ensures))))
 
   own-bulk-size-from-requires : own-bulk-lts.Need-size-from-requires (own-bulk-claims t) (own-bulk-at t) own-bulk.Post
   own-bulk-size-from-requires c κs =
-      (omega (arith, c .before .before .before .before .before .before .before .before .before .before .good .1 .0), kept-length (c .before .before .before .before .before .before .before .before .before .before .pre .1 .0 .sized))
+      let s = c .before .before .before .before .before .before .before .before .before .before in
+      (omega (arith, s .good .1 .0), kept-length (s .pre .1 .0 .sized))
 
   own-bulk-returns-3 : own-bulk-lts.Need-returns-3 (own-bulk-claims t) (own-bulk-at t) own-bulk.Post
   own-bulk-returns-3 c =
-      let σ = bindingsIn (c .before .before .before .before .before .before .before .before .before .before .before .before .args .script .now) (c .before .before .before .before .before .before .before .before .before .before .before .before .args .variables .now) (c .before .before .before .before .before .before .before .before .before .before .before .before .args .places .now) in
+      let s = c .before .before .before .before .before .before .before .before .before .before .before .before in
+      let σ = bindingsIn (s .args .script .now) (s .args .variables .now) (s .args .places .now) in
       let e = rw (c .before .before .before .before .first-word .ensures) at (c .before .before .before .bound .ensures) in
-      let f = unbound-free (c .before .before .before .before .before .before .before .before .before .before .before .before .args .script .now) (c .before .before .before .before .before .before .before .before .before .before .before .before .args .variables .now) (c .before .before .before .before .before .before .before .before .before .before .before .before .args .places .now) (firstWord (c .before .before .before .before .before .before .before .before .before .before .before .before .args .words .now)) (omega (arith, e, c .before .before .if1 .left)) in
-      bulk-only _ _ (single σ (c .before .before .before .before .before .before .before .before .before .before .before .before .args .words .now) (c .before .before .before .before .before .before .before .before .before .before .before .before .args .offset) f (c .before .before .before .before .before .before .before .before .before .before .before .before .pre .1 .2))
-      (c .before .size-from .ensures (c .before .before .before .before .before .before .before .before .before .before .before .before .args .script .now) (c .before .before .before .before .before .before .before .before .before .before .before .before .args .places .now) (c .before .before .before .before .before .before .before .before .before .before .before .before .pre .1 .0 .sized) ∙ ap capped (one-size σ (c .before .before .before .before .before .before .before .before .before .before .before .before .args .words .now))) (c .sum .ensures)
+      let f = unbound-free (s .args .script .now) (s .args .variables .now) (s .args .places .now) (firstWord (s .args .words .now)) (omega (arith, e, c .before .before .if1 .left)) in
+      bulk-only _ _ (single σ (s .args .words .now) (s .args .offset) f (s .pre .1 .2))
+      (c .before .size-from .ensures (s .args .script .now) (s .args .places .now) (s .pre .1 .0 .sized) ∙ ap capped (one-size σ (s .args .words .now))) (c .sum .ensures)
 
 pub +bulk-from+own-bulk-spec : {M : Type 1} → statement M
 +bulk-from+own-bulk-spec =

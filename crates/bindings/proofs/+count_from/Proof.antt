@@ -1,6 +1,7 @@
--- `bindings::count_from` meets its contract. The measure falls with the words, and where there are none, with the messages. Assumes nothing.
+-- `bindings::count_from` meets its contract. The measure falls with the words, and where there are none, with the
+-- messages. Assumes nothing.
 use Prim.Native.Nat.{ℕ, _+_, _*_, _<_}
-use mathlib.Core.Path.{_≡_, sym, ap, _∙_}
+use mathlib.Core.Path.{ap}
 use native.Mathlib.Omega.{arith}
 use borrow.Author.Needs.{needs}
 use lib.ListN.{length, drop}
@@ -38,7 +39,8 @@ count-from-claims t = (own-reads.Asked, own-reads.Learnt, after-own-reads.Asked,
 module _ (t : ℕ) where
   count-from-returns : count-from-lts.Need-returns (count-from-claims t) (count-from-at t) count-from.Post
   count-from-returns c =
-      λ script places ok. no-items _ (none-pending (bindingsIn script (c .before .before .before .before .args .variables .now) places) _ (spelled (c .before .before .before .before .args .words .now)) (c .if1 .taken))
+      let s = c .before .before .before .before in
+      λ script places ok. no-items _ (none-pending (bindingsIn script (s .args .variables .now) places) _ (spelled (s .args .words .now)) (c .if1 .taken))
 
   count-from-own-requires : count-from-lts.Need-own-requires (count-from-claims t) (count-from-at t) count-from.Post
   count-from-own-requires c κs =
@@ -47,13 +49,14 @@ module _ (t : ℕ) where
   count-from-count-from-requires : count-from-lts.Need-count-from-requires (count-from-claims t) (count-from-at t) count-from.Post
   count-from-count-from-requires c κs =
       let l = ap length (c .tail .ensures) in
-      let s = c .before .after-own .ensures .0 in
+      let room = c .before .after-own .ensures .0 in
       (omega arith, (omega arith, c .before .before .before .before .before .before .before .pre .1 .1))
 
   count-from-returns-2 : count-from-lts.Need-returns-2 (count-from-claims t) (count-from-at t) count-from.Post
   count-from-returns-2 c =
-      λ script places ok. let σ = bindingsIn script (c .before .before .before .before .before .before .before .before .before .args .variables .now) places in
-      items-sum _ (ownItems σ (c .before .before .before .before .before .before .before .before .before .args .words .now)) (allItems σ (firsts (c .before .before .before .after-own .result .left) (spelled (drop (c .before .before .before .after-own .result .used) (c .before .before .before .before .before .before .before .before .before .args .words .now)))))
+      let s = c .before .before .before .before .before .before .before .before .before in
+      λ script places ok. let σ = bindingsIn script (s .args .variables .now) places in
+      items-sum _ (ownItems σ (s .args .words .now)) (allItems σ (firsts (c .before .before .before .after-own .result .left) (spelled (drop (c .before .before .before .after-own .result .used) (s .args .words .now)))))
       (c .before .before .before .after-own .ensures .1 σ) (c .before .before .before .before .own .ensures script places ok) (rw (c .before .before .tail .ensures) at (c .before .count-from .ensures script places ok)) (c .sum .ensures)
 
 pub +count-from-spec : {M : Type 1} → statement M

@@ -29,11 +29,13 @@ find-claims t = (tail-reads.Asked, tail-reads.Learnt, find-below t, find.Post)
 module _ (t : ℕ) where
   find-returns : find-lts.Need-returns (find-claims t) (find-at t) find.Post
   find-returns c =
-      place-none (c .before .before .args .variables .now) (c .before .before .args .v) (c .if1 .taken)
+      let s = c .before .before in
+      place-none (s .args .variables .now) (s .args .v) (c .if1 .taken)
 
   find-returns-2 : find-lts.Need-returns-2 (find-claims t) (find-at t) find.Post
   find-returns-2 c =
-      place-here (c .before .before .before .before .args .variables .now) (c .before .before .before .before .args .v) (omega arith) (c .if2 .taken)
+      let s = c .before .before .before .before in
+      place-here (s .args .variables .now) (s .args .v) (omega arith) (c .if2 .taken)
 
   find-find-requires : find-lts.Need-find-requires (find-claims t) (find-at t) find.Post
   find-find-requires c κs =
@@ -41,11 +43,13 @@ module _ (t : ℕ) where
 
   find-add-result : find-lts.Need-add-result (find-claims t) (find-at t) find.Post
   find-add-result c =
-      omega (arith, place-within (c .before .tail .result .now) (c .before .before .before .before .before .before .args .v), c .find .ensures, ap length (c .before .tail .ensures), length-drop 1 (c .before .before .before .before .before .before .args .variables .now))
+      let s = c .before .before .before .before .before .before in
+      omega (arith, place-within (c .before .tail .result .now) (s .args .v), c .find .ensures, ap length (c .before .tail .ensures), length-drop 1 (s .args .variables .now))
 
   find-returns-3 : find-lts.Need-returns-3 (find-claims t) (find-at t) find.Post
   find-returns-3 c =
-      rw (c .find .ensures, c .before .tail .ensures) (place-there (c .before .before .before .before .before .before .args .variables .now) (c .before .before .before .before .before .before .args .v) (omega arith) (c .before .before .if2 .left))
+      let s = c .before .before .before .before .before .before in
+      rw (c .find .ensures, c .before .tail .ensures) (place-there (s .args .variables .now) (s .args .v) (omega arith) (c .before .before .if2 .left))
 
 pub +find-spec : {M : Type 1} → statement M
 +find-spec =

@@ -2,7 +2,7 @@
 -- the words and messages that are left. Assumes nothing.
 use Prim.Native.Nat.{ℕ, suc, _+_, _*_, _<_}
 use mathlib.Core.List.{List}
-use mathlib.Core.Path.{_≡_, sym, ap, _∙_}
+use mathlib.Core.Path.{sym, ap, _∙_}
 use native.Mathlib.Omega.{arith}
 use borrow.Author.Needs.{needs}
 use lib.ListN.{length, drop, getD, length-drop}
@@ -61,7 +61,8 @@ own-item-claims t = (first-word-reads.Asked, first-word-reads.Learnt, bound-read
 module _ (t : ℕ) where
   first-from-returns : first-from-lts.Need-returns (first-from-claims t) (first-from-at t) first-from.Post
   first-from-returns c =
-      item-none _ (c .before .before .before .before .before .before .args .offset) (none-pending (bindingsIn (c .before .before .before .before .before .before .args .script .now) (c .before .before .before .before .before .before .args .variables .now) (c .before .before .before .before .before .before .args .places .now)) _ (spelled (c .before .before .before .before .before .before .args .words .now)) (c .if1 .taken))
+      let s = c .before .before .before .before .before .before in
+      item-none _ (s .args .offset) (none-pending (bindingsIn (s .args .script .now) (s .args .variables .now) (s .args .places .now)) _ (spelled (s .args .words .now)) (c .if1 .taken))
 
   first-from-own-requires : first-from-lts.Need-own-requires (first-from-claims t) (first-from-at t) first-from.Post
   first-from-own-requires c κs =
@@ -69,39 +70,47 @@ module _ (t : ℕ) where
 
   first-from-own-item-requires : first-from-lts.Need-own-item-requires (first-from-claims t) (first-from-at t) first-from.Post
   first-from-own-item-requires c κs =
-      (rank-less _ _ _ _ (c .before .before .before .before .before .before .before .before .before .pre .0) (omega arith), (c .before .before .before .before .before .before .before .before .before .pre .1 .1, c .before .before .before .before .before .before .before .before .before .pre .1 .2, below-count _ _ _ (c .before .before .own .ensures (c .before .before .before .before .before .before .before .before .before .args .script .now) (c .before .before .before .before .before .before .before .before .before .args .places .now) (c .before .before .before .before .before .before .before .before .before .pre .1 .1)) (c .if2 .taken)))
+      let s = c .before .before .before .before .before .before .before .before .before in
+      (rank-less _ _ _ _ (s .pre .0) (omega arith), (s .pre .1 .1, s .pre .1 .2, below-count _ _ _ (c .before .before .own .ensures (s .args .script .now) (s .args .places .now) (s .pre .1 .1)) (c .if2 .taken)))
 
   first-from-returns-2 : first-from-lts.Need-returns-2 (first-from-claims t) (first-from-at t) first-from.Post
   first-from-returns-2 c =
+      let s = c .before .before .before .before .before .before .before .before .before .before in
+      let σ = bindingsIn (s .args .script .now) (s .args .variables .now) (s .args .places .now) in
       c .own-item .ensures
-      ∙ item-here _ (ownItems (bindingsIn (c .before .before .before .before .before .before .before .before .before .before .args .script .now) (c .before .before .before .before .before .before .before .before .before .before .args .variables .now) (c .before .before .before .before .before .before .before .before .before .before .args .places .now)) (c .before .before .before .before .before .before .before .before .before .before .args .words .now)) (allItems (bindingsIn (c .before .before .before .before .before .before .before .before .before .before .args .script .now) (c .before .before .before .before .before .before .before .before .before .before .args .variables .now) (c .before .before .before .before .before .before .before .before .before .before .args .places .now)) (firsts (c .before .before .after-own .result .left) (spelled (drop (c .before .before .after-own .result .used) (c .before .before .before .before .before .before .before .before .before .before .args .words .now))))) (c .before .before .before .before .before .before .before .before .before .before .args .offset) (c .before .before .before .own .result) (c .before .before .after-own .ensures .1 (bindingsIn (c .before .before .before .before .before .before .before .before .before .before .args .script .now) (c .before .before .before .before .before .before .before .before .before .before .args .variables .now) (c .before .before .before .before .before .before .before .before .before .before .args .places .now))) (c .before .before .before .own .ensures (c .before .before .before .before .before .before .before .before .before .before .args .script .now) (c .before .before .before .before .before .before .before .before .before .before .args .places .now) (c .before .before .before .before .before .before .before .before .before .before .pre .1 .1)) (c .before .if2 .taken)
+      ∙ item-here _ (ownItems σ (s .args .words .now)) (allItems σ (firsts (c .before .before .after-own .result .left) (spelled (drop (c .before .before .after-own .result .used) (s .args .words .now))))) (s .args .offset) (c .before .before .before .own .result) (c .before .before .after-own .ensures .1 σ) (c .before .before .before .own .ensures (s .args .script .now) (s .args .places .now) (s .pre .1 .1)) (c .before .if2 .taken)
 
   first-from-first-from-requires : first-from-lts.Need-first-from-requires (first-from-claims t) (first-from-at t) first-from.Post
   first-from-first-from-requires c κs =
+      let s = c .before .before .before .before .before .before .before .before .before .before in
       let l = ap length (c .tail .ensures) in
-      let s = c .before .before .after-own .ensures .0 in
-      (rank-less _ _ _ _ (c .before .before .before .before .before .before .before .before .before .before .pre .0) (omega arith), (omega arith, c .before .before .before .before .before .before .before .before .before .before .pre .1 .1, omega arith))
+      let room = c .before .before .after-own .ensures .0 in
+      (rank-less _ _ _ _ (s .pre .0) (omega arith), (omega arith, s .pre .1 .1, omega arith))
 
   first-from-returns-3 : first-from-lts.Need-returns-3 (first-from-claims t) (first-from-at t) first-from.Post
   first-from-returns-3 c =
+      let s = c .before .before .before .before .before .before .before .before .before .before .before in
+      let σ = bindingsIn (s .args .script .now) (s .args .variables .now) (s .args .places .now) in
       c .first-from .ensures
       ∙ rw (c .before .tail .ensures)
-      (ap firstItem (drop-past _ (ownItems (bindingsIn (c .before .before .before .before .before .before .before .before .before .before .before .args .script .now) (c .before .before .before .before .before .before .before .before .before .before .before .args .variables .now) (c .before .before .before .before .before .before .before .before .before .before .before .args .places .now)) (c .before .before .before .before .before .before .before .before .before .before .before .args .words .now)) (allItems (bindingsIn (c .before .before .before .before .before .before .before .before .before .before .before .args .script .now) (c .before .before .before .before .before .before .before .before .before .before .before .args .variables .now) (c .before .before .before .before .before .before .before .before .before .before .before .args .places .now)) (firsts (c .before .before .before .after-own .result .left) (spelled (drop (c .before .before .before .after-own .result .used) (c .before .before .before .before .before .before .before .before .before .before .before .args .words .now))))) (c .before .before .before .before .before .before .before .before .before .before .before .args .offset) (c .before .before .before .before .own .result) (c .before .before .before .after-own .ensures .1 (bindingsIn (c .before .before .before .before .before .before .before .before .before .before .before .args .script .now) (c .before .before .before .before .before .before .before .before .before .before .before .args .variables .now) (c .before .before .before .before .before .before .before .before .before .before .before .args .places .now))) (c .before .before .before .before .own .ensures (c .before .before .before .before .before .before .before .before .before .before .before .args .script .now) (c .before .before .before .before .before .before .before .before .before .before .before .args .places .now) (c .before .before .before .before .before .before .before .before .before .before .before .pre .1 .1)) (omega (arith, c .before .before .if2 .left)) (c .before .before .before .before .before .before .before .before .before .before .before .pre .1 .2)))
+      (ap firstItem (drop-past _ (ownItems σ (s .args .words .now)) (allItems σ (firsts (c .before .before .before .after-own .result .left) (spelled (drop (c .before .before .before .after-own .result .used) (s .args .words .now))))) (s .args .offset) (c .before .before .before .before .own .result) (c .before .before .before .after-own .ensures .1 σ) (c .before .before .before .before .own .ensures (s .args .script .now) (s .args .places .now) (s .pre .1 .1)) (omega (arith, c .before .before .if2 .left)) (s .pre .1 .2)))
 
   own-item-first-from-requires : own-item-lts.Need-first-from-requires (own-item-claims t) (own-item-at t) own-item.Post
   own-item-first-from-requires c κs =
+      let s = c .before .before .before .before .before .before .before .before .before .before .before .before in
       let l = ap length (c .before .before .before .given .ensures) in
-      let d = length-drop (getD (c .before .before .before .before .before .before .before .before .before .before .before .before .args .places .now) (c .before .before .before .before .before .bound .result) 0) (c .before .before .before .before .before .before .before .before .before .before .before .before .args .script .now) in
+      let d = length-drop (getD (s .args .places .now) (c .before .before .before .before .before .bound .result) 0) (s .args .script .now) in
       let m = ap length (c .before .before .tail .ensures) in
-      let e = length-drop (c .before .before .before .before .before .bound .result + 1) (c .before .before .before .before .before .before .before .before .before .before .before .before .args .variables .now) in
-      (rank-older _ _ _ _ _ (c .before .before .before .before .before .before .before .before .before .before .before .before .pre .0) (omega arith) (omega (arith, c .before .before .before .before .before .before .before .before .before .before .before .before .good .0)), (omega (arith, c .before .before .before .before .before .before .before .before .before .before .before .before .good .0), rw (c .before .before .tail .ensures, c .before .tail2 .ensures, c .tail3 .ensures) (kept-drop (c .before .before .before .before .before .before .before .before .before .before .before .before .pre .1 .0) (c .before .before .before .before .before .bound .result + 1)), c .before .before .before .before .before .before .before .before .before .before .before .before .pre .1 .1))
+      let e = length-drop (c .before .before .before .before .before .bound .result + 1) (s .args .variables .now) in
+      (rank-older _ _ _ _ _ (s .pre .0) (omega arith) (omega (arith, s .good .0)), (omega (arith, s .good .0), rw (c .before .before .tail .ensures, c .before .tail2 .ensures, c .tail3 .ensures) (kept-drop (s .pre .1 .0) (c .before .before .before .before .before .bound .result + 1)), s .pre .1 .1))
 
   own-item-returns : own-item-lts.Need-returns (own-item-claims t) (own-item-at t) own-item.Post
   own-item-returns c =
+      let s = c .before .before .before .before .before .before .before .before .before .before .before .before .before in
       c .first-from .ensures
       ∙ rw (c .before .before .before .before .given .ensures, c .before .before .before .tail .ensures, c .before .before .tail2 .ensures)
-      (ap (λ (l : List Message). firstItem (drop (c .before .before .before .before .before .before .before .before .before .before .before .before .before .args .offset) l)) (one-message _ _
-      ∙ given-items (c .before .before .before .before .before .before .before .before .before .before .before .before .before .args .script .now) (c .before .before .before .before .before .before .before .before .before .before .before .before .before .args .variables .now) (c .before .before .before .before .before .before .before .before .before .before .before .before .before .args .places .now) (c .before .before .before .before .before .before .before .before .before .before .before .before .before .pre .1 .0 .aligned) (c .before .before .before .before .before .before .bound .result) (c .before .before .before .before .before .if1 .taken) (c .before .before .before .before .before .before .before .before .before .before .before .before .before .args .words .now) (rw (c .before .before .before .before .before .before .before .first-word .ensures) at (c .before .before .before .before .before .before .bound .ensures))))
+      (ap (λ (l : List Message). firstItem (drop (s .args .offset) l)) (one-message _ _
+      ∙ given-items (s .args .script .now) (s .args .variables .now) (s .args .places .now) (s .pre .1 .0 .aligned) (c .before .before .before .before .before .before .bound .result) (c .before .before .before .before .before .if1 .taken) (s .args .words .now) (rw (c .before .before .before .before .before .before .before .first-word .ensures) at (c .before .before .before .before .before .before .bound .ensures))))
 
   own-item-name-of-requires : own-item-lts.Need-name-of-requires (own-item-claims t) (own-item-at t) own-item.Post
   own-item-name-of-requires c κs =
@@ -109,11 +118,12 @@ module _ (t : ℕ) where
 
   own-item-returns-2 : own-item-lts.Need-returns-2 (own-item-claims t) (own-item-at t) own-item.Post
   own-item-returns-2 c =
-      let σ = bindingsIn (c .before .before .before .before .before .before .before .before .before .before .before .args .script .now) (c .before .before .before .before .before .before .before .before .before .before .before .args .variables .now) (c .before .before .before .before .before .before .before .before .before .before .before .args .places .now) in
+      let s = c .before .before .before .before .before .before .before .before .before .before .before in
+      let σ = bindingsIn (s .args .script .now) (s .args .variables .now) (s .args .places .now) in
       let e = rw (c .before .before .before .before .before .first-word .ensures) at (c .before .before .before .before .bound .ensures) in
-      let f = unbound-free (c .before .before .before .before .before .before .before .before .before .before .before .args .script .now) (c .before .before .before .before .before .before .before .before .before .before .before .args .variables .now) (c .before .before .before .before .before .before .before .before .before .before .before .args .places .now) (firstWord (c .before .before .before .before .before .before .before .before .before .before .before .args .words .now)) (omega (arith, c .before .before .before .if1 .left)) in
+      let f = unbound-free (s .args .script .now) (s .args .variables .now) (s .args .places .now) (firstWord (s .args .words .now)) (omega (arith, c .before .before .before .if1 .left)) in
       c .plain-item .ensures
-      ∙ rw (c .before .name-of .ensures, c .before .before .tail4 .ensures, c .before .before .before .before .before .first-word .ensures) (sym (item-only _ _ (single σ (c .before .before .before .before .before .before .before .before .before .before .before .args .words .now) (c .before .before .before .before .before .before .before .before .before .before .before .args .offset) f (c .before .before .before .before .before .before .before .before .before .before .before .pre .1 .2)) ∙ item-free σ (c .before .before .before .before .before .before .before .before .before .before .before .args .words .now) f))
+      ∙ rw (c .before .name-of .ensures, c .before .before .tail4 .ensures, c .before .before .before .before .before .first-word .ensures) (sym (item-only _ _ (single σ (s .args .words .now) (s .args .offset) f (s .pre .1 .2)) ∙ item-free σ (s .args .words .now) f))
 
 pub +first-from+own-item-spec : {M : Type 1} → statement M
 +first-from+own-item-spec =

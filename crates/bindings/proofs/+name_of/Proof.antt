@@ -1,11 +1,10 @@
 -- `bindings::name_of` meets its contract. The measure is how many bindings are left. Assumes nothing.
 use Prim.Native.Nat.{ℕ, _+_, _<_}
-use mathlib.Core.Path.{_≡_, sym, ap, _∙_}
+use mathlib.Core.Path.{sym, ap, _∙_}
 use native.Mathlib.Omega.{arith}
 use borrow.Author.Needs.{needs}
 use lib.ListN.{length, length-drop}
 use Rattle.messages.specs.Message.{nameOf}
-use Rattle.bindings.specs.Resolve.{bindingsIn}
 use Rattle.bindings.proofs.Passing.{unbound-free, name-free, given-message}
 use borrow.Fn.Kinds.{In}
 use borrow.Fn.PlainCycle.{Measures, is, falls, and}
@@ -35,23 +34,23 @@ name-of-claims t = (first-word-reads.Asked, first-word-reads.Learnt, bound-reads
 module _ (t : ℕ) where
   name-of-name-of-requires : name-of-lts.Need-name-of-requires (name-of-claims t) (name-of-at t) name-of.Post
   name-of-name-of-requires c κs =
-      let l = ap length (c .before .tail .ensures) in
-      let m = ap length (c .tail2 .ensures) in
-      let d = length-drop (c .before .before .before .before .bound .result + 1) (c .before .before .before .before .before .before .before .before .before .before .args .variables .now) in
-      let e = length-drop (c .before .before .before .before .bound .result + 1) (c .before .before .before .before .before .before .before .before .before .before .args .places .now) in
+      let l = simp length-drop at (ap length (c .before .tail .ensures)) in
+      let m = simp length-drop at (ap length (c .tail2 .ensures)) in
       (omega arith, omega arith)
 
   name-of-returns : name-of-lts.Need-returns (name-of-claims t) (name-of-at t) name-of.Post
   name-of-returns c =
+      let s = c .before .before .before .before .before .before .before .before .before .before .before in
       c .name-of .ensures
       ∙ rw (c .before .before .before .given .ensures, c .before .before .tail .ensures, c .before .tail2 .ensures)
-      (ap nameOf (given-message (c .before .before .before .before .before .before .before .before .before .before .before .args .script .now) (c .before .before .before .before .before .before .before .before .before .before .before .args .variables .now) (c .before .before .before .before .before .before .before .before .before .before .before .args .places .now) (c .before .before .before .before .before .before .before .before .before .before .before .pre .1) (c .before .before .before .before .before .bound .result) (c .before .before .before .before .if1 .taken) (c .before .before .before .before .before .before .before .before .before .before .before .args .words .now) (rw (c .before .before .before .before .before .before .first-word .ensures) at (c .before .before .before .before .before .bound .ensures))))
+      (ap nameOf (given-message (s .args .script .now) (s .args .variables .now) (s .args .places .now) (s .pre .1) (c .before .before .before .before .before .bound .result) (c .before .before .before .before .if1 .taken) (s .args .words .now) (rw (c .before .before .before .before .before .before .first-word .ensures) at (c .before .before .before .before .before .bound .ensures))))
 
   name-of-returns-2 : name-of-lts.Need-returns-2 (name-of-claims t) (name-of-at t) name-of.Post
   name-of-returns-2 c =
+      let s = c .before .before .before .before .before .before .before .before in
       let e = rw (c .before .before .before .first-word .ensures) at (c .before .before .bound .ensures) in
       c .plain-name .ensures
-      ∙ rw (c .before .before .before .first-word .ensures) (sym (name-free _ (c .before .before .before .before .before .before .before .before .args .words .now) (unbound-free (c .before .before .before .before .before .before .before .before .args .script .now) (c .before .before .before .before .before .before .before .before .args .variables .now) (c .before .before .before .before .before .before .before .before .args .places .now) _ (omega (arith, c .before .if1 .left)))))
+      ∙ rw (c .before .before .before .first-word .ensures) (sym (name-free _ (s .args .words .now) (unbound-free (s .args .script .now) (s .args .variables .now) (s .args .places .now) _ (omega (arith, c .before .if1 .left)))))
 
 pub +name-of-spec : {M : Type 1} → statement M
 +name-of-spec =
@@ -63,9 +62,10 @@ pub +name-of-spec : {M : Type 1} → statement M
     name-of.Post
     (λ c κs. search needs)
     (λ c κs. search needs)
-    (λ c. omega arith)
     (λ c κs. omega arith)
+    (λ c. omega arith)
     (λ c κs. search needs)
+    (λ c. omega arith)
     (λ c κs. search needs)
     (name-of-name-of-requires t)
     (name-of-returns t)

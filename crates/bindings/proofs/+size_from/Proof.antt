@@ -1,6 +1,7 @@
--- `bindings::size_from` meets its contract. The measure falls with the words, and where there are none, with the messages. Assumes nothing.
+-- `bindings::size_from` meets its contract. The measure falls with the words, and where there are none, with the
+-- messages. Assumes nothing.
 use Prim.Native.Nat.{ℕ, _+_, _-_, _*_, _<_}
-use mathlib.Core.Path.{_≡_, sym, ap, _∙_}
+use mathlib.Core.Path.{ap}
 use native.Mathlib.Omega.{arith}
 use borrow.Author.Needs.{needs}
 use lib.ListN.{length, drop}
@@ -38,7 +39,8 @@ size-from-claims t = (first-word-reads.Asked, first-word-reads.Learnt, own-size-
 module _ (t : ℕ) where
   size-from-returns : size-from-lts.Need-returns (size-from-claims t) (size-from-at t) size-from.Post
   size-from-returns c =
-      λ script places ok. none-size (bindingsIn script (c .before .before .before .before .args .variables .now) places) (c .before .before .before .before .args .pending) (spelled (c .before .before .before .before .args .words .now)) (c .if1 .taken)
+      let s = c .before .before .before .before in
+      λ script places ok. none-size (bindingsIn script (s .args .variables .now) places) (s .args .pending) (spelled (s .args .words .now)) (c .if1 .taken)
 
   size-from-own-size-requires : size-from-lts.Need-own-size-requires (size-from-claims t) (size-from-at t) size-from.Post
   size-from-own-size-requires c κs =
@@ -46,19 +48,22 @@ module _ (t : ℕ) where
 
   size-from-add-size-from : size-from-lts.Need-add-size-from (size-from-claims t) (size-from-at t) size-from.Post
   size-from-add-size-from c =
-      rw (c .before .arity .ensures, c .before .before .before .first-word .ensures) (omega (arith, room (c .before .before .before .before .before .before .before .before .args .words .now) (c .before .before .before .before .before .before .before .before .args .pending) (arityOf (firstWord (c .before .before .before .before .before .before .before .before .args .words .now))) 0 (omega arith) (omega arith) .0))
+      let s = c .before .before .before .before .before .before .before .before in
+      rw (c .before .arity .ensures, c .before .before .before .first-word .ensures) (omega (arith, room (s .args .words .now) (s .args .pending) (arityOf (firstWord (s .args .words .now))) 0 (omega arith) (omega arith) .0))
 
   size-from-size-from-requires : size-from-lts.Need-size-from-requires (size-from-claims t) (size-from-at t) size-from.Post
   size-from-size-from-requires c κs =
+      let s = c .before .before .before .before .before .before .before .before in
       let l = ap length (c .tail .ensures) in
-      let r = room (c .before .before .before .before .before .before .before .before .args .words .now) (c .before .before .before .before .before .before .before .before .args .pending) (arityOf (firstWord (c .before .before .before .before .before .before .before .before .args .words .now))) 0 (omega arith) (omega arith) in
-      rw (c .before .arity .ensures, c .before .before .before .first-word .ensures) (omega arith, (omega arith, c .before .before .before .before .before .before .before .before .pre .1 .1))
+      let r = room (s .args .words .now) (s .args .pending) (arityOf (firstWord (s .args .words .now))) 0 (omega arith) (omega arith) in
+      rw (c .before .arity .ensures, c .before .before .before .first-word .ensures) (omega arith, (omega arith, s .pre .1 .1))
 
   size-from-returns-2 : size-from-lts.Need-returns-2 (size-from-claims t) (size-from-at t) size-from.Post
   size-from-returns-2 c =
-      λ script places ok. let σ = bindingsIn script (c .before .before .before .before .before .before .before .before .before .before .args .variables .now) places in
-      capped-sum (ownSize σ (firstWord (c .before .before .before .before .before .before .before .before .before .before .args .words .now))) (allSizes σ (firsts (c .before .before .before .before .before .before .before .before .before .before .args .pending - 1 + arityOf (firstWord (c .before .before .before .before .before .before .before .before .before .before .args .words .now))) (spelled (drop 1 (c .before .before .before .before .before .before .before .before .before .before .args .words .now)))))
-      (sizes-first σ (c .before .before .before .before .before .before .before .before .before .before .args .words .now) (c .before .before .before .before .before .before .before .before .before .before .args .pending) (omega arith))
+      let s = c .before .before .before .before .before .before .before .before .before .before in
+      λ script places ok. let σ = bindingsIn script (s .args .variables .now) places in
+      capped-sum (ownSize σ (firstWord (s .args .words .now))) (allSizes σ (firsts (s .args .pending - 1 + arityOf (firstWord (s .args .words .now))) (spelled (drop 1 (s .args .words .now)))))
+      (sizes-first σ (s .args .words .now) (s .args .pending) (omega arith))
       (rw (c .before .before .before .before .before .first-word .ensures) at (c .before .before .before .before .own-size .ensures script places ok)) (rw (c .before .before .tail .ensures, c .before .before .before .arity .ensures, c .before .before .before .before .before .first-word .ensures) at (c .before .size-from .ensures script places ok)) (c .sum .ensures)
 
 pub +size-from-spec : {M : Type 1} → statement M

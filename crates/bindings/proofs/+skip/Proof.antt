@@ -4,7 +4,6 @@ use mathlib.Core.Path.{ap}
 use native.Mathlib.Omega.{arith}
 use borrow.Author.Needs.{needs}
 use lib.ListN.{length, length-drop}
-use Rattle.bindings.specs.Passes.{firstWord}
 use Rattle.bindings.proofs.Passing.{arity-small, skip-none, skip-some}
 use borrow.Fn.Kinds.{In}
 use borrow.Fn.PlainCycle.{Measures, is, falls, and}
@@ -36,7 +35,8 @@ module _ (t : ℕ) where
 
   skip-returns-2 : skip-lts.Need-returns-2 (skip-claims t) (skip-at t) skip.Post
   skip-returns-2 c =
-      (omega arith, skip-none (c .before .before .before .args .words .now) (c .before .before .before .args .pending) (c .if2 .taken))
+      let s = c .before .before .before in
+      (omega arith, skip-none (s .args .words .now) (s .args .pending) (c .if2 .taken))
 
   skip-add-skip : skip-lts.Need-add-skip (skip-claims t) (skip-at t) skip.Post
   skip-add-skip c =
@@ -54,9 +54,10 @@ module _ (t : ℕ) where
 
   skip-returns-3 : skip-lts.Need-returns-3 (skip-claims t) (skip-at t) skip.Post
   skip-returns-3 c =
+      let s = c .before .before .before .before .before .before .before in
       let l = ap length (c .before .tail .ensures) in
-      let d = length-drop 1 (c .before .before .before .before .before .before .before .args .words .now) in
-      (omega arith, skip-some (c .before .before .before .before .before .before .before .args .words .now) (c .before .before .before .before .before .before .before .args .pending) (c .skip .result) (omega arith) (omega arith) (rw (c .before .tail .ensures, c .before .before .arity .ensures, c .before .before .before .first-word .ensures) at (c .skip .ensures .1)))
+      let d = length-drop 1 (s .args .words .now) in
+      (omega arith, skip-some (s .args .words .now) (s .args .pending) (c .skip .result) (omega arith) (omega arith) (rw (c .before .tail .ensures, c .before .before .arity .ensures, c .before .before .before .first-word .ensures) at (c .skip .ensures .1)))
 
 pub +skip-spec : {M : Type 1} → statement M
 +skip-spec =

@@ -1,5 +1,5 @@
 -- `bindings::after_own` meets its contract. Assumes nothing.
-use mathlib.Core.Path.{_≡_, ap}
+use mathlib.Core.Path.{ap}
 use native.Mathlib.Omega.{arith}
 use borrow.Author.Needs.{needs}
 use lib.ListN.{length, length-drop}
@@ -9,15 +9,21 @@ use Rattle.bindings.proofs.after_own.Statement.{statement}
 use Rattle.bindings.proofs.after_own.Tie as tie
 
 skip-requires : tie.Need-skip-requires
-skip-requires c κs = rw (c .before .shape-of .ensures) (omega (arith, arity-small (c .before .before .first-word .result), ap length (c .tail .ensures), length-drop 1 (c .before .before .before .before .args .words .now)))
+skip-requires c κs =
+    rw (c .before .shape-of .ensures) (omega (arith, arity-small (c .before .before .first-word .result), ap length (c .tail .ensures), length-drop 1 (c .before .before .before .before .args .words .now)))
 
 add-t11 : tie.Need-add-t11
-add-t11 c = rw (c .before .before .shape-of .ensures, c .before .before .before .first-word .ensures) (omega (arith, room (c .before .before .before .before .before .args .words .now) (c .before .before .before .before .before .args .pending) (shapeOf (firstWord (c .before .before .before .before .before .args .words .now)) .opened) 0 (c .before .before .before .before .before .pre .0) (omega arith) .0))
+add-t11 c =
+    let s = c .before .before .before .before .before in
+    rw (c .before .before .shape-of .ensures, c .before .before .before .first-word .ensures) (omega (arith, room (s .args .words .now) (s .args .pending) (shapeOf (firstWord (s .args .words .now)) .opened) 0 (s .pre .0) (omega arith) .0))
 
 returns : tie.Need-returns
-returns c = rw (c .before .before .shape-of .ensures, c .before .before .before .first-word .ensures)
-    (room (c .before .before .before .before .before .args .words .now) (c .before .before .before .before .before .args .pending) _ (c .skip .result) (c .before .before .before .before .before .pre .0) (omega arith),
-    λ σ. split-first σ (c .before .before .before .before .before .args .words .now) (c .before .before .before .before .before .args .pending) (c .skip .result) (c .before .before .before .before .before .pre .0) (rw (c .before .tail .ensures, c .before .before .shape-of .ensures, c .before .before .before .first-word .ensures) at (c .skip .ensures .1)))
+returns c =
+    let s = c .before .before .before .before .before in
+    rw (c .before .before .shape-of .ensures, c .before .before .before .first-word .ensures) (
+      room (s .args .words .now) (s .args .pending) _ (c .skip .result) (s .pre .0) (omega arith),
+      λ σ. split-first σ (s .args .words .now) (s .args .pending) (c .skip .result) (s .pre .0) (rw (c .before .tail .ensures, c .before .before .shape-of .ensures, c .before .before .before .first-word .ensures) at (c .skip .ensures .1)),
+    )
 
 pub after-own-spec : {M : Type 1} → statement M
 after-own-spec =

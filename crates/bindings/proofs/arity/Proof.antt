@@ -6,10 +6,12 @@ use Rattle.bindings.proofs.arity.Statement.{statement}
 use Rattle.bindings.proofs.arity.Tie as tie
 
 add-result : tie.Need-add-result
-add-result c = rw (c .before .shape-of .ensures) (let l = arity-small (c .before .before .args .m) in omega arith)
+add-result c =
+    rw (c .before .shape-of .ensures) (let l = arity-small (c .before .before .args .m) in omega arith)
 
 returns : tie.Need-returns
-returns c = rw (c .before .shape-of .ensures)
+returns c =
+    rw (c .before .shape-of .ensures)
 
 pub arity-spec : {M : Type 1} → statement M
 arity-spec =

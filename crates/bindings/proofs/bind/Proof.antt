@@ -12,18 +12,19 @@ use Rattle.bindings.proofs.bind.Tie as tie
 
 returns : tie.Need-returns
 unfolding bindingsOf bindingsIn
-returns c = let l-variables : length (c .before .before .before .before .args .b .variables) ≡ 32 = search needs in
-    let l-places : length (c .before .before .before .before .args .b .places) ≡ 32 = search needs in
-    let l-counts : length (c .before .before .before .before .args .b .counts) ≡ 32 = search needs in
-    let l-sizes : length (c .before .before .before .before .args .b .sizes) ≡ 32 = search needs in
-    let l-bulks : length (c .before .before .before .before .args .b .bulks) ≡ 32 = search needs in
-    let variables = drop-set (c .before .before .before .before .args .b .variables) (c .before .before .before .before .args .b .first) (c .before .before .before .before .args .v) (c .before .before .before .before .pre .1) (omega arith) in
-    let places = drop-set (c .before .before .before .before .args .b .places) (c .before .before .before .before .args .b .first) (c .before .before .before .before .args .at) (c .before .before .before .before .pre .1) (omega arith) in
-    let counts = drop-set (c .before .before .before .before .args .b .counts) (c .before .before .before .before .args .b .first) (c .before .measure-held .result .count) (c .before .before .before .before .pre .1) (omega arith) in
-    let sizes = drop-set (c .before .before .before .before .args .b .sizes) (c .before .before .before .before .args .b .first) (c .before .measure-held .result .size) (c .before .before .before .before .pre .1) (omega arith) in
-    let bulks = drop-set (c .before .before .before .before .args .b .bulks) (c .before .before .before .before .args .b .first) (c .before .measure-held .result .bulk) (c .before .before .before .before .pre .1) (omega arith) in
-    (
-      record { within = omega arith; cached = rw (variables, places, counts, sizes, bulks) (cached-more (c .before .before .before .before .args .v) (c .before .before .before .before .args .at) (c .before .measure-held .result) (c .before .before .before .before .pre .0 .cached) (rw (c .before .before .wide .ensures) at (c .before .measure-held .ensures))) },
+returns c =
+    let s = c .before .before .before .before in
+    let l-variables : length (s .args .b .variables) ≡ 32 = search needs in
+    let l-places : length (s .args .b .places) ≡ 32 = search needs in
+    let l-counts : length (s .args .b .counts) ≡ 32 = search needs in
+    let l-sizes : length (s .args .b .sizes) ≡ 32 = search needs in
+    let l-bulks : length (s .args .b .bulks) ≡ 32 = search needs in
+    let variables = drop-set (s .args .b .variables) (s .args .b .first) (s .args .v) (s .pre .1) (omega arith) in
+    let places = drop-set (s .args .b .places) (s .args .b .first) (s .args .at) (s .pre .1) (omega arith) in
+    let counts = drop-set (s .args .b .counts) (s .args .b .first) (c .before .measure-held .result .count) (s .pre .1) (omega arith) in
+    let sizes = drop-set (s .args .b .sizes) (s .args .b .first) (c .before .measure-held .result .size) (s .pre .1) (omega arith) in
+    let bulks = drop-set (s .args .b .bulks) (s .args .b .first) (c .before .measure-held .result .bulk) (s .pre .1) (omega arith) in (
+      record { within = omega arith; cached = rw (variables, places, counts, sizes, bulks) (cached-more (s .args .v) (s .args .at) (c .before .measure-held .result) (s .pre .0 .cached) (rw (c .before .before .wide .ensures) at (c .before .measure-held .ensures))) },
       rw (variables, places),
       refl,
     )

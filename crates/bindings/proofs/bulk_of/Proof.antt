@@ -1,6 +1,6 @@
 -- `bindings::bulk_of` meets its contract. Assumes nothing.
 use mathlib.Core.List.{List}
-use mathlib.Core.Path.{_≡_, ap, _∙_}
+use mathlib.Core.Path.{ap, _∙_}
 use borrow.Author.Needs.{needs}
 use lib.ListN.{drop}
 use Rattle.messages.specs.Message.{Message}
@@ -10,8 +10,10 @@ use Rattle.bindings.proofs.bulk_of.Statement.{statement}
 use Rattle.bindings.proofs.bulk_of.Tie as tie
 
 returns : tie.Need-returns
-returns c = (rw (c .before .tail .ensures) at (c .bulk-from .ensures))
-    ∙ ap (λ (l : List Message). capped (bulk l)) (one-message _ (drop (c .before .before .before .before .before .before .before .before .args .at) (c .before .before .before .before .before .before .before .before .args .script .now)))
+returns c =
+    let s = c .before .before .before .before .before .before .before .before in
+    (rw (c .before .tail .ensures) at (c .bulk-from .ensures))
+    ∙ ap (λ (l : List Message). capped (bulk l)) (one-message _ (drop (s .args .at) (s .args .script .now)))
 
 pub bulk-of-spec : {M : Type 1} → statement M
 bulk-of-spec =

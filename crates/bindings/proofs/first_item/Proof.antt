@@ -1,6 +1,6 @@
 -- `bindings::first_item` meets its contract. Assumes nothing.
 use mathlib.Core.List.{List}
-use mathlib.Core.Path.{_≡_, ap, _∙_}
+use mathlib.Core.Path.{ap, _∙_}
 use borrow.Author.Needs.{needs}
 use lib.ListN.{drop}
 use Rattle.messages.specs.Message.{Message, firstItem}
@@ -9,8 +9,10 @@ use Rattle.bindings.proofs.first_item.Statement.{statement}
 use Rattle.bindings.proofs.first_item.Tie as tie
 
 returns : tie.Need-returns
-returns c = (rw (c .before .tail .ensures) at (c .first-from .ensures))
-    ∙ ap (λ (l : List Message). firstItem (drop (c .before .before .before .before .before .before .args .offset) l)) (one-message _ (drop (c .before .before .before .before .before .before .args .at) (c .before .before .before .before .before .before .args .script .now)))
+returns c =
+    let s = c .before .before .before .before .before .before in
+    (rw (c .before .tail .ensures) at (c .first-from .ensures))
+    ∙ ap (λ (l : List Message). firstItem (drop (s .args .offset) l)) (one-message _ (drop (s .args .at) (s .args .script .now)))
 
 pub first-item-spec : {M : Type 1} → statement M
 first-item-spec =

@@ -6,10 +6,12 @@ use Rattle.bindings.proofs.first_word.Statement.{statement}
 use Rattle.bindings.proofs.first_word.Tie as tie
 
 returns : tie.Need-returns
-returns c = first-none (c .before .before .args .words .now) (c .if1 .taken)
+returns c =
+    first-none (c .before .before .args .words .now) (c .if1 .taken)
 
 returns-2 : tie.Need-returns-2
-returns-2 c = c .message-word .ensures ∙ first-some (c .before .before .before .before .args .words .now) (c .before .before .if1 .left)
+returns-2 c =
+    c .message-word .ensures ∙ first-some (c .before .before .before .before .args .words .now) (c .before .before .if1 .left)
 
 pub first-word-spec : {M : Type 1} → statement M
 first-word-spec =

@@ -1,11 +1,11 @@
 -- `bindings::given` meets its contract. Assumes nothing.
-use mathlib.Core.Path.{_∙_}
 use borrow.Author.Needs.{needs}
 use Rattle.bindings.proofs.given.Statement.{statement}
 use Rattle.bindings.proofs.given.Tie as tie
 
 returns : tie.Need-returns
-returns c = rw (c .before .wide .ensures) at (c .tail .ensures)
+returns c =
+    rw (c .before .wide .ensures) at (c .tail .ensures)
 
 pub given-spec : {M : Type 1} → statement M
 given-spec =

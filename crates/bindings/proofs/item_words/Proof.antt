@@ -1,7 +1,7 @@
 -- `bindings::item_words` meets its contract: an action's items are written with one word less than their bulk, and none of
 -- them with one word. Assumes nothing.
 use mathlib.Core.List.{List}
-use mathlib.Core.Path.{_≡_, ap, _∙_}
+use mathlib.Core.Path.{ap, _∙_}
 use borrow.Author.Needs.{needs}
 use lib.ListN.{drop}
 use Rattle.messages.specs.Message.{Message, items}
@@ -14,13 +14,17 @@ use Rattle.bindings.proofs.item_words.Statement.{statement}
 use Rattle.bindings.proofs.item_words.Tie as tie
 
 returns : tie.Need-returns
-returns c = words-none (drop (c .before .before .before .before .before .before .before .before .before .args .offset) (items (resolve (bindingsIn (c .before .before .before .before .before .before .before .before .before .args .script .now) (c .before .before .before .before .before .before .before .before .before .args .variables .now) (c .before .before .before .before .before .before .before .before .before .args .places .now)) (messageAt (drop (c .before .before .before .before .before .before .before .before .before .args .at) (c .before .before .before .before .before .before .before .before .before .args .script .now)))))) (c .before .bulk-from .result)
-    ((rw (c .before .before .tail .ensures) at (c .before .bulk-from .ensures)) ∙ ap (λ (l : List Message). capped (bulk (drop (c .before .before .before .before .before .before .before .before .before .args .offset) l))) (one-message _ (drop (c .before .before .before .before .before .before .before .before .before .args .at) (c .before .before .before .before .before .before .before .before .before .args .script .now))))
+returns c =
+    let s = c .before .before .before .before .before .before .before .before .before in
+    words-none (drop (s .args .offset) (items (resolve (bindingsIn (s .args .script .now) (s .args .variables .now) (s .args .places .now)) (messageAt (drop (s .args .at) (s .args .script .now)))))) (c .before .bulk-from .result)
+    ((rw (c .before .before .tail .ensures) at (c .before .bulk-from .ensures)) ∙ ap (λ (l : List Message). capped (bulk (drop (s .args .offset) l))) (one-message _ (drop (s .args .at) (s .args .script .now))))
     (c .if1 .taken)
 
 returns-2 : tie.Need-returns-2
-returns-2 c = words-some (drop (c .before .before .before .before .before .before .before .before .before .args .offset) (items (resolve (bindingsIn (c .before .before .before .before .before .before .before .before .before .args .script .now) (c .before .before .before .before .before .before .before .before .before .args .variables .now) (c .before .before .before .before .before .before .before .before .before .args .places .now)) (messageAt (drop (c .before .before .before .before .before .before .before .before .before .args .at) (c .before .before .before .before .before .before .before .before .before .args .script .now)))))) (c .before .bulk-from .result)
-    ((rw (c .before .before .tail .ensures) at (c .before .bulk-from .ensures)) ∙ ap (λ (l : List Message). capped (bulk (drop (c .before .before .before .before .before .before .before .before .before .args .offset) l))) (one-message _ (drop (c .before .before .before .before .before .before .before .before .before .args .at) (c .before .before .before .before .before .before .before .before .before .args .script .now))))
+returns-2 c =
+    let s = c .before .before .before .before .before .before .before .before .before in
+    words-some (drop (s .args .offset) (items (resolve (bindingsIn (s .args .script .now) (s .args .variables .now) (s .args .places .now)) (messageAt (drop (s .args .at) (s .args .script .now)))))) (c .before .bulk-from .result)
+    ((rw (c .before .before .tail .ensures) at (c .before .bulk-from .ensures)) ∙ ap (λ (l : List Message). capped (bulk (drop (s .args .offset) l))) (one-message _ (drop (s .args .at) (s .args .script .now))))
     (c .if1 .left)
 
 pub item-words-spec : {M : Type 1} → statement M

@@ -9,7 +9,8 @@ use Rattle.bindings.proofs.none.Tie as tie
 
 returns : tie.Need-returns
 unfolding bindingsOf bindingsIn
-returns c = λ script. (record { within = omega arith; cached = cached-none script }, refl, refl)
+returns c =
+    λ script. (record { within = omega arith; cached = cached-none script }, refl, refl)
 
 pub none-spec : {M : Type 1} → statement M
 none-spec =

@@ -1,5 +1,5 @@
 -- `bindings::own_size` meets its contract. Assumes nothing.
-use mathlib.Core.Path.{_≡_, sym, ap, _∙_}
+use mathlib.Core.Path.{ap, _∙_}
 use native.Mathlib.Omega.{arith}
 use borrow.Author.Needs.{needs}
 use Rattle.bindings.specs.Resolve.{bindingsIn}
@@ -10,11 +10,15 @@ use Rattle.bindings.proofs.own_size.Statement.{statement}
 use Rattle.bindings.proofs.own_size.Tie as tie
 
 returns : tie.Need-returns
-returns c = λ script places ok. kept-given ok (c .before .before .bound .result) (c .before .if1 .taken)
-    ∙ ap capped (given-size script (c .before .before .before .before .before .args .variables .now) places (ok .aligned) (c .before .before .bound .result) (c .before .if1 .taken) (c .before .before .before .before .before .args .m) (c .before .before .bound .ensures))
+returns c =
+    let s = c .before .before .before .before .before in
+    λ script places ok. kept-given ok (c .before .before .bound .result) (c .before .if1 .taken)
+    ∙ ap capped (given-size script (s .args .variables .now) places (ok .aligned) (c .before .before .bound .result) (c .before .if1 .taken) (s .args .m) (c .before .before .bound .ensures))
 
 returns-2 : tie.Need-returns-2
-returns-2 c = λ script places ok. capped-one (bindingsIn script (c .before .before .before .before .args .variables .now) places) (c .before .before .before .before .args .m) (unbound-free script (c .before .before .before .before .args .variables .now) places (c .before .before .before .before .args .m) (omega (arith, c .before .bound .ensures, c .if1 .left)))
+returns-2 c =
+    let s = c .before .before .before .before in
+    λ script places ok. capped-one (bindingsIn script (s .args .variables .now) places) (s .args .m) (unbound-free script (s .args .variables .now) places (s .args .m) (omega (arith, c .before .bound .ensures, c .if1 .left)))
 
 pub own-size-spec : {M : Type 1} → statement M
 own-size-spec =

@@ -6,35 +6,43 @@ use Rattle.bindings.proofs.plain_item.Tie as tie
 
 returns : tie.Need-returns
 unfolding plainItem
-returns c = rw (c .enum-told .given .1)
+returns c =
+    rw (c .enum-told .given .1)
 
 returns-2 : tie.Need-returns-2
 unfolding plainItem
-returns-2 c = rw (c .enum-told2 .given .1)
+returns-2 c =
+    rw (c .enum-told2 .given .1)
 
 returns-3 : tie.Need-returns-3
 unfolding plainItem
-returns-3 c = rw (c .enum-told3 .given .1)
+returns-3 c =
+    rw (c .enum-told3 .given .1)
 
 returns-4 : tie.Need-returns-4
 unfolding plainItem
-returns-4 c = rw (c .enum-told4 .given .1)
+returns-4 c =
+    rw (c .enum-told4 .given .1)
 
 returns-5 : tie.Need-returns-5
 unfolding plainItem
-returns-5 c = rw (c .enum-told5 .given .1)
+returns-5 c =
+    rw (c .enum-told5 .given .1)
 
 returns-6 : tie.Need-returns-6
 unfolding plainItem
-returns-6 c = rw (c .enum-told6 .given .1)
+returns-6 c =
+    rw (c .enum-told6 .given .1)
 
 returns-7 : tie.Need-returns-7
 unfolding plainItem
-returns-7 c = rw (c .enum-told7 .given .1)
+returns-7 c =
+    rw (c .enum-told7 .given .1)
 
 returns-8 : tie.Need-returns-8
 unfolding plainItem
-returns-8 c = rw (c .enum-told8 .given .1)
+returns-8 c =
+    rw (c .enum-told8 .given .1)
 
 pub plain-item-spec : {M : Type 1} → statement M
 plain-item-spec =

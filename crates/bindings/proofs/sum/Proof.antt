@@ -7,11 +7,13 @@ use Rattle.bindings.proofs.sum.Tie as tie
 
 returns : tie.Need-returns
 unfolding capped
-returns c = omega arith
+returns c =
+    omega arith
 
 returns-2 : tie.Need-returns-2
 unfolding capped
-returns-2 c = omega arith
+returns-2 c =
+    omega arith
 
 pub sum-spec : {M : Type 1} → statement M
 sum-spec =

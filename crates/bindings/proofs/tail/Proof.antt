@@ -15,10 +15,14 @@ past s at h =
     part-drop s (length s) ∙ drop-of-length-le s {i = length s} (omega arith) ∙ sym e
 
 returns : tie.Need-returns
-returns c = part-drop (c .before .before .args .s .now) (c .before .before .args .at)
+returns c =
+    let s = c .before .before in
+    part-drop (s .args .s .now) (s .args .at)
 
 returns-2 : tie.Need-returns-2
-returns-2 c = past (c .before .before .args .s .now) (c .before .before .args .at) (c .before .if1 .left)
+returns-2 c =
+    let s = c .before .before in
+    past (s .args .s .now) (s .args .at) (c .before .if1 .left)
 
 pub tail-spec : {M : Type 1} → statement M
 tail-spec =

@@ -1,5 +1,5 @@
 -- `bindings::words_of` meets its contract. Assumes nothing.
-use mathlib.Core.Path.{_≡_, ap, _∙_}
+use mathlib.Core.Path.{ap, _∙_}
 use native.Mathlib.Omega.{arith}
 use borrow.Author.Needs.{needs}
 use lib.ListN.{length, drop, length-drop}
@@ -9,11 +9,15 @@ use Rattle.bindings.proofs.words_of.Statement.{statement}
 use Rattle.bindings.proofs.words_of.Tie as tie
 
 size-from-requires : tie.Need-size-from-requires
-size-from-requires c κs = (omega (arith, ap length (c .tail .ensures), length-drop (c .before .before .before .before .before .args .at) (c .before .before .before .before .before .args .script .now)), kept-length (c .before .before .before .before .before .pre))
+size-from-requires c κs =
+    let s = c .before .before .before .before .before in
+    (omega (arith, ap length (c .tail .ensures), length-drop (s .args .at) (s .args .script .now)), kept-length (s .pre))
 
 returns : tie.Need-returns
-returns c = (rw (c .before .tail .ensures) at (c .size-from .ensures (c .before .before .before .before .before .before .args .script .now) (c .before .before .before .before .before .before .args .places .now) (c .before .before .before .before .before .before .pre)))
-    ∙ ap capped (one-size _ (drop (c .before .before .before .before .before .before .args .at) (c .before .before .before .before .before .before .args .script .now)))
+returns c =
+    let s = c .before .before .before .before .before .before in
+    (rw (c .before .tail .ensures) at (c .size-from .ensures (s .args .script .now) (s .args .places .now) (s .pre)))
+    ∙ ap capped (one-size _ (drop (s .args .at) (s .args .script .now)))
 
 pub words-of-spec : {M : Type 1} → statement M
 words-of-spec =
