@@ -34,11 +34,8 @@ name-of-claims t = (first-word-reads.Asked, first-word-reads.Learnt, bound-reads
 module _ (t : ℕ) where
   name-of-name-of-requires : name-of-lts.Need-name-of-requires (name-of-claims t) (name-of-at t) name-of.Post
   name-of-name-of-requires c κs =
-      let s = c .before .before .before .before .before .before .before .before .before .before in
-      let l = ap length (c .before .tail .ensures) in
-      let m = ap length (c .tail2 .ensures) in
-      let d = length-drop (c .before .before .before .before .bound .result + 1) (s .args .variables .now) in
-      let e = length-drop (c .before .before .before .before .bound .result + 1) (s .args .places .now) in
+      let l = simp length-drop at (ap length (c .before .tail .ensures)) in
+      let m = simp length-drop at (ap length (c .tail2 .ensures)) in
       (omega arith, omega arith)
 
   name-of-returns : name-of-lts.Need-returns (name-of-claims t) (name-of-at t) name-of.Post
