@@ -3,3 +3,5 @@ pub mod Heads
 pub mod Holding
 pub mod Focus
 pub mod Search
+pub mod Settling
+pub mod Settled
