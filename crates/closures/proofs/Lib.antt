@@ -5,3 +5,5 @@ pub mod Focus
 pub mod Search
 pub mod Settling
 pub mod Settled
+pub mod Moving
+pub mod Opening
