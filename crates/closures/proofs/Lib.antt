@@ -8,3 +8,7 @@ pub mod Heads
 pub mod Holding
 pub mod Focus
 pub mod Search
+pub mod Settling
+pub mod Settled
+pub mod Moving
+pub mod Opening

@@ -1,0 +1,124 @@
+-- OPEN and the receipt in one body that is held: what the definitions make of it, and the sets and heads that hold it.
+-- Assumes nothing.
+use Prim.Native.Nat.{ℕ, _+_, _≤_}
+use mathlib.Core.Bool.{Bool, true, false, not, _&&_, _||_, true≢false}
+use mathlib.Core.List.{List, [], _∷_}
+use mathlib.Core.Option.{Option, none, some}
+use mathlib.Core.Path.{_≡_, refl, sym, ap, _∙_}
+use native.Mathlib.Omega.{arith}
+use lib.Dec.{eqb}
+use borrow.Author.Tests.{ne-eqb}
+use Rattle.messages.specs.Message.{Message}
+use Rattle.sets.specs.Sets.{elem, remove, join}
+use Rattle.sets.proofs.Lists.{elem-remove, elem-join}
+use Rattle.scripts.specs.Tree.{receipt, output, one, tops, count, merge}
+use Rattle.scripts.specs.Represents.{Held}
+use Rattle.machine.specs.Bodies.{_>>=_, check, find, drop, alter}
+use Rattle.machine.specs.Moves.{Moved, quiet, variableOf, messageOf, spentHead, spend, sameName, toOpen, firstOf, headName, openMove, receiveMove}
+use Rattle.machine.proofs.Inversion.{Here, open-inv, receive-inv}
+use Rattle.machine.proofs.Options.{byTest}
+use Rattle.machine.proofs.Sums.{find-sum, drop-sum, merge-sum}
+use Rattle.closures.specs.Closure.{Action, ClosureHead, Closure, Bindings, under}
+use Rattle.closures.proofs.Holding.{self, tops-drop, tops-merge, tops-alter, in-count, differ, frame, held-drop, held-merge, held-alter, Found, found-in, not-found}
+use Rattle.closures.proofs.Focus.{Change}
+use Rattle.closures.proofs.Moving.{Shrinks, shrinks, fewer}
+
+-- whether the first item of h opens the name of g
+abbrev pub mayOpen : Bindings → (h g : ClosureHead) → Bool
+mayOpen σ h g = sameName (toOpen (firstOf (under σ) h)) (headName (under σ) g)
+
+-- ---- where there is no move
+
+pub open-needs : (σ : Bindings) (a t : ℕ) (b : Closure) → elem t (tops b) ≡ false → openMove (under σ) a t b ≡ none
+unfolding openMove _>>=_
+open-needs σ a t b e = rw (not-found t b e)
+
+pub receive-needs : (σ : Bindings) (a t : ℕ) (b : Closure) → elem t (tops b) ≡ false → receiveMove (under σ) a t b ≡ none
+unfolding receiveMove _>>=_
+receive-needs σ a t b e = rw (not-found t b e)
+
+module _ (σ : Bindings) (k : ℕ → List ℕ) (w : ℕ → ClosureHead) (a t : ℕ) (here : Closure) (held : Held k w here) (stands : elem t (tops here) ≡ true) where
+  abbrev T : Found k w t here
+  T = found-in k w t here held stands
+
+  pub open-alone : elem a (tops here) ≡ false → openMove (under σ) a t here ≡ none
+  unfolding openMove _>>=_
+  open-alone e = rw (T .found, not-found a here e)
+
+  pub receive-alone : elem a (tops here) ≡ false → receiveMove (under σ) a t here ≡ none
+  unfolding receiveMove _>>=_
+  receive-alone e = rw (T .found, not-found a here e)
+
+  module _ (beside : elem a (tops here) ≡ true) where
+    abbrev A : Found k w a here
+    A = found-in k w a here held beside
+
+    pub open-not : mayOpen σ (w a) (w t) ≡ false → openMove (under σ) a t here ≡ none
+    unfolding openMove _>>=_ check
+    open-not e = rw (T .found, A .found, e)
+
+    -- ---- OPEN
+    abbrev both : Closure
+    both = merge (T .room) (drop t here)
+
+    abbrev pub opened : Moved Action
+    opened = quiet (spend (under σ) a both)
+
+    pub open-is : mayOpen σ (w a) (w t) ≡ true → openMove (under σ) a t here ≡ some opened
+    unfolding openMove _>>=_ check
+    open-is e = rw (T .found, A .found, e)
+
+    -- ---- the receipt
+    abbrev pub received : (v : ℕ) (m : Message) → Moved Action
+    received v m = record { body = merge (A .room) (drop t (drop a here)); news = (v, m) ∷ [] }
+
+    pub receive-is : (v : ℕ) (m : Message) → w a ≡ receipt v → w t ≡ output m → receiveMove (under σ) a t here ≡ some (received v m)
+    unfolding receiveMove _>>=_ variableOf messageOf
+    receive-is v m ea et = rw (T .found, A .found, ea, et)
+
+    module _ (g : Closure → Option (Moved Action)) (needs : (s : Closure) → elem t (tops s) ≡ false → g s ≡ none)
+        (b : ℕ) (own : k b ≡ tops here) (apart : count b here ≡ 0) (once : (j : ℕ) → count j here ≤ 1)
+        (k′ : ℕ → List ℕ) (w′ : ℕ → ClosureHead) (bodies : (i : ℕ) → (i ≡ b → ⊥) → k i ≡ k′ i) where
+      -- the body of a number that stands here is as it was
+      stays : (i : ℕ) → 1 ≤ count i here → k i ≡ k′ i
+      stays i l = bodies i (differ i b here l apart)
+
+      -- both go, the receipt's body comes
+      pub receive-change : (v : ℕ) (m : Message) → Shrinks here (received v m) → k′ b ≡ join (k a) (remove t (remove a (k b))) → ((i : ℕ) → w i ≡ w′ i)
+          → Change σ k w t g needs b here k′ w′ (received v m)
+      receive-change v m l joins heads = record {
+        own = joins ∙ (λ j. join (A .own j) (remove t (remove a (own j)))) ∙ (λ j. join (tops (A .room)) (remove t (sym (tops-drop a here) j)))
+            ∙ ap (join (tops (A .room))) (sym (tops-drop t (drop a here))) ∙ sym (tops-merge (A .room) (drop t (drop a here)));
+        held = frame k k′ w w′ (merge (A .room) (drop t (drop a here)))
+            (held-merge k w (A .room) (drop t (drop a here)) (A .held) (held-drop k w t (drop a here) (held-drop k w a here held)))
+            (λ i c. (stays i (omega (arith, fewer here (received v m) l (λ j. one (eqb i j)))), heads i));
+        head = heads b;
+        rest = λ i n z. (bodies i n, heads i);
+      }
+
+      -- the ambient goes, its body stays, and the actor's first item is spent
+      pub open-change : (a ≡ t → ⊥) → k′ b ≡ join (k t) (remove t (k b)) → w′ a ≡ spentHead (under σ) (w a) → ((i : ℕ) → (i ≡ a → ⊥) → w i ≡ w′ i)
+          → Change σ k w t g needs b here k′ w′ opened
+      open-change two joins spends heads =
+          let held-both : Held k w both = held-merge k w (T .room) (drop t here) (T .held) (held-drop k w t here held) in
+          let less : (i : ℕ) → count i both ≤ count i here = λ i. omega (arith, merge-sum (λ j h. one (eqb i j)) (T .room) (drop t here), find-sum (λ j h. one (eqb i j)) t here (w t, T .room) (T .found)) in
+          let kept : elem a (remove t (tops here)) ≡ true = elem-remove a t (tops here) ∙ rw (ne-eqb t a (λ e. two (sym e))) beside in
+          let on-top : elem a (tops both) ≡ true = ap (elem a) (tops-merge (T .room) (drop t here) ∙ ap (join (tops (T .room))) (tops-drop t here)) ∙ elem-join a (tops (T .room)) (remove t (tops here)) ∙ or-true (elem a (tops (T .room))) (elem a (remove t (tops here))) kept in
+          let B = found-in k w a both held-both on-top in
+          let inner : (i : ℕ) → one (eqb i a) + (count i (B .room) + count i (drop a both)) ≤ count i both = λ i. find-sum (λ j h. one (eqb i j)) a both (w a, B .room) (B .found) in
+          let at-a : 1 ≤ count a here = in-count a here beside in
+          record {
+            own = joins ∙ (λ j. join (T .own j) (remove t (own j))) ∙ ap (join (tops (T .room))) (sym (tops-drop t here)) ∙ sym (tops-merge (T .room) (drop t here))
+                ∙ sym (tops-alter a (spentHead (under σ)) (λ s. s) both);
+            held = held-alter k k′ w w′ a (spentHead (under σ)) (λ s. s) both (B .room) (B .found) (omega (arith, less a, once a)) held-both
+                (λ i l. (stays i (omega (arith, inner i, less i)), heads i (differ i a (drop a both) l (omega (arith, inner a, less a, once a, self a)))))
+                (sym (stays a at-a) ∙ B .own) spends
+                (frame k k′ w w′ (B .room) (B .held)
+                (λ i l. (stays i (omega (arith, inner i, less i)), heads i (differ i a (B .room) l (omega (arith, inner a, less a, once a, self a))))));
+            head = heads b (λ e. differ a b here at-a apart (sym e));
+            rest = λ i n z. (bodies i n, heads i (λ e. differ a i here at-a z (sym e)));
+          }
+        where
+          or-true : (x y : Bool) → y ≡ true → (x || y) ≡ true
+          or-true true y e = refl
+          or-true false y e = e
