@@ -265,16 +265,19 @@ module _ (σ : Bindings) (k : ℕ → List ℕ) (w : ℕ → ClosureHead) (t : �
   site f top once low held = byTest (elem t (tops f))
       (λ e.
       let same = at-top f (inside-top f (once t) e) in
-      rw e (inr (omega arith, record {
-        here = f;
-        stands = e;
-        body = top;
-        held = held;
-        less = λ v. omega arith;
-        apart = low 64 (omega arith);
-        fails = λ z. same ∙ z;
-        makes = λ n k′ w′ z C. (record { moved = n; is = same ∙ z; held = C .held; totals = λ v. omega arith; news = refl }, C .own);
-      })))
+      rw e (inr (
+        omega arith,
+        record {
+          here = f;
+          stands = e;
+          body = top;
+          held = held;
+          less = λ v. omega arith;
+          apart = low 64 (omega arith);
+          fails = λ z. same ∙ z;
+          makes = λ n k′ w′ z C. (record { moved = n; is = same ∙ z; held = C .held; totals = λ v. omega arith; news = refl }, C .own);
+        },
+      )))
       (λ e. rw e (deep (not-top f e) (focus f once low held)))
     where
       deep : anywhere (under σ) g f ≡ inside (under σ) g f → Seen f (placeBelow σ t f) (inside (under σ) g f)
@@ -282,18 +285,21 @@ module _ (σ : Bindings) (k : ℕ → List ℕ) (w : ℕ → ClosureHead) (t : �
       deep same (inl z) = inl (z .0, same ∙ z .1)
       deep same (inr z) =
           let F = z .1 in
-          inr (omega (arith, z .0), record {
-            here = F .here;
-            stands = F .stands;
-            body = F .body;
-            held = F .held;
-            less = F .less;
-            apart = F .apart;
-            fails = λ e. same ∙ F .fails e;
-            makes =
-                λ n k′ w′ e C.
-                let (M, o) = F .makes n k′ w′ e C in (
-                  record { moved = M .moved; is = same ∙ M .is; held = M .held; totals = M .totals; news = M .news },
-                  sym (outside f _ _ F k′ w′ n C 64 (low 64 (omega arith)) .0) ∙ top ∙ sym o,
-                );
-          })
+          inr (
+            omega (arith, z .0),
+            record {
+              here = F .here;
+              stands = F .stands;
+              body = F .body;
+              held = F .held;
+              less = F .less;
+              apart = F .apart;
+              fails = λ e. same ∙ F .fails e;
+              makes =
+                  λ n k′ w′ e C.
+                  let (M, o) = F .makes n k′ w′ e C in (
+                    record { moved = M .moved; is = same ∙ M .is; held = M .held; totals = M .totals; news = M .news },
+                    sym (outside f _ _ F k′ w′ n C 64 (low 64 (omega arith)) .0) ∙ top ∙ sym o,
+                  );
+            },
+          )

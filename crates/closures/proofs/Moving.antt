@@ -79,7 +79,7 @@ module _ (script kinds starts : List ℕ) (weight spent : ℕ) (s : State) (f : 
   after b S n e l spent′ s′ C ef low =
       let (M, top) = S .makes n (bodyIn (s′ .kids)) (heads script kinds starts (s′ .offsets)) e C in
       let count-less : (i : ℕ) → total (λ j. one (eqb i j)) (M .moved .body) ≤ total (λ j. one (eqb i j)) f
-          = λ i. omega (arith, M .totals (λ j. one (eqb i j)), fewer (S .here) n l (λ j. one (eqb i j))) in
+      = λ i. omega (arith, M .totals (λ j. one (eqb i j)), fewer (S .here) n l (λ j. one (eqb i j))) in
       record {
         moved = M .moved;
         is = M .is;

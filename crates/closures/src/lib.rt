@@ -124,13 +124,33 @@ fn find_below<'a>(
         if sets::has(inside, t) {
             return i;
         }
-        let r = find_below(script, kids, kinds, starts, variables, places, inside, t, fuel - 1);
+        let r = find_below(
+            script,
+            kids,
+            kinds,
+            starts,
+            variables,
+            places,
+            inside,
+            t,
+            fuel - 1,
+        );
         if r < 65 {
             return r;
         }
     }
     let others = sets::rest(left);
-    find_below(script, kids, kinds, starts, variables, places, others, t, fuel - 1)
+    find_below(
+        script,
+        kids,
+        kinds,
+        starts,
+        variables,
+        places,
+        others,
+        t,
+        fuel - 1,
+    )
 }
 
 // The part in whose body t stands, 64 for the top; 65 where there is none.
@@ -179,18 +199,51 @@ fn settle_below<'a, 'b>(
     }
     let i = sets::first(left);
     let others = sets::rest(left);
-    let rest = settle_below(kids, script, kinds, starts, offsets, variables, places, counts, others, fuel - 1);
+    let rest = settle_below(
+        kids,
+        script,
+        kinds,
+        starts,
+        offsets,
+        variables,
+        places,
+        counts,
+        others,
+        fuel - 1,
+    );
     let kind = kinds[i];
     let inside = kids[i];
     if kind == 1 {
-        let s = settle_below(kids, script, kinds, starts, offsets, variables, places, counts, inside, fuel - 1);
+        let s = settle_below(
+            kids,
+            script,
+            kinds,
+            starts,
+            offsets,
+            variables,
+            places,
+            counts,
+            inside,
+            fuel - 1,
+        );
         kids[i] = s;
         return sets::with(rest, i);
     }
     let start = starts[i];
     let offset = offsets[i];
     if part_spent(script, kind, start, offset, variables, places, counts) {
-        let s = settle_below(kids, script, kinds, starts, offsets, variables, places, counts, inside, fuel - 1);
+        let s = settle_below(
+            kids,
+            script,
+            kinds,
+            starts,
+            offsets,
+            variables,
+            places,
+            counts,
+            inside,
+            fuel - 1,
+        );
         return sets::union(s, rest);
     }
     sets::with(rest, i)

@@ -1,4 +1,3 @@
-
 -- `find_below` meets its contract: one law of the search for each way on. The measure is the fuel. Assumes nothing.
 use Prim.Native.Nat.{ℕ, _<_}
 use mathlib.Core.List.{List, _∷_}

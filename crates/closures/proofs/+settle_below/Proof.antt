@@ -1,4 +1,3 @@
-
 -- `settle_below` meets its contract: one law of settling for each way on. The measure is the fuel. Assumes nothing.
 use Prim.Native.Nat.{ℕ, _-_, _<_}
 use mathlib.Core.List.{List, _∷_}
@@ -134,8 +133,7 @@ module _ (t : ℕ) where
 
   settle-below-returns-3 : settle-below-lts.Need-returns-3 (settle-below-claims t) (settle-below-at t) settle-below.Post
   settle-below-returns-3 c =
-      let y = c .before .settle-below2 in
-      (
+      let y = c .before .settle-below2 in (
         length-set (y .last .0) (c .before .before .before .before .before .before .before .before .before .first .result) (y .result) ∙ y .ensures .0,
         λ few. settle-enters (σ (c .before .before .before .before .before .before .before .before .before .before .before .before .before .before .before .before)) (k (c .before .before .before .before .before .before .before .before .before .before .before .before .before .before .before .before)) (k₁ (c .before .before .before .before .before .before)) (w (c .before .before .before .before .before .before .before .before .before .before .before .before .before .before .before .before)) (left (c .before .before .before .before .before .before .before .before .before .before .before .before .before .before .before .before)) (others (c .before .before .before .before .before .before)) (c .before .before .before .before .before .before .before .before .before .before .before .before .before .before .before .before .args .fuel) (c .before .before .before .before .before .before .before .before .before .first .result) (tail (left (c .before .before .before .before .before .before .before .before .before .before .before .before .before .before .before .before))) (members (c .with .result)) (split (c .before .before .before .before .before .before .before .before .before)) (beside (c .before .before .before .before .before .before) few)
             (bodyIn (y .last .0)) (members (y .result)) (y .ensures .1 few) (bodyIn (set (y .last .0) (c .before .before .before .before .before .before .before .before .before .first .result) (y .result)))
@@ -170,8 +168,7 @@ module _ (t : ℕ) where
 
   settle-below-returns-4 : settle-below-lts.Need-returns-4 (settle-below-claims t) (settle-below-at t) settle-below.Post
   settle-below-returns-4 c =
-      let y = c .before .settle-below3 in
-      (
+      let y = c .before .settle-below3 in (
         y .ensures .0,
         λ few. settle-melts (σ (c .before .before .before .before .before .before .before .before .before .before .before .before .before .before .before .before .before .before .before .before)) (k (c .before .before .before .before .before .before .before .before .before .before .before .before .before .before .before .before .before .before .before .before)) (k₁ (c .before .before .before .before .before .before .before .before .before .before)) (w (c .before .before .before .before .before .before .before .before .before .before .before .before .before .before .before .before .before .before .before .before)) (left (c .before .before .before .before .before .before .before .before .before .before .before .before .before .before .before .before .before .before .before .before)) (others (c .before .before .before .before .before .before .before .before .before .before)) (c .before .before .before .before .before .before .before .before .before .before .before .before .before .before .before .before .before .before .before .before .args .fuel) (c .before .before .before .before .before .before .before .before .before .before .before .before .before .first .result) (tail (left (c .before .before .before .before .before .before .before .before .before .before .before .before .before .before .before .before .before .before .before .before))) (members (c .union .result)) (split (c .before .before .before .before .before .before .before .before .before .before .before .before .before)) (beside (c .before .before .before .before .before .before .before .before .before .before) few) (bodyIn (y .last .0)) (members (y .result)) (y .ensures .1 few)
             (sym (c .before .before .before .before .part-spent .ensures (few (c .before .before .before .before .before .before .before .before .before .before .before .before .before .first .result))) ∙ c .before .before .before .if4 .taken) (c .union .ensures),
@@ -181,11 +178,10 @@ module _ (t : ℕ) where
   settle-below-with-requires-2 c κs = low (c .before .before .before .before .before .before .before .before .before .before)
 
   settle-below-returns-5 : settle-below-lts.Need-returns-5 (settle-below-claims t) (settle-below-at t) settle-below.Post
-  settle-below-returns-5 c =
-      (
-        c .before .before .before .before .before .before .before .before .settle-below .ensures .0,
-        λ few. settle-keeps (σ (c .before .before .before .before .before .before .before .before .before .before .before .before .before .before .before .before .before .before)) (k (c .before .before .before .before .before .before .before .before .before .before .before .before .before .before .before .before .before .before)) (k₁ (c .before .before .before .before .before .before .before .before)) (w (c .before .before .before .before .before .before .before .before .before .before .before .before .before .before .before .before .before .before)) (left (c .before .before .before .before .before .before .before .before .before .before .before .before .before .before .before .before .before .before)) (others (c .before .before .before .before .before .before .before .before)) (c .before .before .before .before .before .before .before .before .before .before .before .before .before .before .before .before .before .before .args .fuel) (c .before .before .before .before .before .before .before .before .before .before .before .first .result) (tail (left (c .before .before .before .before .before .before .before .before .before .before .before .before .before .before .before .before .before .before))) (members (c .with2 .result)) (split (c .before .before .before .before .before .before .before .before .before .before .before)) (beside (c .before .before .before .before .before .before .before .before) few) (sym (c .before .before .part-spent .ensures (few (c .before .before .before .before .before .before .before .before .before .before .before .first .result))) ∙ c .before .if4 .left) (not-ambient (c .before .before .before .before .before .before .before .before .before .before .before .before .before .before .before .before .before .before .args .script .now) (getD (c .before .before .before .before .before .before .before .before .before .before .before .before .before .before .before .before .before .before .args .kinds .now) (c .before .before .before .before .before .before .before .before .before .before .before .first .result) 0) (getD (c .before .before .before .before .before .before .before .before .before .before .before .before .before .before .before .before .before .before .args .starts .now) (c .before .before .before .before .before .before .before .before .before .before .before .first .result) 0) (getD (c .before .before .before .before .before .before .before .before .before .before .before .before .before .before .before .before .before .before .args .offsets .now) (c .before .before .before .before .before .before .before .before .before .before .before .first .result) 0) (c .before .before .before .before .before .if3 .left)) (c .with2 .ensures),
-      )
+  settle-below-returns-5 c = (
+    c .before .before .before .before .before .before .before .before .settle-below .ensures .0,
+    λ few. settle-keeps (σ (c .before .before .before .before .before .before .before .before .before .before .before .before .before .before .before .before .before .before)) (k (c .before .before .before .before .before .before .before .before .before .before .before .before .before .before .before .before .before .before)) (k₁ (c .before .before .before .before .before .before .before .before)) (w (c .before .before .before .before .before .before .before .before .before .before .before .before .before .before .before .before .before .before)) (left (c .before .before .before .before .before .before .before .before .before .before .before .before .before .before .before .before .before .before)) (others (c .before .before .before .before .before .before .before .before)) (c .before .before .before .before .before .before .before .before .before .before .before .before .before .before .before .before .before .before .args .fuel) (c .before .before .before .before .before .before .before .before .before .before .before .first .result) (tail (left (c .before .before .before .before .before .before .before .before .before .before .before .before .before .before .before .before .before .before))) (members (c .with2 .result)) (split (c .before .before .before .before .before .before .before .before .before .before .before)) (beside (c .before .before .before .before .before .before .before .before) few) (sym (c .before .before .part-spent .ensures (few (c .before .before .before .before .before .before .before .before .before .before .before .first .result))) ∙ c .before .if4 .left) (not-ambient (c .before .before .before .before .before .before .before .before .before .before .before .before .before .before .before .before .before .before .args .script .now) (getD (c .before .before .before .before .before .before .before .before .before .before .before .before .before .before .before .before .before .before .args .kinds .now) (c .before .before .before .before .before .before .before .before .before .before .before .first .result) 0) (getD (c .before .before .before .before .before .before .before .before .before .before .before .before .before .before .before .before .before .before .args .starts .now) (c .before .before .before .before .before .before .before .before .before .before .before .first .result) 0) (getD (c .before .before .before .before .before .before .before .before .before .before .before .before .before .before .before .before .before .before .args .offsets .now) (c .before .before .before .before .before .before .before .before .before .before .before .first .result) 0) (c .before .before .before .before .before .if3 .left)) (c .with2 .ensures),
+  )
 
 pub +settle-below-spec : {M : Type 1} → statement M
 +settle-below-spec =

@@ -22,8 +22,7 @@ returns : tie.Need-returns
 returns c =
     let x = c .before .before .before .args in
     let n = c .before .none .ensures (x .script .now) in
-    let y = c .settle in
-    (
+    let y = c .settle in (
       (subst (bindings.Held (x .script .now)) (sym (y .ensures .0)) (n .0), ap (bindingsOf (x .script .now)) (y .ensures .0) ∙ n .1),
       λ count b T low. subst (λ (σ : Bindings). Represents (x .script .now) (x .kinds .now) (x .starts .now) (parts b) 0 (y .result) (settleUnder σ (closureOf b))) (n .1)
           (y .ensures .1 (parts b) 0 (closureOf b) (omega arith)

@@ -45,8 +45,7 @@ returns c =
     let x = c .before .before .before .before .before .before .before .before .before .before .before .before .before .before .before .before .args in
     let y = c .settle-below in
     let σ = bindingsIn (x .script .now) (c .before .before .before .before .before .tail .result .now) (c .before .before .before .tail2 .result .now) in
-    let e : σ ≡ boundIn (x .script .now) (x .state) = rw (c .before .before .before .before .before .tail .ensures, c .before .before .before .tail2 .ensures) in
-    (
+    let e : σ ≡ boundIn (x .script .now) (x .state) = rw (c .before .before .before .before .before .tail .ensures, c .before .before .before .tail2 .ensures) in (
       refl,
       λ weight spent b l R. settled-is (x .script .now) (x .kinds .now) (x .starts .now) weight spent (x .state) b σ (y .last .0) (y .result) e R (y .ensures .0)
           (y .ensures .1 (λ j. omega (arith, R .spends j, l))),
