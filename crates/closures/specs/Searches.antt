@@ -36,3 +36,8 @@ abbrev pub Settles : Bindings → (bodies after : ℕ → List ℕ) (heads : ℕ
 Settles σ bodies after heads left r fuel =
     (b : Closure) → left ≡ tops b → Held bodies heads b → ((j : ℕ) → count j b ≤ 1) → parts b ≤ fuel
     → (r ≡ tops (settleUnder σ b)) × Held after heads (settleUnder σ b) × ((j : ℕ) → count j b ≡ 0 → bodies j ≡ after j)
+
+-- To unfold this is to unfold every definition of this module: for a proof by computation.
+unfoldable pub computing : Unit {0}
+unfolding placeBelow place
+computing = tt
