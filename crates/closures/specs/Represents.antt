@@ -1,6 +1,6 @@
 -- How the engine's arrays stand for a closure: the part table says what a part is, the state which parts stand where, how
 -- many items of each action are spent, and which messages were received. Assumes nothing: these are definitions.
-use Prim.Native.Nat.{ℕ, _+_, _*_, _-_, _≤_}
+use Prim.Native.Nat.{ℕ, _+_, _*_, _-_, _≤_, _<_}
 use mathlib.Core.Bool.{cond}
 use mathlib.Core.List.{List}
 use mathlib.Core.Path.{_≡_}
@@ -13,6 +13,7 @@ use Rattle.bindings.specs.Resolve.{messageOf}
 use Rattle.bindings.specs.Held.{bindingsOf}
 use Rattle.bindings.specs.Held as bindings
 use Rattle.closures.specs.Closure.{ClosureHead, Closure, Bindings}
+use Rattle.closures.specs.Seen.{Seen}
 use Rattle.closures.specs.declared.State.{State}
 
 -- what a part is, by its kind (1 ambient, 2 action, 3 receipt, else output), its start and how many of its items are spent
@@ -29,9 +30,10 @@ heads script kinds starts offsets i = headOf script (getD kinds i 0) (getD start
 abbrev pub boundIn : (script : List ℕ) → State → Bindings
 boundIn script s = bindingsOf script (s .bindings)
 
--- what is counted with the bindings is right
-abbrev pub Ready : (script : List ℕ) → State → Type 0
-Ready script s = bindings.Held script (s .bindings)
+-- what is counted with the bindings is right, and so is what is kept of the parts, as long as no offset is 2^32 - 1
+pub record Ready (script kinds starts : List ℕ) (s : State) : Type 0 where
+  pub bound : bindings.Held script (s .bindings)
+  pub seen : ((i : ℕ) → getD (s .offsets) i 0 < 4294967295) → Seen (boundIn script s) (heads script kinds starts (s .offsets)) (s .looks)
 
 -- The state stands for the closure: its top parts are those of number 64's body. The parts and twice the bindings are at
 -- most `weight`, which is at most 64, and no action has more than `spent` items spent.

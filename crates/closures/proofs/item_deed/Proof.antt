@@ -1,0 +1,74 @@
+-- `item_deed` meets its contract: one line for each kind of item. Assumes nothing.
+use mathlib.Core.Path.{_≡_, refl, ap}
+use Rattle.sets.specs.Sets.{elem}
+use Rattle.sets.proofs.Members.{members-empty}
+use Rattle.machine.specs.Moves.{sameName}
+use Rattle.closures.specs.Seen.{itemAct, itemName, isNothing, actOf, aimOf, busyOf}
+use borrow.Author.Needs.{needs}
+use Rattle.closures.proofs.item_deed.Statement.{statement}
+use Rattle.closures.proofs.item_deed.Tie as tie
+use Rattle.closures.proofs.item_deed.Reads as reads
+use Rattle.closures.proofs.item_deed.Lts as lts
+use Rattle.closures.proofs.aimed.Reads as aimed-reads
+
+enum-told : tie.Need-enum-told
+enum-told c = search needs
+
+enum-known-item : tie.Need-enum-known-item
+enum-known-item c = search needs
+
+aimed-requires : tie.Need-aimed-requires
+aimed-requires c κs = search needs
+
+enum-known-item-2 : tie.Need-enum-known-item-2
+enum-known-item-2 c = search needs
+
+aimed-requires-2 : tie.Need-aimed-requires-2
+aimed-requires-2 c κs = search needs
+
+enum-known-item-3 : tie.Need-enum-known-item-3
+enum-known-item-3 c = search needs
+
+aimed-requires-3 : tie.Need-aimed-requires-3
+aimed-requires-3 c κs = search needs
+
+enum-told-2 : tie.Need-enum-told-2
+enum-told-2 c = search needs
+
+returns : tie.Need-returns
+unfolding itemAct itemName isNothing actOf aimOf busyOf sameName elem
+returns c o = rw (c .enum-told .given .1) (refl, λ i m. ap (elem i) members-empty, refl)
+
+returns-2 : tie.Need-returns-2
+unfolding itemAct itemName isNothing actOf aimOf busyOf sameName elem
+returns-2 c o = rw (c .before .before .item .given .1) (refl, c .aimed .ensures, refl)
+
+returns-3 : tie.Need-returns-3
+unfolding itemAct itemName isNothing actOf aimOf busyOf sameName elem
+returns-3 c o = rw (c .before .before .item2 .given .1) (refl, c .aimed2 .ensures, refl)
+
+returns-4 : tie.Need-returns-4
+unfolding itemAct itemName isNothing actOf aimOf busyOf sameName elem
+returns-4 c o = rw (c .before .before .item3 .given .1) (refl, c .aimed3 .ensures, refl)
+
+returns-5 : tie.Need-returns-5
+unfolding itemAct itemName isNothing actOf aimOf busyOf sameName elem
+returns-5 c o = rw (c .enum-told2 .given .1) (refl, λ i m. ap (elem i) members-empty, refl)
+
+pub item-deed-spec : {M : Type 1} → statement M
+item-deed-spec =
+    tie.close
+    (tie.spec
+    enum-told
+    enum-known-item
+    aimed-requires
+    enum-known-item-2
+    aimed-requires-2
+    enum-known-item-3
+    aimed-requires-3
+    enum-told-2
+    returns
+    returns-2
+    returns-3
+    returns-4
+    returns-5)

@@ -1,0 +1,62 @@
+-- `outputs` meets its contract: the outputs below i. Assumes nothing.
+use Prim.Native.Nat.{ℕ, _≤_, _-_}
+use mathlib.Core.List.{List}
+use native.Mathlib.Omega.{arith}
+use lib.ListN.{getD}
+use Rattle.sets.specs.Sets.{members}
+use Rattle.sets.proofs.Members.{members-empty}
+use Rattle.closures.specs.Represents.{heads}
+use Rattle.closures.specs.Seen.{isOutput}
+use Rattle.closures.proofs.Looking.{Upto, upto-none, upto-next, upto-all}
+use borrow.Author.Needs.{needs}
+use Rattle.closures.proofs.outputs.Statement.{statement}
+use Rattle.closures.proofs.outputs.Tie as tie
+use Rattle.closures.proofs.outputs.Reads as reads
+use Rattle.closures.proofs.outputs.Lts as lts
+use Rattle.closures.proofs.is_output.Reads as is-output-reads
+use Rattle.closures.proofs.with_if.Reads as with-if-reads
+
+abbrev Inv-loop : tie.InvT-loop
+Inv-loop kinds found₀ i₀ found i = (i ≤ 64) × ((script starts offsets : List ℕ) → Upto (λ j. isOutput (heads script kinds starts offsets j)) i (members found))
+
+abbrev μ-loop : tie.MeasureT-loop
+μ-loop kinds found₀ i₀ found i = 64 - i
+
+loop-holds : tie.Need-loop-holds Inv-loop μ-loop
+loop-holds c = (search needs, λ s a o. upto-none _ _ members-empty)
+
+element-copy-out-kind : tie.Need-element-copy-out-kind Inv-loop μ-loop
+element-copy-out-kind c = search needs
+
+is-output-requires : tie.Need-is-output-requires Inv-loop μ-loop
+is-output-requires c κs = search needs
+
+with-if-requires : tie.Need-with-if-requires Inv-loop μ-loop
+with-if-requires c κs = search needs
+
+add-i : tie.Need-add-i Inv-loop μ-loop
+add-i c = search needs
+
+loop-less : tie.Need-loop-less Inv-loop μ-loop
+loop-less c = search needs
+
+loop-again : tie.Need-loop-again Inv-loop μ-loop
+loop-again c = (search needs, λ s a o. upto-next _ _ _ (c .before .before .before .before .loop .inv .1 s a o) _ _ (c .before .is-output .ensures s (getD a (c .before .before .before .before .loop .i) 0) (getD o (c .before .before .before .before .loop .i) 0)) (c .with-if .ensures))
+
+returns : tie.Need-returns Inv-loop μ-loop
+returns c s a o = upto-all _ _ _ (c .before .loop .inv .1 s a o) (c .loop-test .left)
+
+pub outputs-spec : {M : Type 1} → statement M
+outputs-spec =
+    tie.close
+    (tie.spec
+    Inv-loop
+    μ-loop
+    loop-holds
+    element-copy-out-kind
+    is-output-requires
+    with-if-requires
+    add-i
+    loop-less
+    loop-again
+    returns)

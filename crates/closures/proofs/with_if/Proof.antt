@@ -1,0 +1,21 @@
+-- `with_if` meets its contract: the set with i, or as it is. Assumes nothing.
+use mathlib.Core.Path.{_≡_, refl, _∙_}
+use borrow.Author.Needs.{needs}
+use borrow.Author.Needs.{needs}
+use Rattle.closures.proofs.with_if.Statement.{statement}
+use Rattle.closures.proofs.with_if.Tie as tie
+use Rattle.closures.proofs.with_if.Reads as reads
+use Rattle.closures.proofs.with_if.Lts as lts
+use Rattle.sets.proofs.with.Reads as with-reads
+
+with-requires : tie.Need-with-requires
+with-requires c κs = search needs
+
+returns : tie.Need-returns
+returns c = c .with .ensures ∙ rw (c .before .if1 .taken)
+
+returns-2 : tie.Need-returns-2
+returns-2 c = rw (c .if1 .left)
+
+pub with-if-spec : {M : Type 1} → statement M
+with-if-spec = tie.close (tie.spec with-requires returns returns-2)

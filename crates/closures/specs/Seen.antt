@@ -1,0 +1,103 @@
+-- What the engine keeps of every part beside the script: its name, what it does first and to which parts that can be done,
+-- so that no search reads messages. Assumes nothing: these are definitions.
+use Prim.Native.Nat.{ℕ, _<_}
+use mathlib.Core.Bool.{Bool, true, false, cond}
+use mathlib.Core.List.{List}
+use mathlib.Core.Path.{_≡_}
+use lib.Dec.{eqb}
+use lib.ListN.{getD}
+use Rattle.messages.specs.declared.Named.{Named}
+use Rattle.messages.specs.declared.Named.the-variants.{Called, Nameless}
+use Rattle.messages.specs.declared.First.{First}
+use Rattle.messages.specs.declared.First.the-variants.{Nothing, Enter, Exit, Open, Other}
+use Rattle.sets.specs.Sets.{members, elem}
+use Rattle.scripts.specs.Tree.{Head, ambient, action, receipt, output}
+use Rattle.machine.specs.Moves.{sameName, headName, firstOf}
+use Rattle.closures.specs.Closure.{ClosureHead, Bindings, under, allSpent}
+use Rattle.closures.specs.declared.Looks.{Looks}
+use Rattle.closures.specs.declared.Deed.{Deed}
+
+-- the name of part i in a table of names, `named` being the set of the parts that have one
+unfoldable pub nameIn : (named : ℕ) (names : List ℕ) (i : ℕ) → Named
+nameIn named names i = cond (elem i (members named)) (Called (getD names i 0)) Nameless
+
+-- what a first item does: 1 OPEN, 2 IN, 3 EXIT, 0 none of them
+unfoldable pub itemAct : First → ℕ
+itemAct Nothing = 0
+itemAct (Enter n) = 2
+itemAct (Exit n) = 3
+itemAct (Open n) = 1
+itemAct Other = 0
+
+-- the name that a first item says
+unfoldable pub itemName : First → Named
+itemName Nothing = Nameless
+itemName (Enter n) = n
+itemName (Exit n) = n
+itemName (Open n) = n
+itemName Other = Nameless
+
+-- whether there is no item
+unfoldable pub isNothing : First → Bool
+isNothing Nothing = true
+isNothing (Enter n) = false
+isNothing (Exit n) = false
+isNothing (Open n) = false
+isNothing Other = false
+
+-- the same by a part's kind (1 ambient, 2 action, 3 receipt, else output) and first item: a receipt's act is 4
+unfoldable pub actOf : (kind : ℕ) → First → ℕ
+actOf kind item = cond (eqb kind 2) (itemAct item) (cond (eqb kind 3) 4 0)
+
+-- whether it can be done to a part of that name, or, by a receipt, to an output
+unfoldable pub aimOf : (kind : ℕ) → First → (isOutput : Bool) → Named → Bool
+aimOf kind item o n = cond (eqb kind 2) (sameName (itemName item) n) (cond (eqb kind 3) o false)
+
+-- whether settling looks at the part: an ambient, whose body it settles, or an action with no items left, which goes
+unfoldable pub busyOf : (kind : ℕ) → First → Bool
+busyOf kind item = cond (eqb kind 1) true (cond (eqb kind 2) (isNothing item) false)
+
+-- The same of a head under the bindings.
+unfoldable pub isOutput : ClosureHead → Bool
+isOutput (ambient m) = false
+isOutput (action a) = false
+isOutput (receipt v) = false
+isOutput (output m) = true
+
+unfoldable pub act : Bindings → ClosureHead → ℕ
+act σ (ambient m) = 0
+act σ (action a) = itemAct (firstOf (under σ) (action a))
+act σ (receipt v) = 4
+act σ (output m) = 0
+
+unfoldable pub aim : Bindings → (h g : ClosureHead) → Bool
+aim σ (ambient m) g = false
+aim σ (action a) g = sameName (itemName (firstOf (under σ) (action a))) (headName (under σ) g)
+aim σ (receipt v) g = isOutput g
+aim σ (output m) g = false
+
+unfoldable pub busy : Bindings → ClosureHead → Bool
+busy σ (ambient m) = true
+busy σ (action a) = allSpent σ (action a)
+busy σ (receipt v) = false
+busy σ (output m) = false
+
+-- d is what a part with the head h does first, w being the heads of all parts
+pub record Does (σ : Bindings) (w : ℕ → ClosureHead) (h : ClosureHead) (d : Deed) : Type 0 where
+  pub acts : d .act ≡ act σ h
+  pub aims : (j : ℕ) → j < 64 → elem j (members (d .aim)) ≡ aim σ h (w j)
+  pub settles : d .busy ≡ busy σ h
+
+-- what is kept of part i
+abbrev pub kept : Looks → (i : ℕ) → Deed
+kept l i = record { act = getD (l .acts) i 0; aim = getD (l .aims) i 0; busy = elem i (members (l .busy)) }
+
+-- what is kept is right
+pub record Seen (σ : Bindings) (w : ℕ → ClosureHead) (l : Looks) : Type 0 where
+  pub names : (i : ℕ) → i < 64 → nameIn (l .named) (l .names) i ≡ headName (under σ) (w i)
+  pub deeds : (i : ℕ) → i < 64 → Does σ w (w i) (kept l i)
+
+-- To unfold this is to unfold every definition of this module: for a proof by computation.
+unfoldable pub computing : Unit {0}
+unfolding nameIn itemAct itemName isNothing actOf aimOf busyOf isOutput act aim busy
+computing = tt
