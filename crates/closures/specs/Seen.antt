@@ -64,29 +64,29 @@ isOutput (action a) = false
 isOutput (receipt v) = false
 isOutput (output m) = true
 
-unfoldable pub act : Bindings → ClosureHead → ℕ
-act σ (ambient m) = 0
-act σ (action a) = itemAct (firstOf (under σ) (action a))
-act σ (receipt v) = 4
-act σ (output m) = 0
+unfoldable pub actUnder : Bindings → ClosureHead → ℕ
+actUnder σ (ambient m) = 0
+actUnder σ (action a) = itemAct (firstOf (under σ) (action a))
+actUnder σ (receipt v) = 4
+actUnder σ (output m) = 0
 
-unfoldable pub aim : Bindings → (h g : ClosureHead) → Bool
-aim σ (ambient m) g = false
-aim σ (action a) g = sameName (itemName (firstOf (under σ) (action a))) (headName (under σ) g)
-aim σ (receipt v) g = isOutput g
-aim σ (output m) g = false
+unfoldable pub aimUnder : Bindings → (h g : ClosureHead) → Bool
+aimUnder σ (ambient m) g = false
+aimUnder σ (action a) g = sameName (itemName (firstOf (under σ) (action a))) (headName (under σ) g)
+aimUnder σ (receipt v) g = isOutput g
+aimUnder σ (output m) g = false
 
-unfoldable pub busy : Bindings → ClosureHead → Bool
-busy σ (ambient m) = true
-busy σ (action a) = allSpent σ (action a)
-busy σ (receipt v) = false
-busy σ (output m) = false
+unfoldable pub busyUnder : Bindings → ClosureHead → Bool
+busyUnder σ (ambient m) = true
+busyUnder σ (action a) = allSpent σ (action a)
+busyUnder σ (receipt v) = false
+busyUnder σ (output m) = false
 
 -- d is what a part with the head h does first, w being the heads of all parts
 pub record Does (σ : Bindings) (w : ℕ → ClosureHead) (h : ClosureHead) (d : Deed) : Type 0 where
-  pub acts : d .act ≡ act σ h
-  pub aims : (j : ℕ) → j < 64 → elem j (members (d .aim)) ≡ aim σ h (w j)
-  pub settles : d .busy ≡ busy σ h
+  pub acts : d .act ≡ actUnder σ h
+  pub aims : (j : ℕ) → j < 64 → elem j (members (d .aim)) ≡ aimUnder σ h (w j)
+  pub settles : d .busy ≡ busyUnder σ h
 
 -- what is kept of part i
 abbrev pub kept : Looks → (i : ℕ) → Deed
@@ -99,5 +99,5 @@ pub record Seen (σ : Bindings) (w : ℕ → ClosureHead) (l : Looks) : Type 0 w
 
 -- To unfold this is to unfold every definition of this module: for a proof by computation.
 unfoldable pub computing : Unit {0}
-unfolding nameIn itemAct itemName isNothing actOf aimOf busyOf isOutput act aim busy
+unfolding nameIn itemAct itemName isNothing actOf aimOf busyOf isOutput actUnder aimUnder busyUnder
 computing = tt

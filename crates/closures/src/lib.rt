@@ -20,7 +20,7 @@ ghost use Rattle.scripts.specs.Script.{Script};
 ghost use Rattle.bindings.specs.Resolve.{bindingsIn};
 ghost use Rattle.bindings.specs.Measures.{Kept, itemCount};
 ghost use Rattle.machine.specs.Moves.{isThat, sameName, headName, firstOf};
-ghost use Rattle.closures.specs.Closure.{Closure, under, settleUnder, closureOf};
+ghost use Rattle.closures.specs.Closure.{ClosureHead, Closure, under, settleUnder, closureOf};
 ghost use Rattle.closures.specs.Represents.{headOf, heads, boundIn, Ready, Represents};
 ghost use Rattle.closures.specs.Seen.{nameIn, actOf, aimOf, busyOf, isOutput, Does, kept, Seen};
 
@@ -205,3 +205,104 @@ fn item_deed(item: First, named: u64, names: &[u32; 64]) -> Deed
     }
 }
 
+// What a part of that kind and first item does.
+fn kind_deed(kind: u8, item: First, outs: u64, named: u64, names: &[u32; 64]) -> Deed
+    ensures { λ r. ⌜ (r .act ≡ actOf kind item) × ((i : ℕ) → i < 64 → elem i (members (r .aim)) ≡ aimOf kind item (elem i (members outs)) (nameIn named (now (names .entry)) i)) × (r .busy ≡ busyOf kind item) ⌝ }
+{
+    if kind == 2 {
+        return item_deed(item, named, names);
+    }
+    if kind == 3 {
+        return Deed {
+            act: 4,
+            aim: outs,
+            busy: false,
+        };
+    }
+    Deed {
+        act: 0,
+        aim: 0,
+        busy: kind == 1,
+    }
+}
+
+// What a part of that kind, start and offset does under the bindings.
+fn look_at<'a>(
+    script: &'a [u32],
+    kind: u8,
+    start: u32,
+    offset: u32,
+    variables: &'a [u32],
+    places: &'a [u32],
+    counts: &'a [u32],
+    outs: u64,
+    named: u64,
+    names: &'a [u32; 64],
+) -> Deed
+    requires { ⌜ Kept itemCount (now script) (now variables) (now places) (now counts) ⌝ }
+    ensures { λ r. ⌜ ((w : ℕ → ClosureHead) → offset < 4294967295 → ((j : ℕ) → j < 64 → elem j (members outs) ≡ isOutput (w j)) → ((j : ℕ) → j < 64 → nameIn named (now (names .entry)) j ≡ headName (under (bindingsIn (now (script .entry)) (now (variables .entry)) (now (places .entry)))) (w j)) → Does (bindingsIn (now (script .entry)) (now (variables .entry)) (now (places .entry))) w (headOf (now (script .entry)) kind start offset) r) ⌝ }
+{
+    let item = part_item(script, kind, start, offset, variables, places, counts);
+    kind_deed(kind, item, outs, named, names)
+}
+
+// What is kept, with what part i does.
+fn with_deed(l: Looks, i: usize, d: Deed) -> Looks
+    requires { ⌜ i < 64 ⌝ }
+    ensures here { λ r. ⌜ kept r i ≡ d ⌝ }
+    ensures others { λ r. ⌜ ((j : ℕ) → (j ≡ i → ⊥) → kept r j ≡ kept l j) ⌝ }
+    ensures names { λ r. ⌜ (r .named ≡ l .named) × (r .names ≡ l .names) ⌝ }
+{
+    let so = d.busy;
+    let busy = l.busy;
+    let mut next = l;
+    next.acts[i] = d.act;
+    next.aims[i] = d.aim;
+    next.busy = with_if(sets::without(busy, i), i, so);
+    next
+}
+
+// What is kept of all parts, under the bindings.
+fn look<'a>(
+    script: &'a [u32],
+    kinds: &'a [u8; 64],
+    starts: &'a [u32; 64],
+    offsets: &'a [u32; 64],
+    variables: &'a [u32],
+    places: &'a [u32],
+    counts: &'a [u32],
+) -> Looks
+    requires { ⌜ Kept itemCount (now script) (now variables) (now places) (now counts) ⌝ }
+    ensures { λ r. ⌜ (((i : ℕ) → getD (now (offsets .entry)) i 0 < 4294967295) → Seen (bindingsIn (now (script .entry)) (now (variables .entry)) (now (places .entry))) (heads (now (script .entry)) (now (kinds .entry)) (now (starts .entry)) (now (offsets .entry))) r) ⌝ }
+{
+    let t = name_parts(script, kinds, starts, variables, places);
+    let outs = outputs(kinds);
+    let mut l = Looks {
+        named: t.named,
+        names: t.names,
+        acts: [0; 64],
+        aims: [0; 64],
+        busy: 0,
+    };
+    let mut i: usize = 0;
+    while i < 64 {
+        let kind = kinds[i];
+        let start = starts[i];
+        let offset = offsets[i];
+        let d = look_at(
+            script,
+            kind,
+            start,
+            offset,
+            variables,
+            places,
+            counts,
+            outs,
+            t.named,
+            &t.names,
+        );
+        l = with_deed(l, i, d);
+        i += 1;
+    }
+    l
+}

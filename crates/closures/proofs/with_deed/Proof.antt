@@ -1,0 +1,47 @@
+-- `with_deed` meets its contract: one entry of each array, and one member of the set. Assumes nothing.
+use mathlib.Core.Path.{_≡_, refl, _∙_}
+use native.Mathlib.Omega.{arith}
+use lib.ListN.{length}
+use Rattle.closures.proofs.Deeds.{kept-set, kept-other}
+use borrow.Author.Needs.{needs}
+use Rattle.closures.proofs.with_deed.Statement.{statement}
+use Rattle.closures.proofs.with_deed.Tie as tie
+use Rattle.closures.proofs.with_deed.Reads as reads
+use Rattle.closures.proofs.with_deed.Lts as lts
+use Rattle.closures.proofs.with_if.Reads as with-if-reads
+use Rattle.sets.proofs.without.Reads as without-reads
+
+element-write-next : tie.Need-element-write-next
+element-write-next c = search needs
+
+mul-next : tie.Need-mul-next
+mul-next c = search needs
+
+element-write-next-2 : tie.Need-element-write-next-2
+element-write-next-2 c = search needs
+
+without-requires : tie.Need-without-requires
+without-requires c κs = search needs
+
+with-if-requires : tie.Need-with-if-requires
+with-if-requires c κs = search needs
+
+returns : tie.Need-returns
+returns c = let m : length (c .before .before .args .l .acts) ≡ 64 = search needs in
+    let n : length (c .before .before .args .l .aims) ≡ 64 = search needs in
+    let b = rw (c .before .without .ensures) at (c .with-if .ensures) in (
+      kept-set (c .before .before .args .l) _ (c .before .before .args .i) (c .before .before .args .d) (omega (arith, c .before .before .pre)) (omega (arith, c .before .before .pre)) refl refl b,
+      kept-other (c .before .before .args .l) _ (c .before .before .args .i) (c .before .before .args .d) refl refl b,
+      (refl, refl),
+    )
+
+pub with-deed-spec : {M : Type 1} → statement M
+with-deed-spec =
+    tie.close
+    (tie.spec
+    element-write-next
+    mul-next
+    element-write-next-2
+    without-requires
+    with-if-requires
+    returns)
