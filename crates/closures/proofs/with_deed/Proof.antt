@@ -31,8 +31,8 @@ returns c = let m : length (c .before .before .args .l .acts) ≡ 64 = search ne
     let n : length (c .before .before .args .l .aims) ≡ 64 = search needs in
     let b = rw (c .before .without .ensures) at (c .with-if .ensures) in (
       kept-set (c .before .before .args .l) _ (c .before .before .args .i) (c .before .before .args .d) (omega (arith, c .before .before .pre)) (omega (arith, c .before .before .pre)) refl refl b,
-      kept-other (c .before .before .args .l) _ (c .before .before .args .i) (c .before .before .args .d) refl refl b,
-      (refl, refl),
+      (kept-other (c .before .before .args .l) _ (c .before .before .args .i) (c .before .before .args .d) refl refl b,
+      (refl, refl)),
     )
 
 pub with-deed-spec : {M : Type 1} → statement M
