@@ -197,11 +197,31 @@ fn item_deed(item: First, named: u64, names: &[u32; 64]) -> Deed
     ensures { λ r. ⌜ ((o : Bool) → (r .act ≡ actOf 2 item) × ((i : ℕ) → i < 64 → elem i (members (r .aim)) ≡ aimOf 2 item o (nameIn named (now (names .entry)) i)) × (r .busy ≡ busyOf 2 item)) ⌝ }
 {
     match item {
-        First::Nothing => Deed { act: 0, aim: 0, busy: true },
-        First::Enter(n) => Deed { act: 2, aim: aimed(named, names, n), busy: false },
-        First::Exit(n) => Deed { act: 3, aim: aimed(named, names, n), busy: false },
-        First::Open(n) => Deed { act: 1, aim: aimed(named, names, n), busy: false },
-        First::Other => Deed { act: 0, aim: 0, busy: false },
+        First::Nothing => Deed {
+            act: 0,
+            aim: 0,
+            busy: true,
+        },
+        First::Enter(n) => Deed {
+            act: 2,
+            aim: aimed(named, names, n),
+            busy: false,
+        },
+        First::Exit(n) => Deed {
+            act: 3,
+            aim: aimed(named, names, n),
+            busy: false,
+        },
+        First::Open(n) => Deed {
+            act: 1,
+            aim: aimed(named, names, n),
+            busy: false,
+        },
+        First::Other => Deed {
+            act: 0,
+            aim: 0,
+            busy: false,
+        },
     }
 }
 

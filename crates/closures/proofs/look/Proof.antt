@@ -61,14 +61,18 @@ loop-less : tie.Need-loop-less Inv-loop μ-loop
 loop-less c = search needs
 
 loop-again : tie.Need-loop-again Inv-loop μ-loop
-loop-again c = (search needs, c .with-deed .ensures .1 .1 .0 ∙ c .before .before .before .before .before .before .before .before .loop .inv .1, c .with-deed .ensures .1 .1 .1 ∙ c .before .before .before .before .before .before .before .before .loop .inv .2,
-      λ low. done-next _ _ (c .before .before .before .before .before .before .before .before .loop .i) (c .before .before .before .before .before .before .before .before .loop .l) (c .with-deed .result) (c .before .look-at .result) (c .before .before .before .before .before .before .before .before .loop .inv .3 low) (c .before .look-at .ensures _ (low (c .before .before .before .before .before .before .before .before .loop .i)) (c .before .before .before .before .before .before .before .before .before .before .outputs .ensures (c .before .before .before .before .before .before .before .before .before .before .before .before .before .before .before .before .args .script .now) (c .before .before .before .before .before .before .before .before .before .before .before .before .before .before .before .before .args .starts .now) (c .before .before .before .before .before .before .before .before .before .before .before .before .before .before .before .before .args .offsets .now)) (c .before .before .before .before .before .before .before .before .before .before .before .name-parts .ensures (c .before .before .before .before .before .before .before .before .before .before .before .before .before .before .before .before .args .offsets .now))) (c .with-deed .ensures .0) (c .with-deed .ensures .1 .0))
+loop-again c = (
+  search needs,
+  c .with-deed .ensures .1 .1 .0 ∙ c .before .before .before .before .before .before .before .before .loop .inv .1,
+  c .with-deed .ensures .1 .1 .1 ∙ c .before .before .before .before .before .before .before .before .loop .inv .2,
+  λ low. done-next _ _ (c .before .before .before .before .before .before .before .before .loop .i) (c .before .before .before .before .before .before .before .before .loop .l) (c .with-deed .result) (c .before .look-at .result) (c .before .before .before .before .before .before .before .before .loop .inv .3 low) (c .before .look-at .ensures _ (low (c .before .before .before .before .before .before .before .before .loop .i)) (c .before .before .before .before .before .before .before .before .before .before .outputs .ensures (c .before .before .before .before .before .before .before .before .before .before .before .before .before .before .before .before .args .script .now) (c .before .before .before .before .before .before .before .before .before .before .before .before .before .before .before .before .args .starts .now) (c .before .before .before .before .before .before .before .before .before .before .before .before .before .before .before .before .args .offsets .now)) (c .before .before .before .before .before .before .before .before .before .before .before .name-parts .ensures (c .before .before .before .before .before .before .before .before .before .before .before .before .before .before .before .before .args .offsets .now))) (c .with-deed .ensures .0) (c .with-deed .ensures .1 .0),
+)
 
 returns : tie.Need-returns Inv-loop μ-loop
 returns c low = record {
-      names = λ i m. (λ q. nameIn (c .before .loop .inv .1 q) (c .before .loop .inv .2 q) i) ∙ c .before .before .before .before .name-parts .ensures (c .before .before .before .before .before .before .before .before .before .args .offsets .now) i m;
-      deeds = λ i m. c .before .loop .inv .3 low i (omega (arith, c .loop-test .left));
-    }
+  names = λ i m. (λ q. nameIn (c .before .loop .inv .1 q) (c .before .loop .inv .2 q) i) ∙ c .before .before .before .before .name-parts .ensures (c .before .before .before .before .before .before .before .before .before .args .offsets .now) i m;
+  deeds = λ i m. c .before .loop .inv .3 low i (omega (arith, c .loop-test .left));
+}
 
 pub look-spec : {M : Type 1} → statement M
 look-spec =
