@@ -12,3 +12,4 @@ pub mod Settling
 pub mod Settled
 pub mod Moving
 pub mod Opening
+pub mod Places
