@@ -13,3 +13,6 @@ pub mod Settled
 pub mod Moving
 pub mod Opening
 pub mod Places
+pub mod Spending
+pub mod Entering
+pub mod Leaving
