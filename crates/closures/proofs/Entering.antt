@@ -7,6 +7,7 @@ use mathlib.Core.Path.{_≡_, refl, sym, ap, _∙_}
 use native.Mathlib.Omega.{arith}
 use lib.Dec.{eqb}
 use borrow.Author.Tests.{ne-eqb}
+use Rattle.messages.specs.declared.Named.the-variants.{Nameless}
 use Rattle.sets.specs.Sets.{elem, insert, remove}
 use Rattle.scripts.specs.Tree.{one, tops, count, put}
 use Rattle.scripts.specs.Represents.{Held}
@@ -126,14 +127,15 @@ module _ (σ : Bindings) (k : ℕ → List ℕ) (w : ℕ → ClosureHead) (a t :
       }
 
   -- where the actor's first item is no IN of a name
-  pub enter-never : ((g : ClosureHead) → mayEnter σ (w a) g ≡ false) → enterMove (under σ) a t here ≡ none
+  pub enter-never : toEnter (firstOf (under σ) (w a)) ≡ Nameless → enterMove (under σ) a t here ≡ none
+  unfolding sameName
   enter-never e = pick (holder a here) refl
     where
-      none-allowed : (x y z : Bool) → z ≡ false → (x && (y && z)) ≡ false
-      none-allowed true true z d = d
-      none-allowed true false z d = refl
-      none-allowed false y z d = refl
+      never : (x y : Bool) → (x && (y && false)) ≡ false
+      never true true = refl
+      never true false = refl
+      never false y = refl
 
       pick : (o : Option ℕ) → holder a here ≡ o → enterMove (under σ) a t here ≡ none
       pick none q = enter-alone q
-      pick (some p) q = let i = holder-inv k w a p here held q in enter-not p (i .0) (i .1) (none-allowed (not (eqb p t)) (isNamed (headName (under σ) (w p))) (mayEnter σ (w a) (w t)) (e (w t)))
+      pick (some p) q = let i = holder-inv k w a p here held q in enter-not p (i .0) (i .1) (rw e (never (not (eqb p t)) (isNamed (headName (under σ) (w p)))))
