@@ -16,3 +16,4 @@ pub mod Places
 pub mod Spending
 pub mod Entering
 pub mod Leaving
+pub mod Possible

@@ -19,14 +19,11 @@ use Rattle.machine.specs.Moves.{Moved, quiet, variableOf, messageOf, spentHead,
 use Rattle.machine.proofs.Options.{byTest}
 use Rattle.machine.proofs.Sums.{find-sum, drop-sum, merge-sum}
 use Rattle.closures.specs.Closure.{Action, ClosureHead, Closure, Bindings, under}
+use Rattle.closures.specs.Targets.{mayOpen}
 use Rattle.closures.proofs.Holding.{self, tops-drop, tops-merge, tops-alter, in-count, differ, frame, held-drop, held-merge, held-alter, Found, found-in, not-found}
 use Rattle.closures.proofs.Focus.{Change}
 use Rattle.closures.proofs.Moving.{Shrinks, fewer}
 use Rattle.closures.proofs.Spending.{Spent, held-spend}
-
--- whether the first item of h opens the name of g
-abbrev pub mayOpen : Bindings → (h g : ClosureHead) → Bool
-mayOpen σ h g = sameName (toOpen (firstOf (under σ) h)) (headName (under σ) g)
 
 -- ---- where there is no move
 

@@ -154,6 +154,10 @@ module _ (σ : Bindings) (k : ℕ → List ℕ) (w : ℕ → ClosureHead) (f : C
   unfolding place
   placed x l = byTest (elem x (tops f)) (λ e. rw e (inl (refl, refl))) (λ e. rw e (inr (place-inside σ x f (rw e at l))))
 
+  -- only parts have a place
+  pub place-low : (x : ℕ) → place σ x f < 65 → x < 64
+  place-low x l = below x f low (elim (placed x l) [ inl z ↦ in-count x f (z .1) | inr p ↦ inside-count σ x (at x) p .0 ])
+
   -- THEOREM: what stands in an active body has that body's number for its place.
   pub place-of : (b x : ℕ) → Active σ w (λ i. place σ i f) b → elem x (k b) ≡ true → place σ x f ≡ b
   place-of b x (inl e) m = at-top x (ap (elem x) (sym top) ∙ ap (λ (j : ℕ). elem x (k j)) (sym e) ∙ m) ∙ sym e

@@ -2,3 +2,4 @@
 pub mod Closure
 pub mod Represents
 pub mod Searches
+pub mod Targets
