@@ -17,3 +17,4 @@ pub mod Spending
 pub mod Entering
 pub mod Leaving
 pub mod Possible
+pub mod Making

@@ -85,6 +85,18 @@ no-item : (σ : Bindings) (h : ClosureHead) (v : ℕ) → h ≡ receipt v → to
 unfolding firstOf toOpen
 no-item σ h v e = rw e
 
+-- no part opens itself
+not-itself : (σ : Bindings) (h : ClosureHead) → mayOpen σ h h ≡ false
+unfolding firstOf headName toOpen sameName
+not-itself σ (ambient m) = refl
+not-itself σ (action i) = nameless (toOpen (firstOf (under σ) (action i)))
+  where
+    nameless : (x : Named) → sameName x Nameless ≡ false
+    nameless (Called n) = refl
+    nameless Nameless = refl
+not-itself σ (receipt v) = refl
+not-itself σ (output m) = refl
+
 nothing≢enter : (x : Named) → Nothing ≡ Enter x → ⊥
 nothing≢enter x e = let z : _≡_ {A = ℕ} 0 1 = cc in omega arith
 
@@ -126,7 +138,7 @@ module _ (σ : Bindings) (k : ℕ → List ℕ) (w : ℕ → ClosureHead) (f : C
       pick (inl e) = absurd (let z : ⊥ = omega arith in z)
       pick (inr c) = (c .1, c .2)
 
-  pub open-at : canOpen σ k w at a t ≡ true → (S : Spot (at a)) × (i : elem a (tops (S .here)) ≡ true)
+  pub open-at : canOpen σ k w at a t ≡ true → (S : Spot (at a)) × (i : elem a (tops (S .here)) ≡ true) × (a ≡ t → ⊥)
       × (moveHere (under σ) a t (S .here) ≡ some (opened σ k w a t (S .here) (S .held) (S .stands) i))
   unfolding canOpen
   open-at e =
@@ -135,7 +147,8 @@ module _ (σ : Bindings) (k : ℕ → List ℕ) (w : ℕ → ClosureHead) (f : C
       let l : at a < 65 = ltb-true (at a) 65 u in
       let S = sited (at a) (place-of σ k w f top held once low (at a) t (active a l) m) l in
       let i : elem a (tops (S .here)) ≡ true = ap (elem a) (sym (S .body)) ∙ stands a l in
-      (S, i, opens σ a t (S .here) (opened σ k w a t (S .here) (S .held) (S .stands) i) (open-is σ k w a t (S .here) (S .held) (S .stands) i n))
+      let two : a ≡ t → ⊥ = λ z. true≢false (sym n ∙ ap (λ (x : ℕ). mayOpen σ (w a) (w x)) (sym z) ∙ not-itself σ (w a)) in
+      (S, i, two, opens σ a t (S .here) (opened σ k w a t (S .here) (S .held) (S .stands) i) (open-is σ k w a t (S .here) (S .held) (S .stands) i n))
 
   -- what is received
   pub receive-what : canReceive σ k w at a t ≡ true → (v : ℕ) × (m : Message) × (w a ≡ receipt v) × (w t ≡ output m)
@@ -295,7 +308,7 @@ module _ (σ : Bindings) (k : ℕ → List ℕ) (w : ℕ → ClosureHead) (f : C
   can : canMove σ k w at a t ≡ true → isSome (closureMove σ a t f) ≡ true
   unfolding canMove
   can e = byTest (canOpen σ k w at a t)
-      (λ u. let x = open-at u in made (at a) (x .0) _ (x .2))
+      (λ u. let x = open-at u in made (at a) (x .0) _ (x .3))
       (λ u. byTest (canReceive σ k w at a t)
       (λ v.
       let y = receive-what v in
