@@ -24,8 +24,7 @@ pub enter-needs : (σ : Bindings) (a t : ℕ) (b : Closure) → elem t (tops b) 
 unfolding enterMove _>>=_
 enter-needs σ a t b e = rw (not-found t b e)
 
-module _ (σ : Bindings) (k : ℕ → List ℕ) (w : ℕ → ClosureHead) (a t : ℕ) (here : Closure) (held : Held k w here) (stands : elem t (tops here) ≡ true)
-    (once : (j : ℕ) → count j here ≤ 1) where
+module _ (σ : Bindings) (k : ℕ → List ℕ) (w : ℕ → ClosureHead) (a t : ℕ) (here : Closure) (held : Held k w here) (stands : elem t (tops here) ≡ true) where
   abbrev T : Found k w t here
   T = found-in k w t here held stands
 
@@ -46,10 +45,6 @@ module _ (σ : Bindings) (k : ℕ → List ℕ) (w : ℕ → ClosureHead) (a t :
     abbrev allowed : Bool
     allowed = not (eqb p t) && (isNamed (headName (under σ) (w p)) && mayEnter σ (w a) (w t))
 
-    pub enter-not : allowed ≡ false → enterMove (under σ) a t here ≡ none
-    unfolding enterMove _>>=_ check
-    enter-not e = rw (T .found, holder-is k w a p here held (once a) beside holds, P .found, A .found, e)
-
     abbrev left : Closure
     left = drop p here
 
@@ -59,12 +54,17 @@ module _ (σ : Bindings) (k : ℕ → List ℕ) (w : ℕ → ClosureHead) (a t :
     abbrev pub entered : Moved Action
     entered = quiet (alter t (λ e. e) (put p (w p) inner) left)
 
-    pub enter-is : allowed ≡ true → enterMove (under σ) a t here ≡ some entered
-    unfolding enterMove _>>=_ check
-    enter-is e = rw (T .found, holder-is k w a p here held (once a) beside holds, P .found, A .found, e)
+    module _ (once : (j : ℕ) → count j here ≤ 1) where
+      pub enter-not : allowed ≡ false → enterMove (under σ) a t here ≡ none
+      unfolding enterMove _>>=_ check
+      enter-not e = rw (T .found, holder-is k w a p here held (once a) beside holds, P .found, A .found, e)
+
+      pub enter-is : allowed ≡ true → enterMove (under σ) a t here ≡ some entered
+      unfolding enterMove _>>=_ check
+      enter-is e = rw (T .found, holder-is k w a p here held (once a) beside holds, P .found, A .found, e)
 
     -- the part p goes from the body of b into that of t, and the actor's first item is spent
-    module _ (g : Closure → Option (Moved Action)) (needs : (s : Closure) → elem t (tops s) ≡ false → g s ≡ none)
+    module _ (once : (j : ℕ) → count j here ≤ 1) (g : Closure → Option (Moved Action)) (needs : (s : Closure) → elem t (tops s) ≡ false → g s ≡ none)
         (b : ℕ) (own : k b ≡ tops here) (apart : count b here ≡ 0) (k′ : ℕ → List ℕ) (w′ : ℕ → ClosureHead) (spent : Spent σ w w′ a)
         (bodies : (i : ℕ) → (i ≡ b → ⊥) → (i ≡ t → ⊥) → k i ≡ k′ i) (two : p ≡ t → ⊥) where
       -- sums over the parts
@@ -124,9 +124,9 @@ module _ (σ : Bindings) (k : ℕ → List ℕ) (w : ℕ → ClosureHead) (a t :
       }
 
   -- where the actor's first item is no IN of a name
-  pub enter-never : toEnter (firstOf (under σ) (w a)) ≡ Nameless → enterMove (under σ) a t here ≡ none
+  pub enter-never : ((j : ℕ) → count j here ≤ 1) → toEnter (firstOf (under σ) (w a)) ≡ Nameless → enterMove (under σ) a t here ≡ none
   unfolding sameName
-  enter-never e = pick (holder a here) refl
+  enter-never once e = pick (holder a here) refl
     where
       never : (x y : Bool) → (x && (y && false)) ≡ false
       never true true = refl
@@ -135,4 +135,4 @@ module _ (σ : Bindings) (k : ℕ → List ℕ) (w : ℕ → ClosureHead) (a t :
 
       pick : (o : Option ℕ) → holder a here ≡ o → enterMove (under σ) a t here ≡ none
       pick none q = enter-alone q
-      pick (some p) q = let i = holder-inv k w a p here held q in enter-not p (i .0) (i .1) (rw e (never (not (eqb p t)) (isNamed (headName (under σ) (w p)))))
+      pick (some p) q = let i = holder-inv k w a p here held q in enter-not p (i .0) (i .1) once (rw e (never (not (eqb p t)) (isNamed (headName (under σ) (w p)))))

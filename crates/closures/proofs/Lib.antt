@@ -16,5 +16,6 @@ pub mod Places
 pub mod Spending
 pub mod Entering
 pub mod Leaving
+pub mod Acting
 pub mod Possible
 pub mod Making

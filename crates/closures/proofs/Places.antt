@@ -60,6 +60,18 @@ nowhere σ x (part i h s r) e =
     go true a b c = rw (a, b, c)
     go false a b c = rw c
 
+first-most : (p q : ℕ) → q ≤ 65 → firstPlace p q ≤ 65
+first-most p q l = byTest (ltb p 65) (λ t. rw t (let m : p < 65 = ltb-true p 65 t in omega arith)) (λ t. rw t l)
+
+most-below : (σ : Bindings) (x : ℕ) (f : Closure) → placeBelow σ x f ≤ 65
+unfolding placeBelow
+most-below σ x close = omega arith
+most-below σ x (part i h s r) = first-most (cond (isNamed (headName (under σ) h)) (cond (elem x (tops s)) i (placeBelow σ x s)) 65) (placeBelow σ x r) (most-below σ x r)
+
+place-most : (σ : Bindings) (x : ℕ) (f : Closure) → place σ x f ≤ 65
+unfolding place
+place-most σ x f = byTest (elem x (tops f)) (λ e. rw e (omega arith)) (λ e. rw e (most-below σ x f))
+
 below : (b : ℕ) (f : Closure) → ((j : ℕ) → 64 ≤ j → count j f ≡ 0) → 1 ≤ count b f → b < 64
 below b f low m = byTest (ltb b 64) (λ u. ltb-true b 64 u) (λ u. absurd (let z : ⊥ = omega (arith, low b (ltb-false b 64 u)) in z))
 
@@ -136,8 +148,14 @@ around σ x b (beside {i = i} {r = r} p) = elim (around σ x b p) [
 abbrev pub Active : (σ : Bindings) (w : ℕ → ClosureHead) (at : ℕ → ℕ) → ℕ → Type 0
 Active σ w at b = (b ≡ 64) ⊎ ((b < 64) × (at b < 65) × named σ (w b))
 
-module _ (σ : Bindings) (k : ℕ → List ℕ) (w : ℕ → ClosureHead) (f : Closure) (top : k 64 ≡ tops f) (held : Held k w f)
-    (once : (j : ℕ) → count j f ≤ 1) (low : (j : ℕ) → 64 ≤ j → count j f ≡ 0) where
+-- the sets and heads hold the closure, its own parts being those of number 64's body, and no number stands in it twice
+pub record Stands (k : ℕ → List ℕ) (w : ℕ → ClosureHead) (f : Closure) : Type 0 where
+  pub top : k 64 ≡ tops f
+  pub held : Held k w f
+  pub once : (j : ℕ) → count j f ≤ 1
+  pub low : (j : ℕ) → 64 ≤ j → count j f ≡ 0
+
+module _ (σ : Bindings) (k : ℕ → List ℕ) (w : ℕ → ClosureHead) (f : Closure) (Q : Stands k w f) where
   abbrev at : ℕ → ℕ
   at i = place σ i f
 
@@ -147,7 +165,7 @@ module _ (σ : Bindings) (k : ℕ → List ℕ) (w : ℕ → ClosureHead) (f : C
 
   at-inside : (x b : ℕ) → Inside σ x b f → at x ≡ b
   unfolding place
-  at-inside x b p = rw (inside-only σ x b p (once x)) (inside-place σ x b p (once x) low)
+  at-inside x b p = rw (inside-only σ x b p (Q .once x)) (inside-place σ x b p (Q .once x) (Q .low))
 
   -- a part that has a place, at the top or inside
   placed : (x : ℕ) → at x < 65 → ((at x ≡ 64) × (elem x (tops f) ≡ true)) ⊎ Inside σ x (at x) f
@@ -156,25 +174,59 @@ module _ (σ : Bindings) (k : ℕ → List ℕ) (w : ℕ → ClosureHead) (f : C
 
   -- only parts have a place
   pub place-low : (x : ℕ) → place σ x f < 65 → x < 64
-  place-low x l = below x f low (elim (placed x l) [ inl z ↦ in-count x f (z .1) | inr p ↦ inside-count σ x (at x) p .0 ])
+  place-low x l = below x f (Q .low) (elim (placed x l) [ inl z ↦ in-count x f (z .1) | inr p ↦ inside-count σ x (at x) p .0 ])
 
   -- THEOREM: what stands in an active body has that body's number for its place.
   pub place-of : (b x : ℕ) → Active σ w (λ i. place σ i f) b → elem x (k b) ≡ true → place σ x f ≡ b
-  place-of b x (inl e) m = at-top x (ap (elem x) (sym top) ∙ ap (λ (j : ℕ). elem x (k j)) (sym e) ∙ m) ∙ sym e
+  place-of b x (inl e) m = at-top x (ap (elem x) (sym (Q .top)) ∙ ap (λ (j : ℕ). elem x (k j)) (sym e) ∙ m) ∙ sym e
   place-of b x (inr c) m = elim (placed b (c .1)) [
-    | inl z ↦ at-inside x b (from-top σ k w x b f held (z .1) (c .2) m)
-    | inr p ↦ at-inside x b (from-inside σ k w x b (at b) p held (c .2) m)
+    | inl z ↦ at-inside x b (from-top σ k w x b f (Q .held) (z .1) (c .2) m)
+    | inr p ↦ at-inside x b (from-inside σ k w x b (at b) p (Q .held) (c .2) m)
   ]
 
   -- THEOREM: a part that has a place stands in its body, and that body is active.
   pub place-active : (x b : ℕ) → place σ x f ≡ b → b < 65 → (elem x (k b) ≡ true) × Active σ w (λ i. place σ i f) b
   place-active x b e l = subst (λ (j : ℕ). (elem x (k j) ≡ true) × Active σ w at j) e (by-place (placed x (omega arith)))
     where
+      stands : Inside σ x (at x) f → at (at x) < 65
+      stands p = elim (around σ x (at x) p) [
+        | inl d ↦ omega (arith, at-top (at x) d)
+        | inr q ↦ omega (arith, at-inside (at x) (q .0) (q .1), below (q .0) f (Q .low) (inside-count σ (at x) (q .0) (q .1) .1))
+      ]
+
       by-place : ((at x ≡ 64) × (elem x (tops f) ≡ true)) ⊎ Inside σ x (at x) f → (elem x (k (at x)) ≡ true) × Active σ w at (at x)
-      by-place (inl z) = (ap (λ (j : ℕ). elem x (k j)) (z .0) ∙ ap (elem x) top ∙ z .1, inl (z .0))
+      by-place (inl z) = (ap (λ (j : ℕ). elem x (k j)) (z .0) ∙ ap (elem x) (Q .top) ∙ z .1, inl (z .0))
       by-place (inr p) =
-          let h = inside-held σ k w x (at x) p held in
-          let small : at x < 64 = below (at x) f low (inside-count σ x (at x) p .1) in (
-            h .0,
-            inr (small, elim (around σ x (at x) p) [ inl d ↦ omega (arith, at-top (at x) d) | inr q ↦ omega (arith, at-inside (at x) (q .0) (q .1), below (q .0) f low (inside-count σ (at x) (q .0) (q .1) .1)) ], h .1),
-          )
+          let h = inside-held σ k w x (at x) p (Q .held) in
+          (h .0, inr (below (at x) f (Q .low) (inside-count σ x (at x) p .1), stands p, h .1))
+
+  -- ---- all places at once: handed on from each active body to what stands in it
+
+  module _ (P : ℕ → ℕ) (onward : (b x : ℕ) → b < 64 → P b < 65 → named σ (w b) → elem x (k b) ≡ true → P x ≡ b) where
+    reached : (x b : ℕ) {g : Closure} → Inside σ x b g → Held k w g → ((j : ℕ) → 64 ≤ j → count j g ≡ 0) → ((y : ℕ) → elem y (tops g) ≡ true → P y < 65) → P x ≡ b
+    unfolding sum tops elem
+    reached x b (directly {i = i} {h = h} {s = s} {r = r} n e) p l u =
+        onward i x (below i (part i h s r) l (omega (arith, self i))) (u i (ap (λ (v : Bool). v || elem i (tops r)) (eq-eqb i i refl)))
+        (ap (λ (c : ClosureHead). isNamed (headName (under σ) c)) (p .1) ∙ n) (ap (elem x) (p .0) ∙ e)
+    reached x b (deeper {i = i} {h = h} {s = s} {r = r} n q) p l u =
+        let small : i < 64 = below i (part i h s r) l (omega (arith, self i)) in
+        let own : P i < 65 = u i (ap (λ (v : Bool). v || elem i (tops r)) (eq-eqb i i refl)) in
+        let has-name : named σ (w i) = ap (λ (c : ClosureHead). isNamed (headName (under σ) c)) (p .1) ∙ n in
+        reached x b q (p .2) (λ j m. omega (arith, l j m)) (λ y e. omega (arith, onward i y small own has-name (ap (elem y) (p .0) ∙ e)))
+    reached x b (beside {i = i} q) p l u =
+        reached x b q (p .3) (λ j m. omega (arith, l j m)) (λ y e. u y (byTest (eqb y i) (λ v. rw v) (λ v. rw v e)))
+
+    -- THEOREM: places that are right where they are given, and that no active body leaves out, are all right.
+    pub places-are : ((x : ℕ) → P x ≤ 65) → ((x : ℕ) → P x < 65 → P x ≡ place σ x f) → ((x : ℕ) → elem x (k 64) ≡ true → P x ≡ 64) → (x : ℕ) → P x ≡ place σ x f
+    places-are most right first x = byTest (ltb (at x) 65)
+        (λ t. found (placed x (ltb-true (at x) 65 t)))
+        (λ t. byTest (ltb (P x) 65)
+        (λ u. right x (ltb-true (P x) 65 u))
+        (λ u. omega (arith, most x, place-most σ x f, ltb-false (at x) 65 t, ltb-false (P x) 65 u)))
+      where
+        on-top : (y : ℕ) → elem y (tops f) ≡ true → P y ≡ 64
+        on-top y e = first y (ap (elem y) (Q .top) ∙ e)
+
+        found : ((at x ≡ 64) × (elem x (tops f) ≡ true)) ⊎ Inside σ x (at x) f → P x ≡ at x
+        found (inl z) = on-top x (z .1) ∙ sym (z .0)
+        found (inr p) = reached x (at x) p (Q .held) (Q .low) (λ y e. omega (arith, on-top y e))
