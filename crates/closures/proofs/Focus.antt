@@ -101,6 +101,7 @@ module _ (σ : Bindings) (k : ℕ → List ℕ) (w : ℕ → ClosureHead) (t : �
     pub apart : count b here ≡ 0
     pub within : 1 ≤ count b f
     pub fails : g here ≡ none → look ≡ none
+    pub works : (n : Moved Action) → g here ≡ some n → (m : Moved Action) × (look ≡ some m)
     pub makes : (n : Moved Action) (k′ : ℕ → List ℕ) (w′ : ℕ → ClosureHead) → g here ≡ some n → Change b here k′ w′ n
         → (M : Made f here k′ w′ n look) × (tops (M .moved .body) ≡ tops f)
 
@@ -122,6 +123,7 @@ module _ (σ : Bindings) (k : ℕ → List ℕ) (w : ℕ → ClosureHead) (t : �
       apart = F .apart;
       within = omega (arith, F .within);
       fails = λ e. around-none i h s r u x z d (F .fails e);
+      works = λ n e. let (m, q) = F .works n e in (record { body = part i h s (m .body); news = m .news }, around-beside i h s r m u x z d q);
       makes =
           λ n k′ w′ e C.
           let (M, o) = F .makes n k′ w′ e C in
@@ -153,6 +155,7 @@ module _ (σ : Bindings) (k : ℕ → List ℕ) (w : ℕ → ClosureHead) (t : �
       less = λ v. omega (arith, F .less v);
       apart = F .apart;
       within = omega (arith, F .within);
+      works = λ n e. let (m, q) = F .works n e in (record { body = part i h (m .body) r; news = m .news }, around-in i h s r m x _ q);
       fails = λ e. around-none i h s r true x _ (F .fails e) (inside-out r (omega (arith, once t, F .less (λ i. one (eqb t i)), in-count t (F .here) (F .stands))));
       makes =
           λ n k′ w′ e C.
@@ -185,6 +188,7 @@ module _ (σ : Bindings) (k : ℕ → List ℕ) (w : ℕ → ClosureHead) (t : �
       less = λ v. omega arith;
       apart = omega (arith, once i, self i);
       within = omega (arith, self i);
+      works = λ n z. (record { body = part i h (n .body) r; news = n .news }, around-in i h s r n x _ (q ∙ z));
       fails = λ z. around-none i h s r true x _ (q ∙ z) (inside-out r (omega (arith, once t, in-count t s e)));
       makes =
           λ n k′ w′ z C. (
@@ -255,6 +259,7 @@ module _ (σ : Bindings) (k : ℕ → List ℕ) (w : ℕ → ClosureHead) (t : �
     pub less : (v : ℕ → ℕ) → total v here ≤ total v f
     pub apart : count b here ≡ 0
     pub fails : g here ≡ none → anywhere (under σ) g f ≡ none
+    pub works : (n : Moved Action) → g here ≡ some n → (m : Moved Action) × (anywhere (under σ) g f ≡ some m)
     pub makes : (n : Moved Action) (k′ : ℕ → List ℕ) (w′ : ℕ → ClosureHead) → g here ≡ some n → Change b here k′ w′ n
         → (M : Made f here k′ w′ n (anywhere (under σ) g f)) × (k′ 64 ≡ tops (M .moved .body))
 
@@ -275,6 +280,7 @@ module _ (σ : Bindings) (k : ℕ → List ℕ) (w : ℕ → ClosureHead) (t : �
           less = λ v. omega arith;
           apart = low 64 (omega arith);
           fails = λ z. same ∙ z;
+          works = λ n z. (n, same ∙ z);
           makes = λ n k′ w′ z C. (record { moved = n; is = same ∙ z; held = C .held; totals = λ v. omega arith; news = refl }, C .own);
         },
       )))
@@ -295,6 +301,7 @@ module _ (σ : Bindings) (k : ℕ → List ℕ) (w : ℕ → ClosureHead) (t : �
               less = F .less;
               apart = F .apart;
               fails = λ e. same ∙ F .fails e;
+              works = λ n e. let (m, q) = F .works n e in (m, same ∙ q);
               makes =
                   λ n k′ w′ e C.
                   let (M, o) = F .makes n k′ w′ e C in (

@@ -1,5 +1,5 @@
 -- What the part table and an offset hold of a head, kind by kind. Assumes nothing.
-use Prim.Native.Nat.{ℕ, _≤_, _<_, min}
+use Prim.Native.Nat.{ℕ, suc, _+_, _≤_, _<_, min}
 use mathlib.Core.Bool.{Bool, true, false, cond}
 use mathlib.Core.List.{List}
 use mathlib.Core.Path.{_≡_, refl, sym, ap, _∙_}
@@ -14,7 +14,7 @@ use Rattle.messages.specs.declared.First.the-variants.{Nothing}
 use Rattle.scripts.specs.Tree.{ambient, action, receipt, output, isAmbient}
 use Rattle.bindings.specs.Resolve.{resolve, messageOf}
 use Rattle.bindings.specs.Measures.{capped}
-use Rattle.machine.specs.Moves.{headName, firstOf}
+use Rattle.machine.specs.Moves.{headName, firstOf, spentHead}
 use Rattle.machine.proofs.Options.{byTest}
 use Rattle.closures.specs.Closure.{Action, ClosureHead, Bindings, itemsLeft, under, allSpent}
 use Rattle.closures.specs.Represents.{headOf}
@@ -50,6 +50,15 @@ module _ (script : List ℕ) (kind start offset : ℕ) where
 
   pub head-receipt : kind ≡ 3 → headOf script kind start offset ≡ receipt start
   head-receipt e = by-kind (λ h. h ≡ receipt start) (λ f. absurd (omega arith)) (λ f. absurd (omega arith)) (λ f. refl) (λ a b c. absurd (c e))
+
+  -- an action with one item more spent; every other part is the same at each offset
+  pub head-spent : (σ : Bindings) → headOf script kind start (offset + 1) ≡ spentHead (under σ) (headOf script kind start offset)
+  unfolding headOf spentHead
+  head-spent σ = byTest (eqb kind 1)
+      (λ t. rw t)
+      (λ t. byTest (eqb kind 2)
+      (λ u. let e : offset + 1 ≡ suc offset = omega arith in rw (t, u) (ap (λ (o : ℕ). action (record { offset = o; message = word })) e))
+      (λ u. byTest (eqb kind 3) (λ v. rw (t, u, v)) (λ v. rw (t, u, v))))
 
   -- who is an ambient
   pub is-ambient : kind ≡ 1 → isAmbient (headOf script kind start offset) ≡ true

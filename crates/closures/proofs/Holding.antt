@@ -11,9 +11,9 @@ use borrow.Author.Tests.{eqb-true, eq-eqb}
 use Rattle.sets.specs.Sets.{elem, insert, remove, join, keep}
 use Rattle.scripts.specs.Tree.{Body, close, part, one, tops, sum, count, put, merge}
 use Rattle.scripts.specs.Represents.{Held}
-use Rattle.machine.specs.Bodies.{find, drop, alter}
+use Rattle.machine.specs.Bodies.{find, drop, alter, holder}
 use Rattle.machine.proofs.Options.{byTest, some-is, none≢some}
-use Rattle.machine.proofs.Sums.{drop-none}
+use Rattle.machine.proofs.Sums.{drop-none, find-sum}
 
 -- a sum over the numbers of all parts, at any depth
 abbrev pub total : {H : Type 0} → (ℕ → ℕ) → Body H → ℕ
@@ -105,6 +105,48 @@ module _ {H : Type 0} (k : ℕ → List ℕ) (w : ℕ → H) where
   found-in n (part i h b r) p e = byTest (eqb n i)
       (λ t. record { room = b; found = rw (t, eqb-true n i t, p .1); own = rw (eqb-true n i t) (p .0); held = p .2 })
       (λ t. let F = found-in n r (p .3) (rw t at e) in record { room = F .room; found = rw t (F .found); own = F .own; held = F .held })
+
+  -- what was looked up
+  pub found-inv : (n : ℕ) (b s : Body H) (h : H) → Held k w b → find n b ≡ some (h, s) → (elem n (tops b) ≡ true) × (w n ≡ h) × (k n ≡ tops s) × Held k w s
+  unfolding find tops elem
+  found-inv n close s h p e = none≢some e
+  found-inv n (part i g b r) s h p e = byTest (eqb n i)
+      (λ t.
+      let z : n ≡ i = eqb-true n i t in
+      let u : (g, b) ≡ (h, s) = some-is (rw t at e) in
+      rw t (
+        refl,
+        ap w z ∙ p .1 ∙ ap (λ (q : H × Body H). q .0) u,
+        ap k z ∙ p .0 ∙ ap (λ (q : H × Body H). tops (q .1)) u,
+        subst (λ (q : H × Body H). Held k w (q .1)) u (p .2),
+      ))
+      (λ t. rw t (found-inv n r s h (p .3) (rw t at e)))
+
+  -- the part of the body in which a stands, and a stands in it once more
+  pub held-by : (a p : ℕ) (b : Body H) → Held k w b → elem p (tops b) ≡ true → elem a (k p) ≡ true → 1 ≤ count a b
+  held-by a p b h e m =
+      let P = found-in p b h e in
+      omega (arith, in-count a (P .room) (ap (elem a) (sym (P .own)) ∙ m), find-sum (λ j g. one (eqb a j)) p b (w p, P .room) (P .found))
+
+  pub holder-is : (a p : ℕ) (b : Body H) → Held k w b → count a b ≤ 1 → elem p (tops b) ≡ true → elem a (k p) ≡ true → holder a b ≡ some p
+  unfolding holder tops elem sum
+  holder-is a p close h c e m = absurd (true≢false (sym e))
+  holder-is a p (part i g s r) h c e m = byTest (eqb p i)
+      (λ t. let z : p ≡ i = eqb-true p i t in rw (ap (elem a) (sym (h .0) ∙ ap k (sym z)) ∙ m) (ap some (sym z)))
+      (λ t.
+      let d : elem p (tops r) ≡ true = rw t at e in
+      rw (not-in a s (omega (arith, held-by a p r (h .3) d m))) (holder-is a p r (h .3) (omega arith) d m))
+
+  pub holder-inv : (a p : ℕ) (b : Body H) → Held k w b → holder a b ≡ some p → (elem p (tops b) ≡ true) × (elem a (k p) ≡ true)
+  unfolding holder tops elem
+  holder-inv a p close h e = none≢some e
+  holder-inv a p (part i g s r) h e = byTest (elem a (tops s))
+      (λ t.
+      let z : i ≡ p = some-is (rw t at e) in (
+        ap (λ (u : Bool). u || elem p (tops r)) (eq-eqb p i (sym z)),
+        ap (elem a) (ap k (sym z) ∙ h .0) ∙ t,
+      ))
+      (λ t. let q = holder-inv a p r (h .3) (rw t at e) in (byTest (eqb p i) (λ u. rw u) (λ u. rw u (q .0)), q .1))
 
 pub not-found : {H : Type 0} (n : ℕ) (b : Body H) → elem n (tops b) ≡ false → find n b ≡ none
 unfolding find tops elem

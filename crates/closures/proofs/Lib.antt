@@ -13,3 +13,10 @@ pub mod Looking
 pub mod Deeds
 pub mod Moving
 pub mod Opening
+pub mod Places
+pub mod Spending
+pub mod Entering
+pub mod Leaving
+pub mod Acting
+pub mod Possible
+pub mod Making

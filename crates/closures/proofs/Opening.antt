@@ -9,23 +9,21 @@ use native.Mathlib.Omega.{arith}
 use lib.Dec.{eqb}
 use borrow.Author.Tests.{ne-eqb}
 use Rattle.messages.specs.Message.{Message}
+use Rattle.messages.specs.declared.Named.the-variants.{Nameless}
 use Rattle.sets.specs.Sets.{elem, remove, join}
 use Rattle.sets.proofs.Lists.{elem-remove, elem-join}
 use Rattle.scripts.specs.Tree.{receipt, output, one, tops, count, merge}
 use Rattle.scripts.specs.Represents.{Held}
 use Rattle.machine.specs.Bodies.{_>>=_, check, find, drop, alter}
 use Rattle.machine.specs.Moves.{Moved, quiet, variableOf, messageOf, spentHead, spend, sameName, toOpen, firstOf, headName, openMove, receiveMove}
-use Rattle.machine.proofs.Inversion.{Here, open-inv, receive-inv}
 use Rattle.machine.proofs.Options.{byTest}
 use Rattle.machine.proofs.Sums.{find-sum, drop-sum, merge-sum}
 use Rattle.closures.specs.Closure.{Action, ClosureHead, Closure, Bindings, under}
+use Rattle.closures.specs.Targets.{mayOpen}
 use Rattle.closures.proofs.Holding.{self, tops-drop, tops-merge, tops-alter, in-count, differ, frame, held-drop, held-merge, held-alter, Found, found-in, not-found}
 use Rattle.closures.proofs.Focus.{Change}
-use Rattle.closures.proofs.Moving.{Shrinks, shrinks, fewer}
-
--- whether the first item of h opens the name of g
-abbrev pub mayOpen : Bindings → (h g : ClosureHead) → Bool
-mayOpen σ h g = sameName (toOpen (firstOf (under σ) h)) (headName (under σ) g)
+use Rattle.closures.proofs.Moving.{Shrinks, fewer}
+use Rattle.closures.proofs.Spending.{Spent, held-spend}
 
 -- ---- where there is no move
 
@@ -97,28 +95,30 @@ module _ (σ : Bindings) (k : ℕ → List ℕ) (w : ℕ → ClosureHead) (a t :
       }
 
       -- the ambient goes, its body stays, and the actor's first item is spent
-      pub open-change : (a ≡ t → ⊥) → k′ b ≡ join (k t) (remove t (k b)) → w′ a ≡ spentHead (under σ) (w a) → ((i : ℕ) → (i ≡ a → ⊥) → w i ≡ w′ i)
-          → Change σ k w t g needs b here k′ w′ opened
-      open-change two joins spends heads =
+      pub open-change : Spent σ w w′ a → (a ≡ t → ⊥) → k′ b ≡ join (k t) (remove t (k b)) → Change σ k w t g needs b here k′ w′ opened
+      open-change spent two joins =
           let held-both : Held k w both = held-merge k w (T .room) (drop t here) (T .held) (held-drop k w t here held) in
           let less : (i : ℕ) → count i both ≤ count i here = λ i. omega (arith, merge-sum (λ j h. one (eqb i j)) (T .room) (drop t here), find-sum (λ j h. one (eqb i j)) t here (w t, T .room) (T .found)) in
           let kept : elem a (remove t (tops here)) ≡ true = elem-remove a t (tops here) ∙ rw (ne-eqb t a (λ e. two (sym e))) beside in
           let on-top : elem a (tops both) ≡ true = ap (elem a) (tops-merge (T .room) (drop t here) ∙ ap (join (tops (T .room))) (tops-drop t here)) ∙ elem-join a (tops (T .room)) (remove t (tops here)) ∙ or-true (elem a (tops (T .room))) (elem a (remove t (tops here))) kept in
-          let B = found-in k w a both held-both on-top in
-          let inner : (i : ℕ) → one (eqb i a) + (count i (B .room) + count i (drop a both)) ≤ count i both = λ i. find-sum (λ j h. one (eqb i j)) a both (w a, B .room) (B .found) in
           let at-a : 1 ≤ count a here = in-count a here beside in
           record {
             own = joins ∙ (λ j. join (T .own j) (remove t (own j))) ∙ ap (join (tops (T .room))) (sym (tops-drop t here)) ∙ sym (tops-merge (T .room) (drop t here))
                 ∙ sym (tops-alter a (spentHead (under σ)) (λ s. s) both);
-            held = held-alter k k′ w w′ a (spentHead (under σ)) (λ s. s) both (B .room) (B .found) (omega (arith, less a, once a)) held-both
-                (λ i l. (stays i (omega (arith, inner i, less i)), heads i (differ i a (drop a both) l (omega (arith, inner a, less a, once a, self a)))))
-                (sym (stays a at-a) ∙ B .own) spends
-                (frame k k′ w w′ (B .room) (B .held)
-                (λ i l. (stays i (omega (arith, inner i, less i)), heads i (differ i a (B .room) l (omega (arith, inner a, less a, once a, self a))))));
-            head = heads b (λ e. differ a b here at-a apart (sym e));
-            rest = λ i n z. (bodies i n, heads i (λ e. differ a i here at-a z (sym e)));
+            held = held-spend σ k k′ w w′ a both spent held-both on-top (omega (arith, less a, once a)) (λ i l. stays i (omega (arith, less i)));
+            head = spent .others b (λ e. differ a b here at-a apart (sym e));
+            rest = λ i n z. (bodies i n, spent .others i (λ e. differ a i here at-a z (sym e)));
           }
         where
           or-true : (x y : Bool) → y ≡ true → (x || y) ≡ true
           or-true true y e = refl
           or-true false y e = e
+
+  -- where the actor's first item is no OPEN of a name, and where the actor is no receipt
+  pub open-never : toOpen (firstOf (under σ) (w a)) ≡ Nameless → openMove (under σ) a t here ≡ none
+  unfolding sameName
+  open-never e = byTest (elem a (tops here)) (λ i. open-not i (rw e)) (λ i. open-alone i)
+
+  pub receive-never : variableOf (w a) ≡ none → receiveMove (under σ) a t here ≡ none
+  unfolding receiveMove _>>=_
+  receive-never e = byTest (elem a (tops here)) (λ i. rw (T .found, found-in k w a here held i .found, e)) (λ i. receive-alone i)

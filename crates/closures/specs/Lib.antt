@@ -3,3 +3,4 @@ pub mod Closure
 pub mod Represents
 pub mod Searches
 pub mod Seen
+pub mod Targets

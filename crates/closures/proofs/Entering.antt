@@ -1,0 +1,138 @@
+-- IN in one body that is held: what the definition makes of it, and the sets and heads that hold it. Assumes nothing.
+use Prim.Native.Nat.{ℕ, _+_, _≤_}
+use mathlib.Core.Bool.{Bool, true, false, not, _&&_}
+use mathlib.Core.List.{List}
+use mathlib.Core.Option.{Option, none, some}
+use mathlib.Core.Path.{_≡_, refl, sym, ap, _∙_}
+use native.Mathlib.Omega.{arith}
+use lib.Dec.{eqb}
+use borrow.Author.Tests.{ne-eqb}
+use Rattle.messages.specs.declared.Named.the-variants.{Nameless}
+use Rattle.sets.specs.Sets.{elem, insert, remove}
+use Rattle.scripts.specs.Tree.{one, tops, count, put}
+use Rattle.scripts.specs.Represents.{Held}
+use Rattle.machine.specs.Bodies.{_>>=_, check, find, drop, alter, holder}
+use Rattle.machine.specs.Moves.{Moved, quiet, spentHead, spend, isNamed, sameName, toEnter, firstOf, headName, enterMove}
+use Rattle.machine.proofs.Sums.{drop-exact, find-drop}
+use Rattle.closures.specs.Closure.{Action, ClosureHead, Closure, Bindings, under}
+use Rattle.closures.specs.Targets.{mayEnter}
+use Rattle.closures.proofs.Holding.{total, self, tops-put, tops-drop, tops-alter, in-count, differ, frame, held-drop, held-put, held-alter, Found, found-in, not-found, holder-is, holder-inv}
+use Rattle.closures.proofs.Focus.{Change}
+use Rattle.closures.proofs.Spending.{Spent, held-spend}
+
+pub enter-needs : (σ : Bindings) (a t : ℕ) (b : Closure) → elem t (tops b) ≡ false → enterMove (under σ) a t b ≡ none
+unfolding enterMove _>>=_
+enter-needs σ a t b e = rw (not-found t b e)
+
+module _ (σ : Bindings) (k : ℕ → List ℕ) (w : ℕ → ClosureHead) (a t : ℕ) (here : Closure) (held : Held k w here) (stands : elem t (tops here) ≡ true) where
+  abbrev T : Found k w t here
+  T = found-in k w t here held stands
+
+  pub enter-alone : holder a here ≡ none → enterMove (under σ) a t here ≡ none
+  unfolding enterMove _>>=_
+  enter-alone e = rw (T .found, e)
+
+  module _ (p : ℕ) (beside : elem p (tops here) ≡ true) (holds : elem a (k p) ≡ true) where
+    abbrev P : Found k w p here
+    P = found-in k w p here held beside
+
+    within : elem a (tops (P .room)) ≡ true
+    within = ap (elem a) (sym (P .own)) ∙ holds
+
+    abbrev A : Found k w a (P .room)
+    A = found-in k w a (P .room) (P .held) within
+
+    abbrev allowed : Bool
+    allowed = not (eqb p t) && (isNamed (headName (under σ) (w p)) && mayEnter σ (w a) (w t))
+
+    abbrev left : Closure
+    left = drop p here
+
+    abbrev inner : Closure
+    inner = spend (under σ) a (P .room)
+
+    abbrev pub entered : Moved Action
+    entered = quiet (alter t (λ e. e) (put p (w p) inner) left)
+
+    module _ (once : (j : ℕ) → count j here ≤ 1) where
+      pub enter-not : allowed ≡ false → enterMove (under σ) a t here ≡ none
+      unfolding enterMove _>>=_ check
+      enter-not e = rw (T .found, holder-is k w a p here held (once a) beside holds, P .found, A .found, e)
+
+      pub enter-is : allowed ≡ true → enterMove (under σ) a t here ≡ some entered
+      unfolding enterMove _>>=_ check
+      enter-is e = rw (T .found, holder-is k w a p here held (once a) beside holds, P .found, A .found, e)
+
+    -- the part p goes from the body of b into that of t, and the actor's first item is spent
+    module _ (once : (j : ℕ) → count j here ≤ 1) (g : Closure → Option (Moved Action)) (needs : (s : Closure) → elem t (tops s) ≡ false → g s ≡ none)
+        (b : ℕ) (own : k b ≡ tops here) (apart : count b here ≡ 0) (k′ : ℕ → List ℕ) (w′ : ℕ → ClosureHead) (spent : Spent σ w w′ a)
+        (bodies : (i : ℕ) → (i ≡ b → ⊥) → (i ≡ t → ⊥) → k i ≡ k′ i) (two : p ≡ t → ⊥) where
+      -- sums over the parts
+      all : (v : ℕ → ℕ) → total v here ≡ v p + (total v (P .room) + total v left)
+      all v = drop-exact (λ i h. v i) p here (w p, P .room) (once p) (P .found)
+
+      t-left : find t left ≡ some (w t, T .room)
+      t-left = find-drop t p here (ne-eqb t p (λ e. two (sym e))) ∙ T .found
+
+      t-once : count t left ≤ 1
+      t-once = omega (arith, all (λ i. one (eqb t i)), once t)
+
+      rest : (v : ℕ → ℕ) → total v left ≡ v t + (total v (T .room) + total v (drop t left))
+      rest v = drop-exact (λ i h. v i) t left (w t, T .room) t-once t-left
+
+      -- the parts that a sum tells apart
+      same-body : (i : ℕ) → 1 ≤ count i here → (i ≡ t → ⊥) → k i ≡ k′ i
+      same-body i m n = bodies i (differ i b here m apart) n
+
+      same-head : (i : ℕ) → count i (P .room) ≡ 0 → w i ≡ w′ i
+      same-head i z = spent .others i (λ e. differ a i (P .room) (in-count a (P .room) within) z (sym e))
+
+      held-inner : Held k′ w′ inner
+      held-inner = held-spend σ k k′ w w′ a (P .room) spent (P .held) within (omega (arith, all (λ j. one (eqb a j)), once a))
+          (λ i m. same-body i (omega (arith, all (λ j. one (eqb i j))))
+          (differ i t (P .room) m (omega (arith, all (λ j. one (eqb t j)), rest (λ j. one (eqb t j)), once t, self t))))
+
+      held-room : Held k′ w′ (put p (w p) inner (T .room))
+      held-room = held-put k′ w′ p (w p) inner (T .room)
+          (sym (same-body p (in-count p here beside) two) ∙ P .own ∙ sym (tops-alter a (spentHead (under σ)) (λ s. s) (P .room)))
+          (sym (same-head p (omega (arith, all (λ j. one (eqb p j)), once p, self p))))
+          held-inner
+          (frame k k′ w w′ (T .room) (T .held)
+          (λ i m. (
+            same-body i (omega (arith, all (λ j. one (eqb i j)), rest (λ j. one (eqb i j))))
+                (differ i t (T .room) m (omega (arith, all (λ j. one (eqb t j)), rest (λ j. one (eqb t j)), once t, self t))),
+            same-head i (omega (arith, all (λ j. one (eqb i j)), rest (λ j. one (eqb i j)), once i)),
+          )))
+
+      pub enter-change : k′ b ≡ remove p (k b) → k′ t ≡ insert p (k t) → Change σ k w t g needs b here k′ w′ entered
+      enter-change loses gains = record {
+        own = loses ∙ ap (remove p) own ∙ sym (tops-drop p here) ∙ sym (tops-alter t (λ e. e) (put p (w p) inner) left);
+        held = held-alter k k′ w w′ t (λ e. e) (put p (w p) inner) left (T .room) t-left t-once (held-drop k w p here held)
+            (λ i m. (
+              same-body i (omega (arith, all (λ j. one (eqb i j)), rest (λ j. one (eqb i j))))
+                  (differ i t (drop t left) m (omega (arith, rest (λ j. one (eqb t j)), t-once, self t))),
+              same-head i (omega (arith, all (λ j. one (eqb i j)), rest (λ j. one (eqb i j)), once i)),
+            ))
+            (gains ∙ ap (insert p) (T .own) ∙ sym (tops-put p (w p) inner (T .room)))
+            (sym (same-head t (omega (arith, all (λ j. one (eqb t j)), rest (λ j. one (eqb t j)), once t, self t))))
+            held-room;
+        head = same-head b (omega (arith, all (λ j. one (eqb b j)), apart));
+        rest = λ i n z. (
+          bodies i n (λ e. differ t i here (in-count t here stands) z (sym e)),
+          same-head i (omega (arith, all (λ j. one (eqb i j)))),
+        );
+      }
+
+  -- where the actor's first item is no IN of a name
+  pub enter-never : ((j : ℕ) → count j here ≤ 1) → toEnter (firstOf (under σ) (w a)) ≡ Nameless → enterMove (under σ) a t here ≡ none
+  unfolding sameName
+  enter-never once e = pick (holder a here) refl
+    where
+      never : (x y : Bool) → (x && (y && false)) ≡ false
+      never true true = refl
+      never true false = refl
+      never false y = refl
+
+      pick : (o : Option ℕ) → holder a here ≡ o → enterMove (under σ) a t here ≡ none
+      pick none q = enter-alone q
+      pick (some p) q = let i = holder-inv k w a p here held q in enter-not p (i .0) (i .1) once (rw e (never (not (eqb p t)) (isNamed (headName (under σ) (w p)))))

@@ -1,0 +1,142 @@
+-- From a state that represents a closure and a test that holds to the state after the move: how the part sets, the offsets
+-- and the bindings change with each of the four kinds. Assumes nothing.
+use Prim.Native.Nat.{ℕ, _+_, _≤_}
+use mathlib.Core.Bool.{Bool, true, false}
+use mathlib.Core.List.{List, [], _∷_}
+use mathlib.Core.Option.{some}
+use mathlib.Core.Path.{_≡_, refl, sym, ap, _∙_, subst}
+use native.Mathlib.Omega.{arith}
+use lib.Dec.{eqb}
+use lib.ListN.{getD, length}
+use borrow.Author.Tests.{eqb-true, eqb-false}
+use Rattle.messages.specs.Message.{Message}
+use Rattle.sets.specs.Sets.{insert, remove, join}
+use Rattle.scripts.specs.Tree.{receipt, output}
+use Rattle.scripts.specs.Represents.{bodyIn}
+use Rattle.machine.specs.Moves.{Moved, moveHere}
+use Rattle.machine.proofs.Inversion.{here-inv}
+use Rattle.machine.proofs.Options.{byTest}
+use Rattle.closures.specs.Closure.{Action, ClosureHead, Closure, Bindings, under}
+use Rattle.closures.specs.Represents.{headOf, heads, boundIn, Represents}
+use Rattle.closures.specs.Searches.{place}
+use Rattle.closures.specs.Targets.{canOpen, canReceive, canEnter, canExit}
+use Rattle.closures.specs.declared.State.{State}
+use Rattle.closures.proofs.Heads.{head-spent}
+use Rattle.closures.proofs.Focus.{Change}
+use Rattle.closures.proofs.Places.{Stands}
+use Rattle.closures.proofs.Moving.{Shrinks, shrinks, After, after}
+use Rattle.closures.proofs.Spending.{Spent}
+use Rattle.closures.proofs.Opening.{open-change, receive-change}
+use Rattle.closures.proofs.Entering.{enter-change}
+use Rattle.closures.proofs.Leaving.{exit-change}
+use Rattle.closures.proofs.Acting.{here-needs, Spot, once-here, open-at, receive-at, enter-at, exit-at}
+
+-- the sets after that of b has become l
+pub record Replaced (k k′ : ℕ → List ℕ) (b : ℕ) (l : List ℕ) : Type 0 where
+  pub becomes : k′ b ≡ l
+  pub others : (i : ℕ) → (i ≡ b → ⊥) → k i ≡ k′ i
+
+-- the sets after p has gone out of one body into another
+pub record Carried (k k′ : ℕ → List ℕ) (p from into : ℕ) : Type 0 where
+  pub loses : k′ from ≡ remove p (k from)
+  pub gains : k′ into ≡ insert p (k into)
+  pub others : (i : ℕ) → (i ≡ from → ⊥) → (i ≡ into → ⊥) → k i ≡ k′ i
+
+-- the offsets after one more item of a is spent
+pub record Raised (offsets offsets′ : List ℕ) (a : ℕ) : Type 0 where
+  pub more : getD offsets′ a 0 ≡ getD offsets a 0 + 1
+  pub others : (i : ℕ) → (i ≡ a → ⊥) → getD offsets i 0 ≡ getD offsets′ i 0
+
+raised-spent : (σ : Bindings) (script kinds starts offsets offsets′ : List ℕ) (a : ℕ) → Raised offsets offsets′ a → Spent σ (heads script kinds starts offsets) (heads script kinds starts offsets′) a
+raised-spent σ script kinds starts offsets offsets′ a r = record {
+  spends = ap (headOf script (getD kinds a 0) (getD starts a 0)) (r .more) ∙ head-spent script (getD kinds a 0) (getD starts a 0) (getD offsets a 0) σ;
+  others = λ i n. ap (headOf script (getD kinds i 0) (getD starts i 0)) (r .others i n);
+}
+
+raised-most : (offsets offsets′ : List ℕ) (a spent : ℕ) → Raised offsets offsets′ a → ((i : ℕ) → getD offsets i 0 ≤ spent) → (i : ℕ) → getD offsets′ i 0 ≤ spent + 1
+raised-most offsets offsets′ a spent r most i = byTest (eqb i a)
+    (λ t. let e : getD offsets′ i 0 ≡ getD offsets a 0 + 1 = ap (λ (j : ℕ). getD offsets′ j 0) (eqb-true i a t) ∙ r .more in omega (arith, most a))
+    (λ t. omega (arith, most i, r .others i (eqb-false i a t)))
+
+module _ (script kinds starts : List ℕ) (weight spent : ℕ) (s : State) (f : Closure) (R : Represents script kinds starts weight spent s f) (a t : ℕ) (s′ : State) where
+  abbrev σ : Bindings
+  σ = boundIn script s
+
+  abbrev k : ℕ → List ℕ
+  k = bodyIn (s .kids)
+
+  abbrev k′ : ℕ → List ℕ
+  k′ = bodyIn (s′ .kids)
+
+  abbrev w : ℕ → ClosureHead
+  w = heads script kinds starts (s .offsets)
+
+  abbrev at : ℕ → ℕ
+  at i = place σ i f
+
+  abbrev w′ : ℕ → ClosureHead
+  w′ = heads script kinds starts (s′ .offsets)
+
+  abbrev holds : Stands k w f
+  holds = record { top = R .top; held = R .held; once = R .once; low = R .inside }
+
+  -- s′ stands for what the move (a, t) makes of the closure, before it is settled
+  abbrev pub Made : ℕ → Bindings → Type 0
+  Made spent′ news = After script kinds starts weight spent s f R t (moveHere (under σ) a t) (here-needs σ a t) spent′ s′ news
+
+  -- a move that is made in the body of b, whatever its kind
+  by-change : (b : ℕ) (S : Spot σ k w f a t b) (n : Moved Action) → moveHere (under σ) a t (S .here) ≡ some n
+      → (Shrinks (S .here) n → Change σ k w t (moveHere (under σ) a t) (here-needs σ a t) b (S .here) k′ w′ n) → (spent′ : ℕ) → s′ .bindings .first + length (n .news) ≡ s .bindings .first
+      → ((i : ℕ) → getD (s′ .offsets) i 0 ≤ spent′) → Made spent′ (n .news)
+  by-change b S n e C spent′ bound most =
+      let less : Shrinks (S .here) n = shrinks σ a t (S .here) n (here-inv (under σ) a t (S .here) n e) in
+      after script kinds starts weight spent s f R t (moveHere (under σ) a t) (here-needs σ a t) b S n e less spent′ s′ (C less) bound most
+
+  module _ (raised : Raised (s .offsets) (s′ .offsets) a) (bound : s′ .bindings .first ≡ s .bindings .first) where
+    abbrev spends : Spent σ w w′ a
+    spends = raised-spent σ script kinds starts (s .offsets) (s′ .offsets) a raised
+
+    abbrev most : (i : ℕ) → getD (s′ .offsets) i 0 ≤ spent + 1
+    most = raised-most (s .offsets) (s′ .offsets) a spent raised (R .spends)
+
+    -- THEOREM: OPEN. The target goes, its body stays where the actor stands.
+    pub open-made : canOpen σ k w (λ i. place σ i f) a t ≡ true → (p : ℕ) → place σ a f ≡ p → Replaced k k′ p (join (k t) (remove t (k p))) → Made (spent + 1) []
+    open-made e p q C =
+        let (S, i, two, made) = open-at σ k w f holds a t e in
+        let D : Replaced k k′ (at a) (join (k t) (remove t (k (at a)))) = subst (λ (b : ℕ). Replaced k k′ b (join (k t) (remove t (k b)))) (sym q) C in
+        by-change (at a) S _ made
+        (λ l. open-change σ k w a t (S .here) (S .held) (S .stands) i (moveHere (under σ) a t) (here-needs σ a t) (at a) (S .body) (S .apart)
+        (once-here σ k w f holds a t (at a) S) k′ w′ (D .others) spends two (D .becomes))
+        (spent + 1) (omega arith) most
+
+    -- THEOREM: IN. The part around the actor goes into the target.
+    pub enter-made : canEnter σ k w (λ i. place σ i f) a t ≡ true → (p q : ℕ) → place σ a f ≡ p → place σ p f ≡ q → Carried k k′ p q t → Made (spent + 1) []
+    enter-made e p q ep eq C =
+        let (S, i, j, two, made) = enter-at σ k w f holds a t e in
+        let D : Carried k k′ (at a) (at (at a)) t = subst (λ (b : ℕ). Carried k k′ b (at b) t) (sym ep) (subst (λ (c : ℕ). Carried k k′ p c t) (sym eq) C) in
+        by-change (at (at a)) S _ made
+        (λ l. enter-change σ k w a t (S .here) (S .held) (S .stands) (at a) i j (once-here σ k w f holds a t (at (at a)) S)
+        (moveHere (under σ) a t) (here-needs σ a t) (at (at a)) (S .body) (S .apart) k′ w′ spends (D .others) two (D .loses) (D .gains))
+        (spent + 1) (omega arith) most
+
+    -- THEOREM: EXIT. The part around the actor comes out of the target, which is around it, and stands beside it.
+    pub exit-made : canExit σ k w (λ i. place σ i f) a t ≡ true → (p b : ℕ) → place σ a f ≡ p → place σ t f ≡ b → Carried k k′ p t b → Made (spent + 1) []
+    exit-made e p b ep eb C =
+        let (S, i, j, made) = exit-at σ k w f holds a t e in
+        let D : Carried k k′ (at a) t (at t) = subst (λ (x : ℕ). Carried k k′ x t (at t)) (sym ep) (subst (λ (y : ℕ). Carried k k′ p t y) (sym eb) C) in
+        by-change (at t) S _ made
+        (λ l. exit-change σ k w a t (S .here) (S .held) (S .stands) (at a) i j (once-here σ k w f holds a t (at t) S)
+        (moveHere (under σ) a t) (here-needs σ a t) (at t) (S .body) (S .apart) k′ w′ spends (D .others) (D .loses) (D .gains))
+        (spent + 1) (omega arith) most
+
+  -- THEOREM: the receipt. Both go, the receipt's body stands there, and its variable is bound to the message.
+  pub receive-made : canReceive σ k w (λ i. place σ i f) a t ≡ true → ((i : ℕ) → getD (s .offsets) i 0 ≡ getD (s′ .offsets) i 0) → s′ .bindings .first + 1 ≡ s .bindings .first
+      → (v : ℕ) (m : Message) → w a ≡ receipt v → w t ≡ output m → (p : ℕ) → place σ a f ≡ p → Replaced k k′ p (join (k a) (remove t (remove a (k p))))
+      → (spent′ : ℕ) → spent ≤ spent′ → Made spent′ ((v, m) ∷ [])
+  receive-made e alike bound v m ea et p q C spent′ l =
+      let (S, i, made) = receive-at σ k w f holds a t e v m ea et in
+      let D : Replaced k k′ (at a) (join (k a) (remove t (remove a (k (at a))))) = subst (λ (b : ℕ). Replaced k k′ b (join (k a) (remove t (remove a (k b))))) (sym q) C in
+      by-change (at a) S _ made
+      (λ less. receive-change σ k w a t (S .here) (S .held) (S .stands) i (moveHere (under σ) a t) (here-needs σ a t) (at a) (S .body) (S .apart)
+      (once-here σ k w f holds a t (at a) S) k′ w′ (D .others) v m less (D .becomes) (λ j. ap (headOf script (getD kinds j 0) (getD starts j 0)) (alike j)))
+      spent′ (omega arith) (λ j. omega (arith, alike j, R .spends j))

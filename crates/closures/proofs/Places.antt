@@ -1,0 +1,232 @@
+-- The part in whose body a part stands, by the sets: a part stands in the body of the top, or of a named ambient that
+-- itself stands somewhere, and its place is then that body's number. Assumes nothing.
+use Prim.Native.Nat.{ℕ, _+_, _≤_, _<_}
+use mathlib.Core.Bool.{Bool, true, false, _||_, cond, true≢false}
+use mathlib.Core.List.{List}
+use mathlib.Core.Logic.{_⊎_, inl, inr}
+use mathlib.Core.Path.{_≡_, refl, sym, ap, _∙_, subst}
+use native.Mathlib.Omega.{arith}
+use lib.Dec.{eqb, ltb}
+use borrow.Author.Tests.{eqb-true, eq-eqb, ltb-true, ltb-false, lt-ltb, le-ltb}
+use Rattle.sets.specs.Sets.{elem}
+use Rattle.scripts.specs.Tree.{close, part, one, tops, sum, count}
+use Rattle.scripts.specs.Represents.{Held}
+use Rattle.machine.specs.Moves.{isNamed, headName}
+use Rattle.machine.proofs.Options.{byTest}
+use Rattle.closures.specs.Closure.{ClosureHead, Closure, Bindings, under}
+use Rattle.closures.specs.Searches.{firstPlace, placeBelow, place}
+use Rattle.closures.proofs.Holding.{self, in-count, not-in}
+
+abbrev named : Bindings → ClosureHead → Type 0
+named σ h = isNamed (headName (under σ) h) ≡ true
+
+-- x stands in the body of b, and b is a named ambient of the closure or of named ambients inside it
+data Inside (σ : Bindings) (x : ℕ) : (b : ℕ) → Closure → Type 0 where
+  directly : {i : ℕ} {h : ClosureHead} {s r : Closure} → named σ h → elem x (tops s) ≡ true → Inside σ x i (part i h s r)
+  deeper : {b i : ℕ} {h : ClosureHead} {s r : Closure} → named σ h → Inside σ x b s → Inside σ x b (part i h s r)
+  beside : {b i : ℕ} {h : ClosureHead} {s r : Closure} → Inside σ x b r → Inside σ x b (part i h s r)
+
+-- ---- counting
+
+inside-count : (σ : Bindings) (x b : ℕ) {f : Closure} → Inside σ x b f → (1 ≤ count x f) × (1 ≤ count b f)
+unfolding sum
+inside-count σ x b (directly {s = s} n e) = (omega (arith, in-count x s e), omega (arith, self b))
+inside-count σ x b (deeper n p) = let c = inside-count σ x b p in (omega (arith, c .0), omega (arith, c .1))
+inside-count σ x b (beside p) = let c = inside-count σ x b p in (omega (arith, c .0), omega (arith, c .1))
+
+-- what stands inside stands not at the top too, where no number stands twice
+inside-only : (σ : Bindings) (x b : ℕ) {f : Closure} → Inside σ x b f → count x f ≤ 1 → elem x (tops f) ≡ false
+unfolding sum tops elem
+inside-only σ x b (directly {i = i} {s = s} {r = r} n e) m = byTest (eqb x i)
+    (λ t. absurd (let z : ⊥ = omega (arith, in-count x s e, rw t at m) in z))
+    (λ t. rw t (not-in x r (omega (arith, in-count x s e))))
+inside-only σ x b (deeper {i = i} {s = s} {r = r} n p) m = byTest (eqb x i)
+    (λ t. absurd (let z : ⊥ = omega (arith, inside-count σ x b p .0, rw t at m) in z))
+    (λ t. rw t (not-in x r (omega (arith, inside-count σ x b p .0))))
+inside-only σ x b (beside {i = i} {s = s} {r = r} p) m = byTest (eqb x i)
+    (λ t. absurd (let z : ⊥ = omega (arith, inside-count σ x b p .0, rw t at m) in z))
+    (λ t. rw t (inside-only σ x b p (omega arith)))
+
+-- ---- the place is where it stands
+
+nowhere : (σ : Bindings) (x : ℕ) (f : Closure) → count x f ≡ 0 → placeBelow σ x f ≡ 65
+unfolding sum placeBelow
+nowhere σ x close e = refl
+nowhere σ x (part i h s r) e =
+    go (isNamed (headName (under σ) h)) (not-in x s (omega arith)) (nowhere σ x s (omega arith)) (nowhere σ x r (omega arith))
+  where
+    go : (u : Bool) → elem x (tops s) ≡ false → placeBelow σ x s ≡ 65 → placeBelow σ x r ≡ 65
+        → firstPlace (cond u (cond (elem x (tops s)) i (placeBelow σ x s)) 65) (placeBelow σ x r) ≡ 65
+    go true a b c = rw (a, b, c)
+    go false a b c = rw c
+
+first-most : (p q : ℕ) → q ≤ 65 → firstPlace p q ≤ 65
+first-most p q l = byTest (ltb p 65) (λ t. rw t (let m : p < 65 = ltb-true p 65 t in omega arith)) (λ t. rw t l)
+
+most-below : (σ : Bindings) (x : ℕ) (f : Closure) → placeBelow σ x f ≤ 65
+unfolding placeBelow
+most-below σ x close = omega arith
+most-below σ x (part i h s r) = first-most (cond (isNamed (headName (under σ) h)) (cond (elem x (tops s)) i (placeBelow σ x s)) 65) (placeBelow σ x r) (most-below σ x r)
+
+place-most : (σ : Bindings) (x : ℕ) (f : Closure) → place σ x f ≤ 65
+unfolding place
+place-most σ x f = byTest (elem x (tops f)) (λ e. rw e (omega arith)) (λ e. rw e (most-below σ x f))
+
+below : (b : ℕ) (f : Closure) → ((j : ℕ) → 64 ≤ j → count j f ≡ 0) → 1 ≤ count b f → b < 64
+below b f low m = byTest (ltb b 64) (λ u. ltb-true b 64 u) (λ u. absurd (let z : ⊥ = omega (arith, low b (ltb-false b 64 u)) in z))
+
+module _ (σ : Bindings) (x : ℕ) where
+  inside-place : (b : ℕ) {f : Closure} → Inside σ x b f → count x f ≤ 1 → ((j : ℕ) → 64 ≤ j → count j f ≡ 0) → placeBelow σ x f ≡ b
+  unfolding sum placeBelow
+  inside-place b (directly {i = i} {h = h} {s = s} {r = r} n e) m low =
+      rw (n, e, lt-ltb i 65 (let l : i < 64 = below i (part i h s r) low (omega (arith, self i)) in omega arith))
+  inside-place b (deeper {i = i} {h = h} {s = s} {r = r} n p) m low =
+      let c = inside-count σ x b p in
+      let q = inside-place b p (omega arith) (λ j l. omega (arith, low j l)) in
+      let l : b < 64 = below b (part i h s r) low (omega (arith, c .1)) in
+      rw (n, inside-only σ x b p (omega arith), q, lt-ltb b 65 (omega arith))
+  inside-place b (beside {i = i} {h = h} {s = s} {r = r} p) m low =
+      let c = inside-count σ x b p in
+      go (isNamed (headName (under σ) h)) (not-in x s (omega (arith, c .0))) (nowhere σ x s (omega (arith, c .0)))
+      (inside-place b p (omega arith) (λ j l. omega (arith, low j l)))
+    where
+      go : (u : Bool) → elem x (tops s) ≡ false → placeBelow σ x s ≡ 65 → placeBelow σ x r ≡ b
+          → firstPlace (cond u (cond (elem x (tops s)) i (placeBelow σ x s)) 65) (placeBelow σ x r) ≡ b
+      go true y z q = rw (y, z) q
+      go false y z q = q
+
+  place-inside : (f : Closure) → placeBelow σ x f < 65 → Inside σ x (placeBelow σ x f) f
+  unfolding placeBelow
+  place-inside close l = absurd (let z : ⊥ = omega arith in z)
+  place-inside (part i h s r) l = byTest (isNamed (headName (under σ) h))
+      (λ n. byTest (elem x (tops s))
+      (λ e. byTest (ltb i 65)
+      (λ u. rw (n, e, u) (directly n e))
+      (λ u. rw (n, e, u) (beside (place-inside r (rw (n, e, u) at l)))))
+      (λ e. byTest (ltb (placeBelow σ x s) 65)
+      (λ u. rw (n, e, u) (deeper n (place-inside s (ltb-true (placeBelow σ x s) 65 u))))
+      (λ u. rw (n, e, u) (beside (place-inside r (rw (n, e, u) at l))))))
+      (λ n. rw n (beside (place-inside r (rw n at l))))
+
+-- ---- the bodies that hold a part
+
+module _ (σ : Bindings) (k : ℕ → List ℕ) (w : ℕ → ClosureHead) where
+  inside-held : (x b : ℕ) {f : Closure} → Inside σ x b f → Held k w f → (elem x (k b) ≡ true) × named σ (w b)
+  inside-held x b (directly n e) p = (ap (elem x) (p .0) ∙ e, ap (λ (h : ClosureHead). isNamed (headName (under σ) h)) (p .1) ∙ n)
+  inside-held x b (deeper n q) p = inside-held x b q (p .2)
+  inside-held x b (beside q) p = inside-held x b q (p .3)
+
+  -- what stands in the body of a named ambient of the closure
+  from-top : (x b : ℕ) (f : Closure) → Held k w f → elem b (tops f) ≡ true → named σ (w b) → elem x (k b) ≡ true → Inside σ x b f
+  unfolding tops elem
+  from-top x b close p e n m = absurd (true≢false (sym e))
+  from-top x b (part i h s r) p e n m = byTest (eqb b i)
+      (λ t.
+      let q : b ≡ i = eqb-true b i t in
+      subst (λ (j : ℕ). Inside σ x j (part i h s r)) (sym q)
+      (directly (ap (λ (g : ClosureHead). isNamed (headName (under σ) g)) (sym (p .1) ∙ ap w (sym q)) ∙ n) (ap (elem x) (sym (p .0) ∙ ap k (sym q)) ∙ m)))
+      (λ t. beside (from-top x b r (p .3) (rw t at e) n m))
+
+  from-inside : (x b c : ℕ) {f : Closure} → Inside σ b c f → Held k w f → named σ (w b) → elem x (k b) ≡ true → Inside σ x b f
+  from-inside x b c (directly {s = s} u e) p n m = deeper u (from-top x b s (p .2) e n m)
+  from-inside x b c (deeper u q) p n m = deeper u (from-inside x b c q (p .2) n m)
+  from-inside x b c (beside q) p n m = beside (from-inside x b c q (p .3) n m)
+
+-- the body around is itself an own part of the closure, or stands inside one
+around : (σ : Bindings) (x b : ℕ) {f : Closure} → Inside σ x b f → (elem b (tops f) ≡ true) ⊎ ((c : ℕ) × Inside σ b c f)
+unfolding tops elem
+around σ x b (directly {r = r} n e) = inl (ap (λ (u : Bool). u || elem b (tops r)) (eq-eqb b b refl))
+around σ x b (deeper {i = i} n p) = inr (elim (around σ x b p) [ inl e ↦ (i, directly n e) | inr q ↦ (q .0, deeper n (q .1)) ])
+around σ x b (beside {i = i} {r = r} p) = elim (around σ x b p) [
+  | inl e ↦ inl (byTest (eqb b i) (λ t. rw t) (λ t. rw t e))
+  | inr q ↦ inr (q .0, beside (q .1))
+]
+
+-- ---- from the top
+
+-- b is the number of a body in which moves are made: the top's, or that of a named ambient which stands somewhere
+abbrev pub Active : (σ : Bindings) (w : ℕ → ClosureHead) (at : ℕ → ℕ) → ℕ → Type 0
+Active σ w at b = (b ≡ 64) ⊎ ((b < 64) × (at b < 65) × named σ (w b))
+
+-- the sets and heads hold the closure, its own parts being those of number 64's body, and no number stands in it twice
+pub record Stands (k : ℕ → List ℕ) (w : ℕ → ClosureHead) (f : Closure) : Type 0 where
+  pub top : k 64 ≡ tops f
+  pub held : Held k w f
+  pub once : (j : ℕ) → count j f ≤ 1
+  pub low : (j : ℕ) → 64 ≤ j → count j f ≡ 0
+
+module _ (σ : Bindings) (k : ℕ → List ℕ) (w : ℕ → ClosureHead) (f : Closure) (Q : Stands k w f) where
+  abbrev at : ℕ → ℕ
+  at i = place σ i f
+
+  at-top : (x : ℕ) → elem x (tops f) ≡ true → at x ≡ 64
+  unfolding place
+  at-top x e = rw e
+
+  at-inside : (x b : ℕ) → Inside σ x b f → at x ≡ b
+  unfolding place
+  at-inside x b p = rw (inside-only σ x b p (Q .once x)) (inside-place σ x b p (Q .once x) (Q .low))
+
+  -- a part that has a place, at the top or inside
+  placed : (x : ℕ) → at x < 65 → ((at x ≡ 64) × (elem x (tops f) ≡ true)) ⊎ Inside σ x (at x) f
+  unfolding place
+  placed x l = byTest (elem x (tops f)) (λ e. rw e (inl (refl, refl))) (λ e. rw e (inr (place-inside σ x f (rw e at l))))
+
+  -- only parts have a place
+  pub place-low : (x : ℕ) → place σ x f < 65 → x < 64
+  place-low x l = below x f (Q .low) (elim (placed x l) [ inl z ↦ in-count x f (z .1) | inr p ↦ inside-count σ x (at x) p .0 ])
+
+  -- THEOREM: what stands in an active body has that body's number for its place.
+  pub place-of : (b x : ℕ) → Active σ w (λ i. place σ i f) b → elem x (k b) ≡ true → place σ x f ≡ b
+  place-of b x (inl e) m = at-top x (ap (elem x) (sym (Q .top)) ∙ ap (λ (j : ℕ). elem x (k j)) (sym e) ∙ m) ∙ sym e
+  place-of b x (inr c) m = elim (placed b (c .1)) [
+    | inl z ↦ at-inside x b (from-top σ k w x b f (Q .held) (z .1) (c .2) m)
+    | inr p ↦ at-inside x b (from-inside σ k w x b (at b) p (Q .held) (c .2) m)
+  ]
+
+  -- THEOREM: a part that has a place stands in its body, and that body is active.
+  pub place-active : (x b : ℕ) → place σ x f ≡ b → b < 65 → (elem x (k b) ≡ true) × Active σ w (λ i. place σ i f) b
+  place-active x b e l = subst (λ (j : ℕ). (elem x (k j) ≡ true) × Active σ w at j) e (by-place (placed x (omega arith)))
+    where
+      stands : Inside σ x (at x) f → at (at x) < 65
+      stands p = elim (around σ x (at x) p) [
+        | inl d ↦ omega (arith, at-top (at x) d)
+        | inr q ↦ omega (arith, at-inside (at x) (q .0) (q .1), below (q .0) f (Q .low) (inside-count σ (at x) (q .0) (q .1) .1))
+      ]
+
+      by-place : ((at x ≡ 64) × (elem x (tops f) ≡ true)) ⊎ Inside σ x (at x) f → (elem x (k (at x)) ≡ true) × Active σ w at (at x)
+      by-place (inl z) = (ap (λ (j : ℕ). elem x (k j)) (z .0) ∙ ap (elem x) (Q .top) ∙ z .1, inl (z .0))
+      by-place (inr p) =
+          let h = inside-held σ k w x (at x) p (Q .held) in
+          (h .0, inr (below (at x) f (Q .low) (inside-count σ x (at x) p .1), stands p, h .1))
+
+  -- ---- all places at once: handed on from each active body to what stands in it
+
+  module _ (P : ℕ → ℕ) (onward : (b x : ℕ) → b < 64 → P b < 65 → named σ (w b) → elem x (k b) ≡ true → P x ≡ b) where
+    reached : (x b : ℕ) {g : Closure} → Inside σ x b g → Held k w g → ((j : ℕ) → 64 ≤ j → count j g ≡ 0) → ((y : ℕ) → elem y (tops g) ≡ true → P y < 65) → P x ≡ b
+    unfolding sum tops elem
+    reached x b (directly {i = i} {h = h} {s = s} {r = r} n e) p l u =
+        onward i x (below i (part i h s r) l (omega (arith, self i))) (u i (ap (λ (v : Bool). v || elem i (tops r)) (eq-eqb i i refl)))
+        (ap (λ (c : ClosureHead). isNamed (headName (under σ) c)) (p .1) ∙ n) (ap (elem x) (p .0) ∙ e)
+    reached x b (deeper {i = i} {h = h} {s = s} {r = r} n q) p l u =
+        let small : i < 64 = below i (part i h s r) l (omega (arith, self i)) in
+        let own : P i < 65 = u i (ap (λ (v : Bool). v || elem i (tops r)) (eq-eqb i i refl)) in
+        let has-name : named σ (w i) = ap (λ (c : ClosureHead). isNamed (headName (under σ) c)) (p .1) ∙ n in
+        reached x b q (p .2) (λ j m. omega (arith, l j m)) (λ y e. omega (arith, onward i y small own has-name (ap (elem y) (p .0) ∙ e)))
+    reached x b (beside {i = i} q) p l u =
+        reached x b q (p .3) (λ j m. omega (arith, l j m)) (λ y e. u y (byTest (eqb y i) (λ v. rw v) (λ v. rw v e)))
+
+    -- THEOREM: places that are right where they are given, and that no active body leaves out, are all right.
+    pub places-are : ((x : ℕ) → P x ≤ 65) → ((x : ℕ) → P x < 65 → P x ≡ place σ x f) → ((x : ℕ) → elem x (k 64) ≡ true → P x ≡ 64) → (x : ℕ) → P x ≡ place σ x f
+    places-are most right first x = byTest (ltb (at x) 65)
+        (λ t. found (placed x (ltb-true (at x) 65 t)))
+        (λ t. byTest (ltb (P x) 65)
+        (λ u. right x (ltb-true (P x) 65 u))
+        (λ u. omega (arith, most x, place-most σ x f, ltb-false (at x) 65 t, ltb-false (P x) 65 u)))
+      where
+        on-top : (y : ℕ) → elem y (tops f) ≡ true → P y ≡ 64
+        on-top y e = first y (ap (elem y) (Q .top) ∙ e)
+
+        found : ((at x ≡ 64) × (elem x (tops f) ≡ true)) ⊎ Inside σ x (at x) f → P x ≡ at x
+        found (inl z) = on-top x (z .1) ∙ sym (z .0)
+        found (inr p) = reached x (at x) p (Q .held) (Q .low) (λ y e. omega (arith, on-top y e))
