@@ -10,6 +10,7 @@ use Rattle.scripts.specs.Tree.{close, part, tops, parts, count}
 use Rattle.scripts.specs.Represents.{Held}
 use Rattle.machine.specs.Moves.{isNamed, headName}
 use Rattle.closures.specs.Closure.{ClosureHead, Closure, Bindings, under, settleUnder}
+use Rattle.closures.specs.Seen.{Busy, Ambients}
 
 -- the first place, or where it is 65 the second
 abbrev pub firstPlace : ℕ → ℕ → ℕ
@@ -36,6 +37,11 @@ abbrev pub Settles : Bindings → (bodies after : ℕ → List ℕ) (heads : ℕ
 Settles σ bodies after heads left r fuel =
     (b : Closure) → left ≡ tops b → Held bodies heads b → ((j : ℕ) → count j b ≤ 1) → parts b ≤ fuel
     → (r ≡ tops (settleUnder σ b)) × Held after heads (settleUnder σ b) × ((j : ℕ) → count j b ≡ 0 → bodies j ≡ after j)
+
+-- the same for all heads and bindings of which `busy` has the parts at which settling looks, and kinds the ambients
+abbrev pub SettlesBy : (busy kinds : List ℕ) (bodies after : ℕ → List ℕ) (left r : List ℕ) (fuel : ℕ) → Type 0
+SettlesBy busy kinds bodies after left r fuel =
+    (σ : Bindings) (heads : ℕ → ClosureHead) → Busy σ heads busy → Ambients heads kinds → Settles σ bodies after heads left r fuel
 
 -- To unfold this is to unfold every definition of this module: for a proof by computation.
 unfoldable pub computing : Unit {0}

@@ -11,7 +11,7 @@ use Rattle.messages.specs.declared.Named.the-variants.{Called, Nameless}
 use Rattle.messages.specs.declared.First.{First}
 use Rattle.messages.specs.declared.First.the-variants.{Nothing, Enter, Exit, Open, Other}
 use Rattle.sets.specs.Sets.{members, elem}
-use Rattle.scripts.specs.Tree.{Head, ambient, action, receipt, output}
+use Rattle.scripts.specs.Tree.{Head, ambient, action, receipt, output, isAmbient}
 use Rattle.machine.specs.Moves.{sameName, headName, firstOf}
 use Rattle.closures.specs.Closure.{ClosureHead, Bindings, under, allSpent}
 use Rattle.closures.specs.declared.Looks.{Looks}
@@ -96,6 +96,13 @@ kept l i = record { act = getD (l .acts) i 0; aim = getD (l .aims) i 0; busy = e
 pub record Seen (σ : Bindings) (w : ℕ → ClosureHead) (l : Looks) : Type 0 where
   pub names : (i : ℕ) → i < 64 → nameIn (l .named) (l .names) i ≡ headName (under σ) (w i)
   pub deeds : (i : ℕ) → i < 64 → Does σ w (w i) (kept l i)
+
+-- l has the parts at which settling looks, and kinds says which of them are ambients
+abbrev pub Busy : Bindings → (ℕ → ClosureHead) → List ℕ → Type 0
+Busy σ w l = (i : ℕ) → i < 64 → elem i l ≡ busyUnder σ (w i)
+
+abbrev pub Ambients : (ℕ → ClosureHead) → (kinds : List ℕ) → Type 0
+Ambients w kinds = (i : ℕ) → i < 64 → eqb (getD kinds i 0) 1 ≡ isAmbient (w i)
 
 -- To unfold this is to unfold every definition of this module: for a proof by computation.
 unfoldable pub computing : Unit {0}

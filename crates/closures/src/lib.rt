@@ -21,6 +21,7 @@ ghost use Rattle.bindings.specs.Resolve.{bindingsIn};
 ghost use Rattle.bindings.specs.Measures.{Kept, itemCount};
 ghost use Rattle.machine.specs.Moves.{isThat, sameName, headName, firstOf};
 ghost use Rattle.closures.specs.Closure.{ClosureHead, Closure, under, settleUnder, closureOf};
+ghost use Rattle.closures.specs.Searches.{SettlesBy};
 ghost use Rattle.closures.specs.Represents.{headOf, heads, boundIn, Ready, Represents};
 ghost use Rattle.closures.specs.Seen.{nameIn, actOf, aimOf, busyOf, isOutput, Does, kept, Seen};
 
@@ -325,4 +326,39 @@ fn look<'a>(
         i += 1;
     }
     l
+}
+
+// What becomes of the parts of left when they are settled: an action with no items left goes, and its body comes in its
+// place; in the bodies of ambients too, which kids then holds. Where none of them is busy, nothing changes.
+fn settle_below<'a, 'b>(
+    kids: &'b mut [u64; 65],
+    kinds: &'a [u8; 64],
+    busy: u64,
+    left: u64,
+    fuel: usize,
+) -> u64
+    requires { ⌜ length (now kids) ≡ 65 ⌝ }
+    ensures kept { λ r. ⌜ length (now (kids .exit)) ≡ 65 ⌝ }
+    ensures settled { λ r. ⌜ SettlesBy (members busy) (now (kinds .entry)) (bodyIn (now (kids .entry))) (bodyIn (now (kids .exit))) (members left) (members r) fuel ⌝ }
+{
+    if sets::intersection(left, busy) == 0 {
+        return left;
+    }
+    if fuel == 0 {
+        return 0;
+    }
+    let i = sets::first(left);
+    let others = sets::rest(left);
+    let rest = settle_below(kids, kinds, busy, others, fuel - 1);
+    if sets::has(busy, i) {
+        let inside = kids[i];
+        let s = settle_below(kids, kinds, busy, inside, fuel - 1);
+        let kind = kinds[i];
+        if kind == 1 {
+            kids[i] = s;
+            return sets::with(rest, i);
+        }
+        return sets::union(s, rest);
+    }
+    sets::with(rest, i)
 }
