@@ -1,41 +1,35 @@
 -- Where each of the four moves is made: the test of its kind gives the body in which its target stands, and there it is that
 -- move and no other, since the actor is one thing and has one first item. Assumes nothing.
-use Prim.Native.Nat.{ℕ, _+_, _≤_, _<_}
+use Prim.Native.Nat.{ℕ, _≤_, _<_}
 use mathlib.Core.Bool.{Bool, true, false, not, _&&_, true≢false}
 use mathlib.Core.List.{List}
 use mathlib.Core.Logic.{_⊎_, inl, inr}
-use mathlib.Core.Option.{Option, none, some}
+use mathlib.Core.Option.{none, some}
 use mathlib.Core.Path.{_≡_, refl, sym, ap, _∙_, subst}
 use native.Mathlib.Omega.{arith}
 use lib.Dec.{eqb, ltb}
 use borrow.Author.Tests.{eqb-true, eqb-false, ne-eqb, ltb-true, not-true}
 use Rattle.messages.specs.Message.{Message}
-use Rattle.messages.specs.declared.First.{First}
-use Rattle.messages.specs.declared.First.the-variants.{Nothing, Enter, Exit}
-use Rattle.messages.specs.declared.Named.{Named}
-use Rattle.messages.specs.declared.Named.the-variants.{Called, Nameless}
+use Rattle.messages.specs.declared.First.the-variants.{Enter, Exit}
+use Rattle.messages.specs.declared.Named.the-variants.{Called}
 use Rattle.sets.specs.Sets.{elem}
-use Rattle.scripts.specs.Tree.{ambient, action, receipt, output, one, tops, count}
+use Rattle.scripts.specs.Tree.{receipt, output, one, tops, count}
 use Rattle.machine.specs.Bodies.{orElse}
-use Rattle.machine.specs.Moves.{Moved, isNamed, sameName, toEnter, toExit, toOpen, variableOf, messageOf, headName, firstOf, openMove, receiveMove, enterMove, exitMove, moveHere, anywhere}
-use Rattle.machine.proofs.Inversion.{sameName-inv, toEnter-inv, toExit-inv, variableOf-inv, messageOf-inv}
+use Rattle.machine.specs.Moves.{Moved, isNamed, toEnter, toExit, toOpen, headName, firstOf, openMove, receiveMove, enterMove, exitMove, moveHere, anywhere}
+use Rattle.machine.proofs.Inversion.{sameName-inv, toEnter-inv, toExit-inv}
 use Rattle.machine.proofs.Options.{and-inv}
 use Rattle.closures.specs.Closure.{Action, ClosureHead, Closure, Bindings, under}
 use Rattle.closures.specs.Searches.{place}
-use Rattle.closures.specs.Targets.{isSome, mayExit, mayOpen, canOpen, canReceive, canEnter, canExit}
+use Rattle.closures.specs.Targets.{mayExit, mayOpen, canOpen, canReceive, canEnter, canExit}
 use Rattle.closures.proofs.Focus.{Site, site}
 use Rattle.closures.proofs.Places.{Active, Stands, place-of, place-active}
+use Rattle.closures.proofs.Actors.{no-receipt, no-item, not-itself}
 use Rattle.closures.proofs.Opening.{open-needs, receive-needs, opened, open-is, open-never, received, receive-is, receive-never}
 use Rattle.closures.proofs.Entering.{enter-needs, entered, enter-is, enter-never}
 use Rattle.closures.proofs.Leaving.{exit-needs, exited, exit-is}
 
 pub both : {x y : Bool} → x ≡ true → y ≡ true → (x && y) ≡ true
 both d e = rw d e
-
-is-some : {A : Type 0} (o : Option A) → isSome o ≡ true → (x : A) × (o ≡ some x)
-unfolding isSome
-is-some none e = absurd (true≢false (sym e))
-is-some (some x) e = (x, refl)
 
 -- ---- which of the four it is
 
@@ -60,36 +54,6 @@ module _ (σ : Bindings) (a t : ℕ) (b : Closure) where
       → moveHere (under σ) a t b ≡ some n
   unfolding moveHere orElse
   exits n o r i e = rw (o, r, i, e)
-
--- a part with a first item is no receipt
-no-receipt : (σ : Bindings) (h : ClosureHead) (x : First) → firstOf (under σ) h ≡ x → (Nothing ≡ x → ⊥) → variableOf h ≡ none
-unfolding variableOf firstOf
-no-receipt σ (ambient m) x e n = refl
-no-receipt σ (action i) x e n = refl
-no-receipt σ (receipt v) x e n = absurd (n e)
-no-receipt σ (output m) x e n = refl
-
-no-item : (σ : Bindings) (h : ClosureHead) (v : ℕ) → h ≡ receipt v → toOpen (firstOf (under σ) h) ≡ Nameless
-unfolding firstOf toOpen
-no-item σ h v e = rw e
-
--- no part opens itself
-not-itself : (σ : Bindings) (h : ClosureHead) → mayOpen σ h h ≡ false
-unfolding firstOf headName toOpen sameName
-not-itself σ (ambient m) = refl
-not-itself σ (action i) = nameless (toOpen (firstOf (under σ) (action i)))
-  where
-    nameless : (x : Named) → sameName x Nameless ≡ false
-    nameless (Called n) = refl
-    nameless Nameless = refl
-not-itself σ (receipt v) = refl
-not-itself σ (output m) = refl
-
-nothing≢enter : (x : Named) → Nothing ≡ Enter x → ⊥
-nothing≢enter x e = let z : _≡_ {A = ℕ} 0 1 = cc in omega arith
-
-nothing≢exit : (x : Named) → Nothing ≡ Exit x → ⊥
-nothing≢exit x e = let z : _≡_ {A = ℕ} 0 1 = cc in omega arith
 
 -- ---- where each is made
 
@@ -136,7 +100,7 @@ module _ (σ : Bindings) (k : ℕ → List ℕ) (w : ℕ → ClosureHead) (f : C
         let S = sited (at a) (place-of σ k w f Q (at a) t (active a l) m) l in
         (S, ap (elem a) (sym (S .body)) ∙ stands a l)
 
-    pub open-at : canOpen σ k w at a t ≡ true → (S : In (at a)) × (i : elem a (tops (S .here)) ≡ true) × (a ≡ t → ⊥)
+    pub open-at : canOpen σ k w (at a) a t ≡ true → (S : In (at a)) × (i : elem a (tops (S .here)) ≡ true) × (a ≡ t → ⊥)
         × (moveHere (under σ) a t (S .here) ≡ some (opened σ k w a t (S .here) (S .held) (S .stands) i))
     unfolding canOpen
     open-at e =
@@ -146,20 +110,9 @@ module _ (σ : Bindings) (k : ℕ → List ℕ) (w : ℕ → ClosureHead) (f : C
         let two : a ≡ t → ⊥ = λ z. true≢false (sym n ∙ ap (λ (x : ℕ). mayOpen σ (w a) (w x)) (sym z) ∙ not-itself σ (w a)) in
         (S, i, two, opens σ a t (S .here) (opened σ k w a t (S .here) (S .held) (S .stands) i) (open-is σ k w a t (S .here) (S .held) (S .stands) i n))
 
-    -- what is received
-    pub receive-what : canReceive σ k w at a t ≡ true → (v : ℕ) × (m : Message) × (w a ≡ receipt v) × (w t ≡ output m)
-    unfolding canReceive
-    receive-what e =
-        let (u, r) = and-inv (ltb (at a) 65) _ e in
-        let (c, n) = and-inv (elem t (k (at a))) _ r in
-        let (x, y) = and-inv (isSome (variableOf (w a))) _ n in
-        let (v, p) = is-some (variableOf (w a)) x in
-        let (m, q) = is-some (messageOf (w t)) y in
-        (v, m, variableOf-inv (w a) v p, messageOf-inv (w t) m q)
-
-    pub receive-at : canReceive σ k w at a t ≡ true → (v : ℕ) (m : Message) → w a ≡ receipt v → w t ≡ output m → (S : In (at a)) × (i : elem a (tops (S .here)) ≡ true)
+    pub receive-at : canReceive σ k w (at a) a t ≡ true → (v : ℕ) (m : Message) → w a ≡ receipt v → w t ≡ output m → (S : In (at a)) × (i : elem a (tops (S .here)) ≡ true)
         × (moveHere (under σ) a t (S .here) ≡ some (received σ k w a t (S .here) (S .held) (S .stands) i v m))
-    unfolding canReceive
+    unfolding canReceive toOpen
     receive-at e v m ea et =
         let (u, r) = and-inv (ltb (at a) 65) _ e in
         let (c, n) = and-inv (elem t (k (at a))) _ r in
@@ -167,11 +120,11 @@ module _ (σ : Bindings) (k : ℕ → List ℕ) (w : ℕ → ClosureHead) (f : C
           S,
           i,
           receives σ a t (S .here) (received σ k w a t (S .here) (S .held) (S .stands) i v m)
-              (open-never σ k w a t (S .here) (S .held) (S .stands) (no-item σ (w a) v ea))
+              (open-never σ k w a t (S .here) (S .held) (S .stands) (ap toOpen (no-item σ (w a) v ea)))
               (receive-is σ k w a t (S .here) (S .held) (S .stands) i v m ea et),
         )
 
-    pub enter-at : canEnter σ k w at a t ≡ true → (S : In (at (at a))) × (i : elem (at a) (tops (S .here)) ≡ true) × (j : elem a (k (at a)) ≡ true) × (at a ≡ t → ⊥)
+    pub enter-at : canEnter σ k w (at a) (at (at a)) a t ≡ true → (S : In (at (at a))) × (i : elem (at a) (tops (S .here)) ≡ true) × (j : elem a (k (at a)) ≡ true) × (at a ≡ t → ⊥)
         × (moveHere (under σ) a t (S .here) ≡ some (entered σ k w a t (S .here) (S .held) (S .stands) (at a) i j))
     unfolding canEnter toOpen
     enter-at e =
@@ -193,11 +146,11 @@ module _ (σ : Bindings) (k : ℕ → List ℕ) (w : ℕ → ClosureHead) (f : C
           two,
           enters σ a t (S .here) (entered σ k w a t (S .here) (S .held) (S .stands) (at a) i j)
               (open-never σ k w a t (S .here) (S .held) (S .stands) (ap toOpen first))
-              (receive-never σ k w a t (S .here) (S .held) (S .stands) (no-receipt σ (w a) (Enter (Called o)) first (nothing≢enter (Called o))))
+              (receive-never σ k w a t (S .here) (S .held) (S .stands) (no-receipt σ (w a) (Enter (Called o)) first refl))
               (enter-is σ k w a t (S .here) (S .held) (S .stands) (at a) i j (once-here (at (at a)) S) (both (ap not (ne-eqb (at a) t two)) (both (ambient-at a l .1) n))),
         )
 
-    pub exit-at : canExit σ k w at a t ≡ true → (S : In (at t)) × (i : elem (at a) (k t) ≡ true) × (j : elem a (k (at a)) ≡ true)
+    pub exit-at : canExit σ k w (at a) (at (at a)) a t ≡ true → (S : In (at t)) × (i : elem (at a) (k t) ≡ true) × (j : elem a (k (at a)) ≡ true)
         × (moveHere (under σ) a t (S .here) ≡ some (exited σ k w a t (S .here) (S .held) (S .stands) (at a) i j))
     unfolding canExit toOpen toEnter
     exit-at e =
@@ -218,7 +171,7 @@ module _ (σ : Bindings) (k : ℕ → List ℕ) (w : ℕ → ClosureHead) (f : C
           j,
           exits σ a t (S .here) (exited σ k w a t (S .here) (S .held) (S .stands) (at a) i j)
               (open-never σ k w a t (S .here) (S .held) (S .stands) (ap toOpen first))
-              (receive-never σ k w a t (S .here) (S .held) (S .stands) (no-receipt σ (w a) (Exit (Called o)) first (nothing≢exit (Called o))))
+              (receive-never σ k w a t (S .here) (S .held) (S .stands) (no-receipt σ (w a) (Exit (Called o)) first refl))
               (enter-never σ k w a t (S .here) (S .held) (S .stands) (once-here (at t) S) (ap toEnter first))
               (exit-is σ k w a t (S .here) (S .held) (S .stands) (at a) i j (once-here (at t) S) (both (ambient-at a l .1) m)),
         )

@@ -1,16 +1,16 @@
 -- EXIT in one body that is held: what the definition makes of it, and the sets and heads that hold it. Assumes nothing.
 use Prim.Native.Nat.{ℕ, _+_, _≤_}
-use mathlib.Core.Bool.{Bool, true, false, _&&_}
+use mathlib.Core.Bool.{true, false, _&&_}
 use mathlib.Core.List.{List}
 use mathlib.Core.Option.{Option, none, some}
-use mathlib.Core.Path.{_≡_, refl, sym, ap, _∙_}
+use mathlib.Core.Path.{_≡_, sym, ap, _∙_}
 use native.Mathlib.Omega.{arith}
 use lib.Dec.{eqb}
 use Rattle.sets.specs.Sets.{elem, insert, remove}
 use Rattle.scripts.specs.Tree.{one, tops, count, put}
 use Rattle.scripts.specs.Represents.{Held}
-use Rattle.machine.specs.Bodies.{_>>=_, check, find, drop, alter}
-use Rattle.machine.specs.Moves.{Moved, quiet, spentHead, spend, isNamed, sameName, toExit, firstOf, headName, exitMove}
+use Rattle.machine.specs.Bodies.{_>>=_, check, drop, alter}
+use Rattle.machine.specs.Moves.{Moved, quiet, spentHead, spend, isNamed, headName, exitMove}
 use Rattle.machine.proofs.Sums.{drop-exact}
 use Rattle.closures.specs.Closure.{Action, ClosureHead, Closure, Bindings, under}
 use Rattle.closures.specs.Targets.{mayExit}

@@ -17,6 +17,7 @@ pub mod Places
 pub mod Spending
 pub mod Entering
 pub mod Leaving
+pub mod Actors
 pub mod Acting
 pub mod Possible
 pub mod Making

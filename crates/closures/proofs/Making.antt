@@ -1,10 +1,10 @@
 -- From a state that represents a closure and a test that holds to the state after the move: how the part sets, the offsets
 -- and the bindings change with each of the four kinds. Assumes nothing.
 use Prim.Native.Nat.{ℕ, _+_, _≤_}
-use mathlib.Core.Bool.{Bool, true, false}
-use mathlib.Core.List.{List, [], _∷_}
+use mathlib.Core.Bool.{true}
+use mathlib.Core.List.{List, [], _∷_, _++_}
 use mathlib.Core.Option.{some}
-use mathlib.Core.Path.{_≡_, refl, sym, ap, _∙_, subst}
+use mathlib.Core.Path.{_≡_, ap, _∙_, subst}
 use native.Mathlib.Omega.{arith}
 use lib.Dec.{eqb}
 use lib.ListN.{getD, length}
@@ -16,7 +16,7 @@ use Rattle.scripts.specs.Represents.{bodyIn}
 use Rattle.machine.specs.Moves.{Moved, moveHere}
 use Rattle.machine.proofs.Inversion.{here-inv}
 use Rattle.machine.proofs.Options.{byTest}
-use Rattle.closures.specs.Closure.{Action, ClosureHead, Closure, Bindings, under}
+use Rattle.closures.specs.Closure.{Action, ClosureHead, Closure, Bindings, under, settleUnder, settledUnder, closureMove}
 use Rattle.closures.specs.Represents.{headOf, heads, boundIn, Represents}
 use Rattle.closures.specs.Searches.{place}
 use Rattle.closures.specs.Targets.{canOpen, canReceive, canEnter, canExit}
@@ -100,43 +100,62 @@ module _ (script kinds starts : List ℕ) (weight spent : ℕ) (s : State) (f : 
     most = raised-most (s .offsets) (s′ .offsets) a spent raised (R .spends)
 
     -- THEOREM: OPEN. The target goes, its body stays where the actor stands.
-    pub open-made : canOpen σ k w (λ i. place σ i f) a t ≡ true → (p : ℕ) → place σ a f ≡ p → Replaced k k′ p (join (k t) (remove t (k p))) → Made (spent + 1) []
-    open-made e p q C =
-        let (S, i, two, made) = open-at σ k w f holds a t e in
-        let D : Replaced k k′ (at a) (join (k t) (remove t (k (at a)))) = subst (λ (b : ℕ). Replaced k k′ b (join (k t) (remove t (k b)))) (sym q) C in
-        by-change (at a) S _ made
-        (λ l. open-change σ k w a t (S .here) (S .held) (S .stands) i (moveHere (under σ) a t) (here-needs σ a t) (at a) (S .body) (S .apart)
-        (once-here σ k w f holds a t (at a) S) k′ w′ (D .others) spends two (D .becomes))
-        (spent + 1) (omega arith) most
+    pub open-made : (p : ℕ) → place σ a f ≡ p → canOpen σ k w p a t ≡ true → Replaced k k′ p (join (k t) (remove t (k p))) → Made (spent + 1) []
+    open-made p ep = subst (λ (x : ℕ). canOpen σ k w x a t ≡ true → Replaced k k′ x (join (k t) (remove t (k x))) → Made (spent + 1) []) ep here
+      where
+        here : canOpen σ k w (at a) a t ≡ true → Replaced k k′ (at a) (join (k t) (remove t (k (at a)))) → Made (spent + 1) []
+        here e C =
+            let (S, i, two, made) = open-at σ k w f holds a t e in
+            by-change (at a) S _ made
+            (λ l. open-change σ k w a t (S .here) (S .held) (S .stands) i (moveHere (under σ) a t) (here-needs σ a t) (at a) (S .body) (S .apart)
+            (once-here σ k w f holds a t (at a) S) k′ w′ (C .others) spends two (C .becomes))
+            (spent + 1) (omega arith) most
 
     -- THEOREM: IN. The part around the actor goes into the target.
-    pub enter-made : canEnter σ k w (λ i. place σ i f) a t ≡ true → (p q : ℕ) → place σ a f ≡ p → place σ p f ≡ q → Carried k k′ p q t → Made (spent + 1) []
-    enter-made e p q ep eq C =
-        let (S, i, j, two, made) = enter-at σ k w f holds a t e in
-        let D : Carried k k′ (at a) (at (at a)) t = subst (λ (b : ℕ). Carried k k′ b (at b) t) (sym ep) (subst (λ (c : ℕ). Carried k k′ p c t) (sym eq) C) in
-        by-change (at (at a)) S _ made
-        (λ l. enter-change σ k w a t (S .here) (S .held) (S .stands) (at a) i j (once-here σ k w f holds a t (at (at a)) S)
-        (moveHere (under σ) a t) (here-needs σ a t) (at (at a)) (S .body) (S .apart) k′ w′ spends (D .others) two (D .loses) (D .gains))
-        (spent + 1) (omega arith) most
+    pub enter-made : (p q : ℕ) → place σ a f ≡ p → place σ p f ≡ q → canEnter σ k w p q a t ≡ true → Carried k k′ p q t → Made (spent + 1) []
+    enter-made p q ep eq =
+        subst (λ (y : ℕ). canEnter σ k w p y a t ≡ true → Carried k k′ p y t → Made (spent + 1) []) eq
+        (subst (λ (x : ℕ). canEnter σ k w x (at x) a t ≡ true → Carried k k′ x (at x) t → Made (spent + 1) []) ep here)
+      where
+        here : canEnter σ k w (at a) (at (at a)) a t ≡ true → Carried k k′ (at a) (at (at a)) t → Made (spent + 1) []
+        here e C =
+            let (S, i, j, two, made) = enter-at σ k w f holds a t e in
+            by-change (at (at a)) S _ made
+            (λ l. enter-change σ k w a t (S .here) (S .held) (S .stands) (at a) i j (once-here σ k w f holds a t (at (at a)) S)
+            (moveHere (under σ) a t) (here-needs σ a t) (at (at a)) (S .body) (S .apart) k′ w′ spends (C .others) two (C .loses) (C .gains))
+            (spent + 1) (omega arith) most
 
     -- THEOREM: EXIT. The part around the actor comes out of the target, which is around it, and stands beside it.
-    pub exit-made : canExit σ k w (λ i. place σ i f) a t ≡ true → (p b : ℕ) → place σ a f ≡ p → place σ t f ≡ b → Carried k k′ p t b → Made (spent + 1) []
-    exit-made e p b ep eb C =
-        let (S, i, j, made) = exit-at σ k w f holds a t e in
-        let D : Carried k k′ (at a) t (at t) = subst (λ (x : ℕ). Carried k k′ x t (at t)) (sym ep) (subst (λ (y : ℕ). Carried k k′ p t y) (sym eb) C) in
-        by-change (at t) S _ made
-        (λ l. exit-change σ k w a t (S .here) (S .held) (S .stands) (at a) i j (once-here σ k w f holds a t (at t) S)
-        (moveHere (under σ) a t) (here-needs σ a t) (at t) (S .body) (S .apart) k′ w′ spends (D .others) (D .loses) (D .gains))
-        (spent + 1) (omega arith) most
+    pub exit-made : (p q b : ℕ) → place σ a f ≡ p → place σ p f ≡ q → place σ t f ≡ b → canExit σ k w p q a t ≡ true → Carried k k′ p t b → Made (spent + 1) []
+    exit-made p q b ep eq eb e C =
+        subst (λ (y : ℕ). canExit σ k w p y a t ≡ true → Carried k k′ p t b → Made (spent + 1) []) eq
+        (subst (λ (x : ℕ). canExit σ k w x (at x) a t ≡ true → Carried k k′ x t b → Made (spent + 1) []) ep
+        (subst (λ (y : ℕ). canExit σ k w (at a) (at (at a)) a t ≡ true → Carried k k′ (at a) t y → Made (spent + 1) []) eb here)) e C
+      where
+        here : canExit σ k w (at a) (at (at a)) a t ≡ true → Carried k k′ (at a) t (at t) → Made (spent + 1) []
+        here d D =
+            let (S, i, j, made) = exit-at σ k w f holds a t d in
+            by-change (at t) S _ made
+            (λ l. exit-change σ k w a t (S .here) (S .held) (S .stands) (at a) i j (once-here σ k w f holds a t (at t) S)
+            (moveHere (under σ) a t) (here-needs σ a t) (at t) (S .body) (S .apart) k′ w′ spends (D .others) (D .loses) (D .gains))
+            (spent + 1) (omega arith) most
 
   -- THEOREM: the receipt. Both go, the receipt's body stands there, and its variable is bound to the message.
-  pub receive-made : canReceive σ k w (λ i. place σ i f) a t ≡ true → ((i : ℕ) → getD (s .offsets) i 0 ≡ getD (s′ .offsets) i 0) → s′ .bindings .first + 1 ≡ s .bindings .first
-      → (v : ℕ) (m : Message) → w a ≡ receipt v → w t ≡ output m → (p : ℕ) → place σ a f ≡ p → Replaced k k′ p (join (k a) (remove t (remove a (k p))))
-      → (spent′ : ℕ) → spent ≤ spent′ → Made spent′ ((v, m) ∷ [])
-  receive-made e alike bound v m ea et p q C spent′ l =
-      let (S, i, made) = receive-at σ k w f holds a t e v m ea et in
-      let D : Replaced k k′ (at a) (join (k a) (remove t (remove a (k (at a))))) = subst (λ (b : ℕ). Replaced k k′ b (join (k a) (remove t (remove a (k b))))) (sym q) C in
-      by-change (at a) S _ made
-      (λ less. receive-change σ k w a t (S .here) (S .held) (S .stands) i (moveHere (under σ) a t) (here-needs σ a t) (at a) (S .body) (S .apart)
-      (once-here σ k w f holds a t (at a) S) k′ w′ (D .others) v m less (D .becomes) (λ j. ap (headOf script (getD kinds j 0) (getD starts j 0)) (alike j)))
-      spent′ (omega arith) (λ j. omega (arith, alike j, R .spends j))
+  pub receive-made : ((i : ℕ) → getD (s .offsets) i 0 ≡ getD (s′ .offsets) i 0) → s′ .bindings .first + 1 ≡ s .bindings .first
+      → (v : ℕ) (m : Message) → w a ≡ receipt v → w t ≡ output m → (p : ℕ) → place σ a f ≡ p → canReceive σ k w p a t ≡ true
+      → Replaced k k′ p (join (k a) (remove t (remove a (k p)))) → (spent′ : ℕ) → spent ≤ spent′ → Made spent′ ((v, m) ∷ [])
+  receive-made alike bound v m ea et p ep e C spent′ l =
+      subst (λ (x : ℕ). canReceive σ k w x a t ≡ true → Replaced k k′ x (join (k a) (remove t (remove a (k x)))) → Made spent′ ((v, m) ∷ [])) ep here e C
+    where
+      here : canReceive σ k w (at a) a t ≡ true → Replaced k k′ (at a) (join (k a) (remove t (remove a (k (at a))))) → Made spent′ ((v, m) ∷ [])
+      here d D =
+          let (S, i, made) = receive-at σ k w f holds a t d v m ea et in
+          by-change (at a) S _ made
+          (λ less. receive-change σ k w a t (S .here) (S .held) (S .stands) i (moveHere (under σ) a t) (here-needs σ a t) (at a) (S .body) (S .apart)
+          (once-here σ k w f holds a t (at a) S) k′ w′ (D .others) v m less (D .becomes) (λ j. ap (headOf script (getD kinds j 0) (getD starts j 0)) (alike j)))
+          spent′ (omega arith) (λ j. omega (arith, alike j, R .spends j))
+
+  -- THEOREM: what the closure machine makes of the move is that, settled.
+  pub move-is : (spent′ : ℕ) (news : Bindings) (M : Made spent′ news) → closureMove σ a t f ≡ some (record { body = settleUnder (news ++ σ) (M .moved .body); news = news })
+  unfolding closureMove settledUnder
+  move-is spent′ news M = ap (settledUnder σ) (M .is) ∙ ap (λ (l : Bindings). some (record { body = settleUnder (l ++ σ) (M .moved .body); news = l })) (M .told)

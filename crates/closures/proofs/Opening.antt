@@ -1,7 +1,7 @@
 -- OPEN and the receipt in one body that is held: what the definitions make of it, and the sets and heads that hold it.
 -- Assumes nothing.
-use Prim.Native.Nat.{ℕ, _+_, _≤_}
-use mathlib.Core.Bool.{Bool, true, false, not, _&&_, _||_, true≢false}
+use Prim.Native.Nat.{ℕ, _≤_}
+use mathlib.Core.Bool.{Bool, true, false, _||_}
 use mathlib.Core.List.{List, [], _∷_}
 use mathlib.Core.Option.{Option, none, some}
 use mathlib.Core.Path.{_≡_, refl, sym, ap, _∙_}
@@ -14,13 +14,13 @@ use Rattle.sets.specs.Sets.{elem, remove, join}
 use Rattle.sets.proofs.Lists.{elem-remove, elem-join}
 use Rattle.scripts.specs.Tree.{receipt, output, one, tops, count, merge}
 use Rattle.scripts.specs.Represents.{Held}
-use Rattle.machine.specs.Bodies.{_>>=_, check, find, drop, alter}
-use Rattle.machine.specs.Moves.{Moved, quiet, variableOf, messageOf, spentHead, spend, sameName, toOpen, firstOf, headName, openMove, receiveMove}
+use Rattle.machine.specs.Bodies.{_>>=_, check, drop}
+use Rattle.machine.specs.Moves.{Moved, quiet, variableOf, messageOf, spentHead, spend, sameName, toOpen, firstOf, openMove, receiveMove}
 use Rattle.machine.proofs.Options.{byTest}
-use Rattle.machine.proofs.Sums.{find-sum, drop-sum, merge-sum}
+use Rattle.machine.proofs.Sums.{find-sum, merge-sum}
 use Rattle.closures.specs.Closure.{Action, ClosureHead, Closure, Bindings, under}
 use Rattle.closures.specs.Targets.{mayOpen}
-use Rattle.closures.proofs.Holding.{self, tops-drop, tops-merge, tops-alter, in-count, differ, frame, held-drop, held-merge, held-alter, Found, found-in, not-found}
+use Rattle.closures.proofs.Holding.{tops-drop, tops-merge, tops-alter, in-count, differ, frame, held-drop, held-merge, Found, found-in, not-found}
 use Rattle.closures.proofs.Focus.{Change}
 use Rattle.closures.proofs.Moving.{Shrinks, fewer}
 use Rattle.closures.proofs.Spending.{Spent, held-spend}

@@ -1,12 +1,11 @@
 -- A closure allows the moves that the tests of its parts name, and no others. Assumes nothing.
-use Prim.Native.Nat.{ℕ, _≤_, _<_}
-use mathlib.Core.Bool.{Bool, true, false, not, _&&_, _||_, true≢false}
+use Prim.Native.Nat.{ℕ, _<_}
+use mathlib.Core.Bool.{Bool, true, false, not, _||_, true≢false}
 use mathlib.Core.List.{List}
 use mathlib.Core.Logic.{_⊎_, inl, inr}
 use mathlib.Core.Option.{Option, none, some}
 use mathlib.Core.Path.{_≡_, refl, sym, ap, _∙_}
 use native.Mathlib.Omega.{arith}
-use lib.Dec.{eqb, ltb}
 use borrow.Author.Tests.{eqb-false, eq-eqb, ne-eqb, lt-ltb}
 use Rattle.messages.specs.Message.{Message}
 use Rattle.messages.specs.declared.Named.{Named}
@@ -18,11 +17,12 @@ use Rattle.machine.proofs.Inversion.{Here, by-open, by-receive, by-enter, by-ex
 use Rattle.machine.proofs.Options.{byTest}
 use Rattle.closures.specs.Closure.{Action, ClosureHead, Closure, Bindings, under, settledUnder, closureMove}
 use Rattle.closures.specs.Searches.{place}
-use Rattle.closures.specs.Targets.{isSome, canOpen, canReceive, canEnter, canExit, canMove}
+use Rattle.closures.specs.Targets.{isSome, canOpen, canReceive, canEnter, canExit, canMoveFrom, canMove}
 use Rattle.closures.proofs.Holding.{found-inv}
 use Rattle.closures.proofs.Focus.{site}
 use Rattle.closures.proofs.Places.{Stands, place-low, place-of}
-use Rattle.closures.proofs.Acting.{both, here-needs, Spot, stands, active, open-at, receive-what, receive-at, enter-at, exit-at}
+use Rattle.closures.proofs.Actors.{receive-what}
+use Rattle.closures.proofs.Acting.{both, here-needs, Spot, stands, active, open-at, receive-at, enter-at, exit-at}
 
 either : (x : Bool) {y : Bool} → (x ≡ false → y ≡ true) → (x || y) ≡ true
 either true f = refl
@@ -53,12 +53,12 @@ module _ (σ : Bindings) (k : ℕ → List ℕ) (w : ℕ → ClosureHead) (f : C
     in-body x e = place-of σ k w f Q (at t) x (active σ k w f Q t placed) (ap (elem x) (S .body) ∙ e)
 
     could : (c : Closure) (news : List (ℕ × Message)) → Here (under σ) a t (S .here) c news → canMove σ k w at a t ≡ true
-    unfolding canMove canOpen canReceive canEnter canExit isSome variableOf messageOf toOpen toEnter toExit
+    unfolding canMove canMoveFrom canOpen canReceive canEnter canExit isSome variableOf messageOf toOpen toEnter toExit
     could c news (by-open x e) =
         let A = found-inv k w a (S .here) (x .after) (x .doer) (S .held) (x .actor) in
         let T = found-inv k w t (S .here) (x .room) (x .goal) (S .held) (x .target) in
         let p : at a ≡ at t = in-body a (A .0) in
-        ap (λ (u : Bool). u || (canReceive σ k w at a t || (canEnter σ k w at a t || canExit σ k w at a t)))
+        ap (λ (u : Bool). u || (canReceive σ k w (at a) a t || (canEnter σ k w (at a) (at (at a)) a t || canExit σ k w (at a) (at (at a)) a t)))
         (both (lt-ltb (at a) 65 (omega arith))
         (both (ap (λ (b : ℕ). elem t (k b)) p ∙ stands σ k w f Q t placed)
         (same-name (x .place) (ap (λ (h : ClosureHead). toOpen (firstOf (under σ) h)) (A .1) ∙ ap toOpen (x .asked)) (ap (headName (under σ)) (T .1) ∙ x .named))))
@@ -66,7 +66,7 @@ module _ (σ : Bindings) (k : ℕ → List ℕ) (w : ℕ → ClosureHead) (f : C
         let A = found-inv k w a (S .here) (x .after) (receipt (x .bound)) (S .held) (x .actor) in
         let T = found-inv k w t (S .here) (x .idle) (output (x .sent)) (S .held) (x .target) in
         let p : at a ≡ at t = in-body a (A .0) in
-        either (canOpen σ k w at a t) (λ z. ap (λ (u : Bool). u || (canEnter σ k w at a t || canExit σ k w at a t))
+        either (canOpen σ k w (at a) a t) (λ z. ap (λ (u : Bool). u || (canEnter σ k w (at a) (at (at a)) a t || canExit σ k w (at a) (at (at a)) a t))
         (both (lt-ltb (at a) 65 (omega arith))
         (both (ap (λ (b : ℕ). elem t (k b)) p ∙ stands σ k w f Q t placed)
         (both (ap (λ (h : ClosureHead). isSome (variableOf h)) (A .1)) (ap (λ (h : ClosureHead). isSome (messageOf h)) (T .1))))))
@@ -79,7 +79,7 @@ module _ (σ : Bindings) (k : ℕ → List ℕ) (w : ℕ → ClosureHead) (f : C
         let r : at (at a) ≡ at t = ap at p ∙ q in
         let small : x .mover < 64 = place-low σ k w f Q (x .mover) (omega arith) in
         let two : t ≡ at a → ⊥ = λ z. eqb-false (x .mover) t (x .another) (sym (z ∙ p)) in
-        either (canOpen σ k w at a t) (λ y. either (canReceive σ k w at a t) (λ z. ap (λ (u : Bool). u || canExit σ k w at a t)
+        either (canOpen σ k w (at a) a t) (λ y. either (canReceive σ k w (at a) a t) (λ z. ap (λ (u : Bool). u || canExit σ k w (at a) (at (at a)) a t)
         (both (lt-ltb (at a) 64 (omega arith))
         (both (lt-ltb (at (at a)) 65 (omega arith))
         (both (ap (λ (b : ℕ). elem t (k b)) r ∙ stands σ k w f Q t placed)
@@ -94,7 +94,7 @@ module _ (σ : Bindings) (k : ℕ → List ℕ) (w : ℕ → ClosureHead) (f : C
         let p : at a ≡ x .mover = within a (x .mover) (x .shell) (x .own) (omega arith) (P .1) (x .shell-named) (ap (elem a) (P .2) ∙ A .0) in
         let r : at (at a) ≡ t = ap at p ∙ q in
         let less : x .mover < 64 = place-low σ k w f Q (x .mover) (omega arith) in
-        either (canOpen σ k w at a t) (λ y. either (canReceive σ k w at a t) (λ z. either (canEnter σ k w at a t) (λ v.
+        either (canOpen σ k w (at a) a t) (λ y. either (canReceive σ k w (at a) a t) (λ z. either (canEnter σ k w (at a) (at (at a)) a t) (λ v.
         both (lt-ltb (at a) 64 (omega arith))
         (both (lt-ltb (at (at a)) 64 (omega arith))
         (both (eq-eqb t (at (at a)) (sym r))
@@ -109,15 +109,15 @@ module _ (σ : Bindings) (k : ℕ → List ℕ) (w : ℕ → ClosureHead) (f : C
   not-made e = ap (λ (o : Option (Moved Action)). isSome (settledUnder σ o)) e
 
   can : canMove σ k w at a t ≡ true → isSome (closureMove σ a t f) ≡ true
-  unfolding canMove
-  can e = byTest (canOpen σ k w at a t)
+  unfolding canMove canMoveFrom
+  can e = byTest (canOpen σ k w (at a) a t)
       (λ u. let x = open-at σ k w f Q a t u in made (at a) (x .0) _ (x .3))
-      (λ u. byTest (canReceive σ k w at a t)
+      (λ u. byTest (canReceive σ k w (at a) a t)
       (λ v.
-      let y = receive-what σ k w f Q a t v in
+      let y = receive-what σ k w (at a) (at (at a)) a t v in
       let x = receive-at σ k w f Q a t v (y .0) (y .1) (y .2) (y .3) in
       made (at a) (x .0) _ (x .2))
-      (λ v. byTest (canEnter σ k w at a t)
+      (λ v. byTest (canEnter σ k w (at a) (at (at a)) a t)
       (λ z. let x = enter-at σ k w f Q a t z in made (at (at a)) (x .0) _ (x .4))
       (λ z. let x = exit-at σ k w f Q a t (rw (u, v, z) at e) in made (at t) (x .0) _ (x .3))))
 

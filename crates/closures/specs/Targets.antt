@@ -25,35 +25,33 @@ mayExit σ h g = sameName (toExit (firstOf (under σ) h)) (headName (under σ) g
 abbrev pub mayOpen : Bindings → (h g : ClosureHead) → Bool
 mayOpen σ h g = sameName (toOpen (firstOf (under σ) h)) (headName (under σ) g)
 
-module _ (σ : Bindings) (bodies : ℕ → List ℕ) (heads : ℕ → ClosureHead) (places : ℕ → ℕ) (actor target : ℕ) where
-  -- the part in whose body the actor stands, and the one in whose body that part stands
-  abbrev around : ℕ
-  around = places actor
-
-  abbrev beyond : ℕ
-  beyond = places around
-
+-- `around` is the part in whose body the actor stands, `beyond` the one in whose body that part stands: below 64 they are
+-- named ambients, for only there a part has a place.
+module _ (σ : Bindings) (bodies : ℕ → List ℕ) (heads : ℕ → ClosureHead) where
   -- "OPEN: the target is an AMB named m in the actor's own body"
-  unfoldable pub canOpen : Bool
-  canOpen = ltb around 65 && (elem target (bodies around) && mayOpen σ (heads actor) (heads target))
+  unfoldable pub canOpen : (around actor target : ℕ) → Bool
+  canOpen p a t = ltb p 65 && (elem t (bodies p) && mayOpen σ (heads a) (heads t))
 
   -- "The actor is a REC, the target an OUT in the same body"
-  unfoldable pub canReceive : Bool
-  canReceive = ltb around 65 && (elem target (bodies around) && (isSome (variableOf (heads actor)) && isSome (messageOf (heads target))))
+  unfoldable pub canReceive : (around actor target : ℕ) → Bool
+  canReceive p a t = ltb p 65 && (elem t (bodies p) && (isSome (variableOf (heads a)) && isSome (messageOf (heads t))))
 
-  -- "IN: the AMB p directly around the actor is named; the target is another AMB named m in the same body as p": a part
-  -- stands in an ambient only where that is named
-  unfoldable pub canEnter : Bool
-  canEnter = ltb around 64 && (ltb beyond 65 && (elem target (bodies beyond) && (not (eqb target around) && mayEnter σ (heads actor) (heads target))))
+  -- "IN: the AMB p directly around the actor is named; the target is another AMB named m in the same body as p"
+  unfoldable pub canEnter : (around beyond actor target : ℕ) → Bool
+  canEnter p q a t = ltb p 64 && (ltb q 65 && (elem t (bodies q) && (not (eqb t p) && mayEnter σ (heads a) (heads t))))
 
   -- "EXIT: the target is the AMB named m directly around p, p named"
-  unfoldable pub canExit : Bool
-  canExit = ltb around 64 && (ltb beyond 64 && (eqb target beyond && mayExit σ (heads actor) (heads beyond)))
+  unfoldable pub canExit : (around beyond actor target : ℕ) → Bool
+  canExit p q a t = ltb p 64 && (ltb q 64 && (eqb t q && mayExit σ (heads a) (heads q)))
 
-  unfoldable pub canMove : Bool
-  canMove = canOpen || (canReceive || (canEnter || canExit))
+  -- "A move is a pair (actor, target)": whether it is one of the four
+  unfoldable pub canMoveFrom : (around beyond actor target : ℕ) → Bool
+  canMoveFrom p q a t = canOpen p a t || (canReceive p a t || (canEnter p q a t || canExit p q a t))
+
+  unfoldable pub canMove : (places : ℕ → ℕ) (actor target : ℕ) → Bool
+  canMove places a t = canMoveFrom (places a) (places (places a)) a t
 
 -- To unfold this is to unfold every definition of this module: for a proof by computation.
 unfoldable pub computing : Unit {0}
-unfolding isSome canOpen canReceive canEnter canExit canMove
+unfolding isSome canOpen canReceive canEnter canExit canMoveFrom canMove
 computing = tt
