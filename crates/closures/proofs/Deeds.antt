@@ -16,11 +16,12 @@ use Rattle.messages.specs.declared.First.the-variants.{Nothing, Enter, Exit, Op
 use Rattle.sets.specs.Sets.{members, elem, insert, remove}
 use Rattle.sets.proofs.Lists.{elem-insert, elem-remove}
 use Rattle.bindings.specs.Resolve.{resolve}
-use Rattle.machine.specs.Moves.{firstOf, headName}
+use Rattle.scripts.specs.Tree.{Head, ambient, action, receipt, output}
+use Rattle.machine.specs.Moves.{sameName, firstOf, headName}
 use Rattle.machine.proofs.Options.{byTest}
-use Rattle.closures.specs.Closure.{ClosureHead, Bindings, itemsLeft, under, allSpent}
-use Rattle.closures.specs.Represents.{headOf}
-use Rattle.closures.specs.Seen.{isNothing, itemAct, itemName, actOf, aimOf, busyOf, isOutput, actUnder, aimUnder, busyUnder, Does, kept}
+use Rattle.closures.specs.Closure.{Action, ClosureHead, Bindings, itemsLeft, under, allSpent}
+use Rattle.closures.specs.Represents.{headOf, heads}
+use Rattle.closures.specs.Seen.{nameIn, isNothing, itemAct, itemName, actOf, aimOf, busyOf, isOutput, actUnder, aimUnder, busyUnder, Does, kept, Seen}
 use Rattle.closures.specs.declared.Looks.{Looks}
 use Rattle.closures.specs.declared.Deed.{Deed}
 use Rattle.closures.proofs.Heads.{by-kind}
@@ -86,12 +87,12 @@ module _ (script : List ℕ) (kind start offset : ℕ) where
         (λ e. rw e)
         (λ x y z. rw (ne-eqb kind 1 x, ne-eqb kind 2 y))
 
-    pub does-is : (w : ℕ → ClosureHead) (item : First) (d : Deed) (outs : ℕ) (n : ℕ → Named) → item ≡ firstOf (under σ) h
-        → (d .act ≡ actOf kind item) × ((i : ℕ) → i < 64 → elem i (members (d .aim)) ≡ aimOf kind item (elem i (members outs)) (n i)) × (d .busy ≡ busyOf kind item)
-        → ((j : ℕ) → j < 64 → elem j (members outs) ≡ isOutput (w j)) → ((j : ℕ) → j < 64 → n j ≡ headName (under σ) (w j)) → Does σ w h d
-    does-is w item d outs n e D o q = record {
+    pub does-is : (w : ℕ → ClosureHead) (item : First) (d : Deed) (o : ℕ → Bool) (n : ℕ → Named) → item ≡ firstOf (under σ) h
+        → (d .act ≡ actOf kind item) × ((i : ℕ) → i < 64 → elem i (members (d .aim)) ≡ aimOf kind item (o i) (n i)) × (d .busy ≡ busyOf kind item)
+        → ((j : ℕ) → j < 64 → o j ≡ isOutput (w j)) → ((j : ℕ) → j < 64 → n j ≡ headName (under σ) (w j)) → Does σ w h d
+    does-is w item d o n e D p q = record {
       acts = D .0 ∙ ap (actOf kind) e ∙ act-is;
-      aims = λ j m. D .1 j m ∙ (λ i. aimOf kind (e i) (o j m i) (q j m i)) ∙ aim-is (w j);
+      aims = λ j m. D .1 j m ∙ (λ i. aimOf kind (e i) (p j m i) (q j m i)) ∙ aim-is (w j);
       settles = D .2 ∙ ap (busyOf kind) e ∙ busy-is;
     }
 
@@ -142,3 +143,78 @@ pub done-next : (σ : Bindings) (w : ℕ → ClosureHead) (i : ℕ) (l r : Looks
 done-next σ w i l r d D e here others j m = byTest (eqb j i)
     (λ t. rw (eqb-true j i t) (subst (Does σ w (w i)) (sym here) e))
     (λ t. subst (Does σ w (w j)) (sym (others j (eqb-false j i t))) (D j (omega (arith, eqb-false j i t))))
+
+-- ---- one item more of an action is spent: names and outputs are as they were
+
+module _ (script : List ℕ) (kind start offset offset′ : ℕ) where
+  by-head : (P : ClosureHead → ClosureHead → Type 0) → ((m : Message) → P (ambient m) (ambient m)) → ((a b : Action) → P (action a) (action b)) → ((v : ℕ) → P (receipt v) (receipt v))
+      → ((m : Message) → P (output m) (output m)) → P (headOf script kind start offset) (headOf script kind start offset′)
+  unfolding headOf
+  by-head P a b r o = byTest (eqb kind 1) (λ t. rw t (a _)) (λ t. byTest (eqb kind 2) (λ u. rw (t, u) (b _ _)) (λ u. byTest (eqb kind 3) (λ v. rw (t, u, v) (r _)) (λ v. rw (t, u, v) (o _))))
+
+  pub output-stays : isOutput (headOf script kind start offset) ≡ isOutput (headOf script kind start offset′)
+  unfolding isOutput
+  output-stays = by-head (λ g h. isOutput g ≡ isOutput h) (λ m. refl) (λ a b. refl) (λ v. refl) (λ m. refl)
+
+  pub name-stays : (σ : Bindings) → headName (under σ) (headOf script kind start offset) ≡ headName (under σ) (headOf script kind start offset′)
+  unfolding headName
+  name-stays σ = by-head (λ g h. headName (under σ) g ≡ headName (under σ) h) (λ m. refl) (λ a b. refl) (λ v. refl) (λ m. refl)
+
+aim-alike : (σ : Bindings) (h g g′ : ClosureHead) → isOutput g ≡ isOutput g′ → headName (under σ) g ≡ headName (under σ) g′ → aimUnder σ h g ≡ aimUnder σ h g′
+unfolding aimUnder
+aim-alike σ (ambient m) g g′ o n = refl
+aim-alike σ (action a) g g′ o n = ap (sameName (itemName (firstOf (under σ) (action a)))) n
+aim-alike σ (receipt v) g g′ o n = o
+aim-alike σ (output m) g g′ o n = refl
+
+-- what a part does, to parts of which names and outputs are as they were
+does-alike : (σ : Bindings) (w w′ : ℕ → ClosureHead) (h : ClosureHead) (d : Deed) → ((j : ℕ) → isOutput (w j) ≡ isOutput (w′ j)) → ((j : ℕ) → headName (under σ) (w j) ≡ headName (under σ) (w′ j))
+    → Does σ w h d → Does σ w′ h d
+does-alike σ w w′ h d o n D = record { acts = D .acts; aims = λ j m. D .aims j m ∙ aim-alike σ h (w j) (w′ j) (o j) (n j); settles = D .settles }
+
+module _ (script kinds starts offsets : List ℕ) (σ : Bindings) (a : ℕ) (l r : Looks) (d : Deed) (item : First) (within : a < length offsets) (action-kind : getD kinds a 0 ≡ 2) where
+  abbrev next : List ℕ
+  next = set offsets a (getD offsets a 0 + 1)
+
+  abbrev w : ℕ → ClosureHead
+  w = heads script kinds starts offsets
+
+  abbrev w′ : ℕ → ClosureHead
+  w′ = heads script kinds starts next
+
+  names-stay : (j : ℕ) → headName (under σ) (w j) ≡ headName (under σ) (w′ j)
+  names-stay j = name-stays script (getD kinds j 0) (getD starts j 0) (getD offsets j 0) (getD next j 0) σ
+
+  outputs-stay : (j : ℕ) → isOutput (w j) ≡ isOutput (w′ j)
+  outputs-stay j = output-stays script (getD kinds j 0) (getD starts j 0) (getD offsets j 0) (getD next j 0)
+
+  pub seen-spent : Seen σ w l → item ≡ firstOf (under σ) (headOf script (getD kinds a 0) (getD starts a 0) (getD offsets a 0 + 1))
+      → ((o : Bool) → (d .act ≡ actOf 2 item) × ((i : ℕ) → i < 64 → elem i (members (d .aim)) ≡ aimOf 2 item o (nameIn (l .named) (l .names) i)) × (d .busy ≡ busyOf 2 item))
+      → kept r a ≡ d → ((j : ℕ) → (j ≡ a → ⊥) → kept r j ≡ kept l j) → r .named ≡ l .named → r .names ≡ l .names → Seen σ w′ r
+  seen-spent S first deed here others en es = record {
+    names = λ i m. (λ q. nameIn (en q) (es q) i) ∙ S .names i m ∙ names-stay i;
+    deeds =
+        λ i m. byTest (eqb i a)
+        (λ t.
+        let e : headOf script (getD kinds a 0) (getD starts a 0) (getD offsets a 0 + 1) ≡ w′ a = ap (headOf script (getD kinds a 0) (getD starts a 0)) (sym (getD-set-same offsets a (getD offsets a 0 + 1) 0 within)) in
+        rw (eqb-true i a t)
+        (subst (Does σ w′ (w′ a)) (sym here)
+        (subst (λ (h : ClosureHead). Does σ w′ h d) e
+        (does-is script (getD kinds a 0) (getD starts a 0) (getD offsets a 0 + 1) σ w′ item d (λ j. isOutput (w′ j)) (nameIn (l .named) (l .names)) first
+        (subst (λ (k : ℕ). (d .act ≡ actOf k item) × ((i : ℕ) → i < 64 → elem i (members (d .aim)) ≡ aimOf k item (isOutput (w′ i)) (nameIn (l .named) (l .names) i)) × (d .busy ≡ busyOf k item))
+        (sym action-kind) (deed false .0, λ j n. deed (isOutput (w′ j)) .1 j n, deed false .2))
+        (λ j n. refl) (λ j n. S .names j n ∙ names-stay j)))))
+        (λ t.
+        let n = eqb-false i a t in
+        let e : w i ≡ w′ i = ap (headOf script (getD kinds i 0) (getD starts i 0)) (sym (getD-set-other offsets a i (getD offsets a 0 + 1) 0 n)) in
+        subst (Does σ w′ (w′ i)) (sym (others i n)) (subst (λ (h : ClosureHead). Does σ w′ h (kept l i)) e (does-alike σ w w′ (w i) (kept l i) outputs-stay names-stay (S .deeds i m))));
+  }
+
+-- where no offset is 2^32 - 1 after one is raised, none was before
+pub raised-low : (offsets : List ℕ) (a : ℕ) → a < length offsets → ((i : ℕ) → getD (set offsets a (getD offsets a 0 + 1)) i 0 < 4294967295) → getD offsets a 0 + 1 < 4294967295
+raised-low offsets a within low = subst (λ (n : ℕ). n < 4294967295) (getD-set-same offsets a (getD offsets a 0 + 1) 0 within) (low a)
+
+pub lower : (offsets : List ℕ) (a i : ℕ) → a < length offsets → ((i : ℕ) → getD (set offsets a (getD offsets a 0 + 1)) i 0 < 4294967295) → getD offsets i 0 < 4294967295
+lower offsets a i within low = byTest (eqb i a)
+    (λ t. rw (eqb-true i a t) (omega (arith, raised-low offsets a within low)))
+    (λ t. subst (λ (n : ℕ). n < 4294967295) (getD-set-other offsets a i (getD offsets a 0 + 1) 0 (eqb-false i a t)) (low i))

@@ -69,6 +69,9 @@ module _ (script : List ℕ) (kind start offset : ℕ) where
   unfolding isAmbient
   not-ambient n = by-kind (λ h. isAmbient h ≡ false) (λ f. absurd (n f)) (λ f. refl) (λ f. refl) (λ a b c. refl)
 
+  pub kind-ambient : eqb kind 1 ≡ isAmbient (headOf script kind start offset)
+  kind-ambient = byTest (eqb kind 1) (λ t. t ∙ sym (is-ambient (eqb-true kind 1 t))) (λ t. t ∙ sym (not-ambient (eqb-false kind 1 t)))
+
   module _ (σ : Bindings) where
     pub no-name : (kind ≡ 1 → ⊥) → Nameless ≡ headName (under σ) (headOf script kind start offset)
     unfolding headName

@@ -9,6 +9,7 @@ pub mod Holding
 pub mod Focus
 pub mod Search
 pub mod Settling
+pub mod Settled
 pub mod Looking
 pub mod Deeds
 pub mod Moving

@@ -12,6 +12,7 @@ use Rattle.scripts.specs.Represents.{Held, bodyIn}
 use Rattle.bindings.specs.Resolve.{messageOf}
 use Rattle.bindings.specs.Held.{bindingsOf}
 use Rattle.bindings.specs.Held as bindings
+use Rattle.bindings.specs.declared.Bindings as arrays
 use Rattle.closures.specs.Closure.{ClosureHead, Closure, Bindings}
 use Rattle.closures.specs.Seen.{Seen}
 use Rattle.closures.specs.declared.State.{State}
@@ -30,9 +31,13 @@ heads script kinds starts offsets i = headOf script (getD kinds i 0) (getD start
 abbrev pub boundIn : (script : List ℕ) → State → Bindings
 boundIn script s = bindingsOf script (s .bindings)
 
--- what is counted with the bindings is right, and so is what is kept of the parts, as long as no offset is 2^32 - 1
+-- what is counted with the bindings is right
+abbrev pub Counted : (script : List ℕ) → arrays.Bindings → Type 0
+Counted script b = bindings.Held script b
+
+-- the same of the state's, and what is kept of the parts is right, as long as no offset is 2^32 - 1
 pub record Ready (script kinds starts : List ℕ) (s : State) : Type 0 where
-  pub bound : bindings.Held script (s .bindings)
+  pub bound : Counted script (s .bindings)
   pub seen : ((i : ℕ) → getD (s .offsets) i 0 < 4294967295) → Seen (boundIn script s) (heads script kinds starts (s .offsets)) (s .looks)
 
 -- The state stands for the closure: its top parts are those of number 64's body. The parts and twice the bindings are at

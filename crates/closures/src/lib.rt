@@ -10,7 +10,7 @@ use messages::Named;
 ghost use mathlib.Core.Path.{_≡_};
 ghost use mathlib.Core.Bool.{Bool, false, cond};
 ghost use mathlib.Core.List.{List, []};
-ghost use Prim.Native.Nat.{ℕ, _≤_, _<_};
+ghost use Prim.Native.Nat.{ℕ, _+_, _≤_, _<_};
 ghost use lib.Dec.{eqb};
 ghost use lib.ListN.{length, getD, set};
 ghost use Rattle.sets.specs.Sets.{members, elem, insert};
@@ -19,10 +19,11 @@ ghost use Rattle.scripts.specs.Represents.{Held, bodyIn, Tabled};
 ghost use Rattle.scripts.specs.Script.{Script};
 ghost use Rattle.bindings.specs.Resolve.{bindingsIn};
 ghost use Rattle.bindings.specs.Measures.{Kept, itemCount};
+ghost use Rattle.bindings.specs.Held.{bindingsOf};
 ghost use Rattle.machine.specs.Moves.{isThat, sameName, headName, firstOf};
 ghost use Rattle.closures.specs.Closure.{ClosureHead, Closure, under, settleUnder, closureOf};
 ghost use Rattle.closures.specs.Searches.{SettlesBy};
-ghost use Rattle.closures.specs.Represents.{headOf, heads, boundIn, Ready, Represents};
+ghost use Rattle.closures.specs.Represents.{headOf, heads, boundIn, Counted, Ready, Represents};
 ghost use Rattle.closures.specs.Seen.{nameIn, actOf, aimOf, busyOf, isOutput, Does, kept, Seen};
 
 // What is kept of the parts: the set of those that have a name, and their names; what each does first (1 OPEN, 2 IN,
@@ -361,4 +362,123 @@ fn settle_below<'a, 'b>(
         return sets::union(s, rest);
     }
     sets::with(rest, i)
+}
+
+// The state of those bodies, offsets and bindings.
+fn looked<'a>(
+    script: &'a [u32],
+    kinds: &'a [u8; 64],
+    starts: &'a [u32; 64],
+    kids: [u64; 65],
+    offsets: [u32; 64],
+    bindings: Bindings,
+) -> State
+    requires { ⌜ Counted (now script) bindings ⌝ }
+    ensures ready { λ r. ⌜ Ready (now (script .entry)) (now (kinds .entry)) (now (starts .entry)) r ⌝ }
+    ensures same { λ r. ⌜ (r .kids ≡ kids) × (r .offsets ≡ offsets) × (r .bindings ≡ bindings) ⌝ }
+{
+    let variables = bindings.variables;
+    let places = bindings.places;
+    let counts = bindings.counts;
+    let first = bindings.first;
+    let looks = look(
+        script,
+        kinds,
+        starts,
+        &offsets,
+        tail(&variables, first),
+        tail(&places, first),
+        tail(&counts, first),
+    );
+    State {
+        kids,
+        offsets,
+        looks,
+        bindings,
+    }
+}
+
+// The state after every action with no items left is gone.
+fn settle(kinds: &[u8; 64], state: State) -> State
+    ensures same { λ r. ⌜ (r .offsets ≡ state .offsets) × (r .looks ≡ state .looks) × (r .bindings ≡ state .bindings) ⌝ }
+    ensures settled { λ r. ⌜ ((script starts : List ℕ) (weight spent : ℕ) (b : Closure) → Ready script (now (kinds .entry)) starts state → spent < 4294967295 → Represents script (now (kinds .entry)) starts weight spent state b → Represents script (now (kinds .entry)) starts weight spent r (settleUnder (boundIn script state) b)) ⌝ }
+{
+    let mut kids = state.kids;
+    let offsets = state.offsets;
+    let looks = state.looks;
+    let bindings = state.bindings;
+    let top = kids[64];
+    let s = settle_below(&mut kids, kinds, looks.busy, top, 64);
+    kids[64] = s;
+    State {
+        kids,
+        offsets,
+        looks,
+        bindings,
+    }
+}
+
+// The first item that is not spent of such a part, under the bindings as they are held.
+fn item_under(script: &[u32], kind: u8, start: u32, offset: u32, bindings: Bindings) -> First
+    requires { ⌜ Counted (now script) bindings ⌝ }
+    ensures { λ r. ⌜ (offset < 4294967295 → r ≡ firstOf (under (bindingsOf (now (script .entry)) bindings)) (headOf (now (script .entry)) kind start offset)) ⌝ }
+{
+    let variables = bindings.variables;
+    let places = bindings.places;
+    let counts = bindings.counts;
+    let first = bindings.first;
+    part_item(
+        script,
+        kind,
+        start,
+        offset,
+        tail(&variables, first),
+        tail(&places, first),
+        tail(&counts, first),
+    )
+}
+
+// One more item of the action a is spent.
+fn spend<'a>(
+    script: &'a [u32],
+    kinds: &'a [u8; 64],
+    starts: &'a [u32; 64],
+    state: State,
+    a: usize,
+) -> State
+    requires { ⌜ (a < 64) × Ready (now script) (now kinds) (now starts) state ⌝ }
+    ensures ready { λ r. ⌜ Ready (now (script .entry)) (now (kinds .entry)) (now (starts .entry)) r ⌝ }
+    ensures same { λ r. ⌜ (r .kids ≡ state .kids) × (r .bindings ≡ state .bindings) ⌝ }
+    ensures raised { λ r. ⌜ (getD (now (kinds .entry)) a 0 ≡ 2 → getD (state .offsets) a 0 < 4294967295 → r .offsets ≡ set (state .offsets) a (getD (state .offsets) a 0 + 1)) ⌝ }
+{
+    let kind = kinds[a];
+    let start = starts[a];
+    let offset = state.offsets[a];
+    if kind != 2 {
+        return state;
+    }
+    if offset >= 4294967295 {
+        return state;
+    }
+    let item = item_under(script, kind, start, offset + 1, state.bindings);
+    let looks = state.looks;
+    let d = item_deed(item, looks.named, &looks.names);
+    let mut next = state;
+    next.offsets[a] = offset + 1;
+    next.looks = with_deed(looks, a, d);
+    next
+}
+
+// The state before the first move, from the script's part table, whose sets are kids.
+pub fn first_state<'a>(
+    script: &'a [u32],
+    kinds: &'a [u8; 64],
+    starts: &'a [u32; 64],
+    kids: [u64; 65],
+) -> State
+    ensures ready { λ r. ⌜ Ready (now (script .entry)) (now (kinds .entry)) (now (starts .entry)) r × (boundIn (now (script .entry)) r ≡ []) ⌝ }
+    ensures begun { λ r. ⌜ ((count : ℕ) (b : Script) → Tabled (now (script .entry)) (record { kinds = now (kinds .entry); starts = now (starts .entry); kids = kids; count = count }) b → ((i : ℕ) → getD (now (starts .entry)) i 0 < 65536) → Represents (now (script .entry)) (now (kinds .entry)) (now (starts .entry)) (parts b) 0 r (settleUnder [] (closureOf b))) ⌝ }
+{
+    let begun = looked(script, kinds, starts, kids, [0; 64], none());
+    settle(kinds, begun)
 }

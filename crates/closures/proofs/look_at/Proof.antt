@@ -1,4 +1,5 @@
 -- `look_at` meets its contract: the first item, and what it does. Assumes nothing.
+use Rattle.sets.specs.Sets.{members, elem}
 use Rattle.bindings.specs.Resolve.{bindingsIn}
 use Rattle.closures.specs.Seen.{nameIn}
 use Rattle.closures.proofs.Deeds.{does-is}
@@ -18,7 +19,7 @@ kind-deed-requires : tie.Need-kind-deed-requires
 kind-deed-requires c κs = search needs
 
 returns : tie.Need-returns
-returns c w m o n = does-is (c .before .before .before .before .before .before .args .script .now) (c .before .before .before .before .before .before .args .kind) (c .before .before .before .before .before .before .args .start) (c .before .before .before .before .before .before .args .offset) (bindingsIn (c .before .before .before .before .before .before .args .script .now) (c .before .before .before .before .before .before .args .variables .now) (c .before .before .before .before .before .before .args .places .now)) w (c .before .part-item .result) (c .kind-deed .result) (c .before .before .before .before .before .before .args .outs) (nameIn (c .before .before .before .before .before .before .args .named) (c .before .before .before .before .before .before .args .names .now)) (c .before .part-item .ensures m) (c .kind-deed .ensures) o n
+returns c w m o n = does-is (c .before .before .before .before .before .before .args .script .now) (c .before .before .before .before .before .before .args .kind) (c .before .before .before .before .before .before .args .start) (c .before .before .before .before .before .before .args .offset) (bindingsIn (c .before .before .before .before .before .before .args .script .now) (c .before .before .before .before .before .before .args .variables .now) (c .before .before .before .before .before .before .args .places .now)) w (c .before .part-item .result) (c .kind-deed .result) (λ j. elem j (members (c .before .before .before .before .before .before .args .outs))) (nameIn (c .before .before .before .before .before .before .args .named) (c .before .before .before .before .before .before .args .names .now)) (c .before .part-item .ensures m) (c .kind-deed .ensures) o n
 
 pub look-at-spec : {M : Type 1} → statement M
 look-at-spec = tie.close (tie.spec part-item-requires kind-deed-requires returns)
