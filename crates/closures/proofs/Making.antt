@@ -32,6 +32,9 @@ use Rattle.closures.proofs.Entering.{enter-change}
 use Rattle.closures.proofs.Leaving.{exit-change}
 use Rattle.closures.proofs.Acting.{here-needs, Spot, once-here, open-at, receive-at, enter-at, exit-at}
 
+pub represented : (script kinds starts : List ℕ) (weight spent : ℕ) (s : State) (f : Closure) → Represents script kinds starts weight spent s f → Stands (bodyIn (s .kids)) (heads script kinds starts (s .offsets)) f
+represented script kinds starts weight spent s f R = record { top = R .top; held = R .held; once = R .once; low = R .inside }
+
 raised-spent : (σ : Bindings) (script kinds starts offsets offsets′ : List ℕ) (a : ℕ) → Raised offsets offsets′ a → Spent σ (heads script kinds starts offsets) (heads script kinds starts offsets′) a
 raised-spent σ script kinds starts offsets offsets′ a r = record {
   spends = ap (headOf script (getD kinds a 0) (getD starts a 0)) (r .more) ∙ head-spent script (getD kinds a 0) (getD starts a 0) (getD offsets a 0) σ;
@@ -63,7 +66,7 @@ module _ (script kinds starts : List ℕ) (weight spent : ℕ) (s : State) (f : 
   w′ = heads script kinds starts (s′ .offsets)
 
   abbrev holds : Stands k w f
-  holds = record { top = R .top; held = R .held; once = R .once; low = R .inside }
+  holds = represented script kinds starts weight spent s f R
 
   -- s′ stands for what the move (a, t) makes of the closure, before it is settled
   abbrev pub Made : ℕ → Bindings → Type 0
