@@ -1,11 +1,11 @@
 -- What an actor is decides which of the four tests it can pass: an action has one first item, a receipt has none.
 -- Assumes nothing.
 use Prim.Native.Nat.{ℕ, _<_}
-use mathlib.Core.Bool.{Bool, true, false, not, _&&_, _||_, true≢false, false≢true}
+use mathlib.Core.Bool.{Bool, true, false, _||_, and-false, true≢false, false≢true}
 use mathlib.Core.List.{List}
 use mathlib.Core.Option.{Option, none, some}
 use mathlib.Core.Path.{_≡_, refl, sym, ap, _∙_}
-use lib.Dec.{eqb, ltb}
+use lib.Dec.{ltb}
 use borrow.Author.Tests.{ltb-true}
 use Rattle.messages.specs.Message.{Message}
 use Rattle.messages.specs.declared.First.{First}
@@ -55,10 +55,6 @@ not-itself σ (output m) = refl
 
 -- ---- the tests
 
-never : (x : Bool) {y : Bool} → y ≡ false → (x && y) ≡ false
-never true e = e
-never false e = refl
-
 is-some : {A : Type 0} (o : Option A) → isSome o ≡ true → (x : A) × (o ≡ some x)
 unfolding isSome
 is-some none e = absurd (true≢false (sym e))
@@ -72,19 +68,19 @@ module _ (σ : Bindings) (k : ℕ → List ℕ) (w : ℕ → ClosureHead) where
   module _ (p q a t : ℕ) where
     no-open : toOpen (firstOf (under σ) (w a)) ≡ Nameless → canOpen σ k w p a t ≡ false
     unfolding canOpen sameName
-    no-open e = never (ltb p 65) (never (elem t (k p)) (rw e))
+    no-open e = rw (e, and-false, and-false)
 
     no-receive : variableOf (w a) ≡ none → canReceive σ k w p a t ≡ false
     unfolding canReceive isSome
-    no-receive e = never (ltb p 65) (never (elem t (k p)) (rw e))
+    no-receive e = rw (e, and-false, and-false)
 
     no-enter : toEnter (firstOf (under σ) (w a)) ≡ Nameless → canEnter σ k w p q a t ≡ false
     unfolding canEnter sameName
-    no-enter e = never (ltb p 64) (never (ltb q 65) (never (elem t (k q)) (never (not (eqb t p)) (rw e))))
+    no-enter e = rw (e, and-false, and-false, and-false, and-false)
 
     no-exit : toExit (firstOf (under σ) (w a)) ≡ Nameless → canExit σ k w p q a t ≡ false
     unfolding canExit sameName
-    no-exit e = never (ltb p 64) (never (ltb q 64) (never (eqb t q) (rw e)))
+    no-exit e = rw (e, and-false, and-false, and-false)
 
     -- the test of an actor's kind is the only one that it can pass
 

@@ -21,4 +21,5 @@ pub mod Leaving
 pub mod Actors
 pub mod Acting
 pub mod Possible
+pub mod Arrays
 pub mod Making

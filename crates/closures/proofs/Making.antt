@@ -10,7 +10,7 @@ use lib.Dec.{eqb}
 use lib.ListN.{getD, length}
 use borrow.Author.Tests.{eqb-true, eqb-false}
 use Rattle.messages.specs.Message.{Message}
-use Rattle.sets.specs.Sets.{insert, remove, join}
+use Rattle.sets.specs.Sets.{remove, join}
 use Rattle.scripts.specs.Tree.{receipt, output}
 use Rattle.scripts.specs.Represents.{bodyIn}
 use Rattle.machine.specs.Moves.{Moved, moveHere}
@@ -21,6 +21,7 @@ use Rattle.closures.specs.Represents.{headOf, heads, boundIn, Represents
 use Rattle.closures.specs.Searches.{place}
 use Rattle.closures.specs.Targets.{canOpen, canReceive, canEnter, canExit}
 use Rattle.closures.specs.declared.State.{State}
+use Rattle.closures.proofs.Arrays.{Replaced, Carried, Raised}
 use Rattle.closures.proofs.Heads.{head-spent}
 use Rattle.closures.proofs.Focus.{Change}
 use Rattle.closures.proofs.Places.{Stands}
@@ -31,21 +32,8 @@ use Rattle.closures.proofs.Entering.{enter-change}
 use Rattle.closures.proofs.Leaving.{exit-change}
 use Rattle.closures.proofs.Acting.{here-needs, Spot, once-here, open-at, receive-at, enter-at, exit-at}
 
--- the sets after that of b has become l
-pub record Replaced (k k′ : ℕ → List ℕ) (b : ℕ) (l : List ℕ) : Type 0 where
-  pub becomes : k′ b ≡ l
-  pub others : (i : ℕ) → (i ≡ b → ⊥) → k i ≡ k′ i
-
--- the sets after p has gone out of one body into another
-pub record Carried (k k′ : ℕ → List ℕ) (p from into : ℕ) : Type 0 where
-  pub loses : k′ from ≡ remove p (k from)
-  pub gains : k′ into ≡ insert p (k into)
-  pub others : (i : ℕ) → (i ≡ from → ⊥) → (i ≡ into → ⊥) → k i ≡ k′ i
-
--- the offsets after one more item of a is spent
-pub record Raised (offsets offsets′ : List ℕ) (a : ℕ) : Type 0 where
-  pub more : getD offsets′ a 0 ≡ getD offsets a 0 + 1
-  pub others : (i : ℕ) → (i ≡ a → ⊥) → getD offsets i 0 ≡ getD offsets′ i 0
+pub represented : (script kinds starts : List ℕ) (weight spent : ℕ) (s : State) (f : Closure) → Represents script kinds starts weight spent s f → Stands (bodyIn (s .kids)) (heads script kinds starts (s .offsets)) f
+represented script kinds starts weight spent s f R = record { top = R .top; held = R .held; once = R .once; low = R .inside }
 
 raised-spent : (σ : Bindings) (script kinds starts offsets offsets′ : List ℕ) (a : ℕ) → Raised offsets offsets′ a → Spent σ (heads script kinds starts offsets) (heads script kinds starts offsets′) a
 raised-spent σ script kinds starts offsets offsets′ a r = record {
@@ -78,7 +66,7 @@ module _ (script kinds starts : List ℕ) (weight spent : ℕ) (s : State) (f : 
   w′ = heads script kinds starts (s′ .offsets)
 
   abbrev holds : Stands k w f
-  holds = record { top = R .top; held = R .held; once = R .once; low = R .inside }
+  holds = represented script kinds starts weight spent s f R
 
   -- s′ stands for what the move (a, t) makes of the closure, before it is settled
   abbrev pub Made : ℕ → Bindings → Type 0

@@ -9,7 +9,7 @@ use native.Mathlib.Omega.{arith}
 use lib.Dec.{eqb, ltb}
 use borrow.Author.Tests.{eqb-true, eq-eqb, ltb-true, ltb-false, lt-ltb}
 use Rattle.sets.specs.Sets.{elem}
-use Rattle.scripts.specs.Tree.{close, part, tops, sum, count}
+use Rattle.scripts.specs.Tree.{close, part, one, tops, sum, count}
 use Rattle.scripts.specs.Represents.{Held}
 use Rattle.machine.specs.Moves.{isNamed, headName}
 use Rattle.machine.proofs.Options.{byTest}
@@ -46,6 +46,13 @@ inside-only σ x b (deeper {i = i} {s = s} {r = r} n p) m = byTest (eqb x i)
 inside-only σ x b (beside {i = i} {s = s} {r = r} p) m = byTest (eqb x i)
     (λ t. absurd (let z : ⊥ = omega (arith, inside-count σ x b p .0, rw t at m) in z))
     (λ t. rw t (inside-only σ x b p (omega arith)))
+
+-- no part stands in its own body
+inside-apart : (σ : Bindings) (x b : ℕ) {f : Closure} → Inside σ x b f → count x f ≤ 1 → x ≡ b → ⊥
+unfolding sum
+inside-apart σ x b (directly {s = s} n e) m q = let c : 1 ≤ one (eqb x b) = omega (arith, ap one (eq-eqb x b q)) in omega (arith, in-count x s e)
+inside-apart σ x b (deeper n p) m q = inside-apart σ x b p (omega arith) q
+inside-apart σ x b (beside p) m q = inside-apart σ x b p (omega arith) q
 
 -- ---- the place is where it stands
 
@@ -175,6 +182,9 @@ module _ (σ : Bindings) (k : ℕ → List ℕ) (w : ℕ → ClosureHead) (f : C
   -- only parts have a place
   pub place-low : (x : ℕ) → place σ x f < 65 → x < 64
   place-low x l = below x f (Q .low) (elim (placed x l) [ inl z ↦ in-count x f (z .1) | inr p ↦ inside-count σ x (at x) p .0 ])
+
+  pub place-apart : (x : ℕ) → place σ x f < 65 → x ≡ place σ x f → ⊥
+  place-apart x l e = elim (placed x l) [ inl z ↦ omega (arith, place-low x l, z .0) | inr p ↦ inside-apart σ x (at x) p (Q .once x) e ]
 
   -- THEOREM: what stands in an active body has that body's number for its place.
   pub place-of : (b x : ℕ) → Active σ w (λ i. place σ i f) b → elem x (k b) ≡ true → place σ x f ≡ b
