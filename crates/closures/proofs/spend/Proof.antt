@@ -1,3 +1,11 @@
+-- `spend` meets its contract: the actor alone is read anew. Assumes nothing.
+use Prim.Native.Nat.{ℕ, _<_}
+use mathlib.Core.Path.{_≡_, refl}
+use native.Mathlib.Omega.{arith}
+use lib.ListN.{length}
+use Rattle.closures.specs.Represents.{boundIn}
+use Rattle.closures.proofs.Deeds.{seen-spent, lower, raised-low}
+use borrow.Author.Needs.{needs, length-unmapped}
 use borrow.Author.Needs.{needs}
 use Rattle.closures.proofs.spend.Statement.{statement}
 use Rattle.closures.proofs.spend.Tie as tie
@@ -7,65 +15,70 @@ use Rattle.closures.proofs.item_deed.Reads as item-deed-reads
 use Rattle.closures.proofs.item_under.Reads as item-under-reads
 use Rattle.closures.proofs.with_deed.Reads as with-deed-reads
 
--- src/lib.rt:454:16
+-- the offsets are an array
+abbrev Start : Type 0
+Start = lts.Start (item-under-reads.Asked, item-under-reads.Learnt, item-deed-reads.Asked, item-deed-reads.Learnt, with-deed-reads.Asked, with-deed-reads.Learnt) reads.Pre reads.Post
+
+long : (s : Start) → length (s .args .t4 .offsets) ≡ 64
+long s = search needs
+
 element-copy-out-kind : tie.Need-element-copy-out-kind
 element-copy-out-kind c = search needs
 
--- src/lib.rt:455:17
 mul-start : tie.Need-mul-start
 mul-start c = search needs
 
--- src/lib.rt:455:17
 element-copy-out-start : tie.Need-element-copy-out-start
 element-copy-out-start c = search needs
 
--- src/lib.rt:456:18
 mul-offset : tie.Need-mul-offset
 mul-offset c = search needs
 
--- src/lib.rt:456:18
 element-copy-out-offset : tie.Need-element-copy-out-offset
 element-copy-out-offset c = search needs
 
--- src/lib.rt:458:9
 returns : tie.Need-returns
-returns c = ?
+returns c = (c .before .before .before .before .before .pre .1, ((refl, refl), λ e l. absurd (c .if1 .taken e)))
 
--- src/lib.rt:461:9
 returns-2 : tie.Need-returns-2
-returns-2 c = ?
+returns-2 c = (c .before .before .before .before .before .before .pre .1, ((refl, refl), λ e l. absurd (let z : ⊥ = omega (arith, c .if2 .taken) in z)))
 
--- src/lib.rt:463:48
 add-item-under : tie.Need-add-item-under
 add-item-under c = search needs
 
--- src/lib.rt:463:9
 item-under-requires : tie.Need-item-under-requires
-item-under-requires c κs = search needs
+item-under-requires c κs = c .before .before .before .before .before .before .before .pre .1 .bound
 
--- src/lib.rt:465:9
 item-deed-requires : tie.Need-item-deed-requires
 item-deed-requires c κs = search needs
 
--- src/lib.rt:467:23
 add-next : tie.Need-add-next
-add-next c = search needs
+add-next c = omega (arith, c .before .before .before .before .before .before .if2 .left)
 
--- src/lib.rt:467:5
 mul-next : tie.Need-mul-next
-mul-next c = search needs
+mul-next c = omega (arith, c .before .before .before .before .before .before .before .before .before .before .before .before .pre .0)
 
--- src/lib.rt:467:5
 element-write-next : tie.Need-element-write-next
-element-write-next c = search needs
+element-write-next c = omega (arith, c .before .before .before .before .before .before .before .before .before .before .before .before .pre .0)
 
--- src/lib.rt:468:18
 with-deed-requires : tie.Need-with-deed-requires
-with-deed-requires c κs = search needs
+with-deed-requires c κs = c .before .before .before .before .before .before .before .before .before .before .before .before .pre .0
 
--- src/lib.rt:442:1
 returns-3 : tie.Need-returns-3
-returns-3 c = ?
+returns-3 c =
+    let x = c .before .before .before .before .before .before .before .before .before .before .before .before .before .args in
+    let n : length (x .t4 .offsets) ≡ 64 = long (c .before .before .before .before .before .before .before .before .before .before .before .before .before) in
+    let a : x .a < length (x .t4 .offsets) = omega (arith, c .before .before .before .before .before .before .before .before .before .before .before .before .before .pre .0) in (
+      record {
+        bound = c .before .before .before .before .before .before .before .before .before .before .before .before .before .pre .1 .bound;
+        seen =
+            λ low.
+            seen-spent (x .script .now) (x .kinds .now) (x .starts .now) (x .t4 .offsets) (boundIn (x .script .now) (x .t4)) (x .a) (x .t4 .looks) (c .with-deed .result) (c .before .item-deed .result) (c .before .before .before .before .before .item-under .result) a (c .before .before .before .before .before .before .before .before .if1 .left)
+            (c .before .before .before .before .before .before .before .before .before .before .before .before .before .pre .1 .seen (λ i. lower (x .t4 .offsets) (x .a) i a low)) (c .before .before .before .before .before .item-under .ensures (raised-low (x .t4 .offsets) (x .a) a low))
+            (c .before .item-deed .ensures) (c .with-deed .ensures .0) (c .with-deed .ensures .1 .0) (c .with-deed .ensures .1 .1 .0) (c .with-deed .ensures .1 .1 .1);
+      },
+      ((refl, refl), λ e l. refl),
+    )
 
 pub spend-spec : {M : Type 1} → statement M
 spend-spec =
