@@ -23,3 +23,4 @@ pub mod Acting
 pub mod Possible
 pub mod Arrays
 pub mod Making
+pub mod Finishing

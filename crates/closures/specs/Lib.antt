@@ -4,3 +4,4 @@ pub mod Represents
 pub mod Searches
 pub mod Seen
 pub mod Targets
+pub mod Makes

@@ -1,5 +1,6 @@
 // Closures and moves. It rests on the promises of bindings, scripts, messages and sets.
 use bindings::Bindings;
+use bindings::bind;
 use bindings::first_item;
 use bindings::name_at;
 use bindings::none;
@@ -24,6 +25,7 @@ ghost use Rattle.machine.specs.Moves.{isThat, sameName, headName, firstOf};
 ghost use Rattle.closures.specs.Closure.{ClosureHead, Closure, under, settleUnder, closureOf};
 ghost use Rattle.closures.specs.Searches.{SettlesBy};
 ghost use Rattle.closures.specs.Represents.{headOf, heads, boundIn, Counted, Ready, Represents};
+ghost use Rattle.closures.specs.Makes.{Opens, Enters, Exits, Receives};
 ghost use Rattle.closures.specs.Seen.{nameIn, actOf, aimOf, busyOf, isOutput, Does, kept, Seen};
 
 // What is kept of the parts: the set of those that have a name, and their names; what each does first (1 OPEN, 2 IN,
@@ -481,4 +483,81 @@ pub fn first_state<'a>(
 {
     let begun = looked(script, kinds, starts, kids, [0; 64], none());
     settle(kinds, begun)
+}
+
+// OPEN: the part t goes from the body of p, in which the actor stands, and its body stays.
+fn open_part<'a>(
+    script: &'a [u32],
+    kinds: &'a [u8; 64],
+    starts: &'a [u32; 64],
+    state: State,
+    p: usize,
+    a: usize,
+    t: usize,
+) -> State
+    requires { ⌜ (p < 65) × (a < 64) × (t < 64) × Ready (now script) (now kinds) (now starts) state ⌝ }
+    ensures ready { λ r. ⌜ Ready (now (script .entry)) (now (kinds .entry)) (now (starts .entry)) r ⌝ }
+    ensures made { λ r. ⌜ Opens (now (script .entry)) (now (kinds .entry)) (now (starts .entry)) state r p a t ⌝ }
+{
+    let here = state.kids[p];
+    let inside = state.kids[t];
+    let mut next = state;
+    next.kids[p] = sets::union(inside, sets::without(here, t));
+    let spent = spend(script, kinds, starts, next, a);
+    settle(kinds, spent)
+}
+
+// IN and EXIT: the part p goes from one body into another.
+fn carry<'a>(
+    script: &'a [u32],
+    kinds: &'a [u8; 64],
+    starts: &'a [u32; 64],
+    state: State,
+    p: usize,
+    from: usize,
+    into: usize,
+    a: usize,
+) -> State
+    requires { ⌜ (p < 64) × (from < 65) × (into < 65) × (a < 64) × Ready (now script) (now kinds) (now starts) state ⌝ }
+    ensures ready { λ r. ⌜ Ready (now (script .entry)) (now (kinds .entry)) (now (starts .entry)) r ⌝ }
+    ensures entered { λ r. ⌜ Enters (now (script .entry)) (now (kinds .entry)) (now (starts .entry)) state r p from a into ⌝ }
+    ensures left { λ r. ⌜ Exits (now (script .entry)) (now (kinds .entry)) (now (starts .entry)) state r p from into a ⌝ }
+{
+    let here = state.kids[from];
+    let mut next = state;
+    next.kids[from] = sets::without(here, p);
+    let there = next.kids[into];
+    next.kids[into] = sets::with(there, p);
+    let spent = spend(script, kinds, starts, next, a);
+    settle(kinds, spent)
+}
+
+// The receipt a and the output t go from the body of p, the receipt's body stands there, and its variable is bound.
+fn receive_part<'a>(
+    script: &'a [u32],
+    kinds: &'a [u8; 64],
+    starts: &'a [u32; 64],
+    state: State,
+    p: usize,
+    a: usize,
+    t: usize,
+) -> State
+    requires { ⌜ (p < 65) × (a < 64) × (t < 64) × Ready (now script) (now kinds) (now starts) state ⌝ }
+    ensures ready { λ r. ⌜ Ready (now (script .entry)) (now (kinds .entry)) (now (starts .entry)) r ⌝ }
+    ensures made { λ r. ⌜ Receives (now (script .entry)) (now (kinds .entry)) (now (starts .entry)) state r p a t ⌝ }
+{
+    let old = state.bindings;
+    if old.first == 0 {
+        return state;
+    }
+    let variable = starts[a];
+    let message = starts[t];
+    let bound = bind(script, old, variable, message);
+    let here = state.kids[p];
+    let inside = state.kids[a];
+    let offsets = state.offsets;
+    let mut kids = state.kids;
+    kids[p] = sets::union(inside, sets::without(sets::without(here, a), t));
+    let next = looked(script, kinds, starts, kids, offsets, bound);
+    settle(kinds, next)
 }

@@ -1,0 +1,50 @@
+-- What the engine's functions for the moves make of a state. Assumes nothing: these are definitions.
+use Prim.Native.Nat.{ℕ, _+_, _<_}
+use mathlib.Core.Bool.{Bool, true}
+use mathlib.Core.List.{List, _++_}
+use mathlib.Core.Option.{some}
+use mathlib.Core.Path.{_≡_}
+use Rattle.scripts.specs.Represents.{bodyIn}
+use Rattle.machine.specs.Moves.{Moved}
+use Rattle.closures.specs.Closure.{Action, ClosureHead, Closure, Bindings, closureMove}
+use Rattle.closures.specs.Represents.{heads, boundIn, Represents}
+use Rattle.closures.specs.Searches.{place}
+use Rattle.closures.specs.Targets.{isSome, canOpen, canReceive, canEnter, canExit}
+use Rattle.closures.specs.declared.State.{State}
+
+module _ (script kinds starts : List ℕ) (s r : State) where
+  -- r stands for what the move (a, t) makes of the closure b for which s stands
+  abbrev pub Makes : (weight spent a t : ℕ) (b : Closure) → Type 0
+  Makes weight spent a t b =
+      (m : Moved Action) × (closureMove (boundIn script s) a t b ≡ some m) × Represents script kinds starts weight spent r (m .body) × (boundIn script r ≡ m .news ++ boundIn script s)
+
+  -- where the test holds of a closure for which s stands; offsets that fit into 32 bits do after the move
+  abbrev pub MakesIf : (test : Closure → Type 0) (a t : ℕ) → Type 0
+  MakesIf test a t =
+      (weight spent : ℕ) (b : Closure) → spent + 1 < 4294967295 → Represents script kinds starts weight spent s b → test b → Makes weight (spent + 1) a t b
+
+  -- a test of the parts by the state's sets and heads
+  abbrev Asks : Type 0
+  Asks = Bindings → (ℕ → List ℕ) → (ℕ → ClosureHead) → Bool
+
+  abbrev pub Passes : Asks → Type 0
+  Passes test = test (boundIn script s) (bodyIn (s .kids)) (heads script kinds starts (s .offsets)) ≡ true
+
+  -- the four moves, p being the part in whose body the actor stands, and q the one in whose body that part stands
+  abbrev pub Opens : (p a t : ℕ) → Type 0
+  Opens p a t = MakesIf (λ b. (place (boundIn script s) a b ≡ p) × Passes (λ σ k w. canOpen σ k w p a t)) a t
+
+  abbrev pub Receives : (p a t : ℕ) → Type 0
+  Receives p a t = MakesIf (λ b. (place (boundIn script s) a b ≡ p) × Passes (λ σ k w. canReceive σ k w p a t)) a t
+
+  abbrev pub Enters : (p q a t : ℕ) → Type 0
+  Enters p q a t = MakesIf (λ b. (place (boundIn script s) a b ≡ p) × (place (boundIn script s) p b ≡ q) × Passes (λ σ k w. canEnter σ k w p q a t)) a t
+
+  -- the target is q, and c the part in whose body it stands
+  abbrev pub Exits : (p q c a : ℕ) → Type 0
+  Exits p q c a =
+      MakesIf (λ b. (place (boundIn script s) a b ≡ p) × (place (boundIn script s) p b ≡ q) × (place (boundIn script s) q b ≡ c) × Passes (λ σ k w. canExit σ k w p q a q)) a q
+
+  -- every move that can be made, at being the places of the parts
+  abbrev pub Moves : (at : ℕ → ℕ) (a t : ℕ) → Type 0
+  Moves at a t = MakesIf (λ b. ((i : ℕ) → i < 64 → at i ≡ place (boundIn script s) i b) × (isSome (closureMove (boundIn script s) a t b) ≡ true)) a t
