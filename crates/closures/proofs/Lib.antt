@@ -22,5 +22,6 @@ pub mod Actors
 pub mod Acting
 pub mod Possible
 pub mod Arrays
+pub mod Placing
 pub mod Making
 pub mod Finishing

@@ -15,7 +15,8 @@ ghost use Prim.Native.Nat.{ℕ, _+_, _≤_, _<_};
 ghost use lib.Dec.{eqb};
 ghost use lib.ListN.{length, getD, set};
 ghost use Rattle.sets.specs.Sets.{members, elem, insert};
-ghost use Rattle.scripts.specs.Tree.{tops, parts};
+ghost use Rattle.messages.specs.Message.{name as named};
+ghost use Rattle.scripts.specs.Tree.{ambient, close, part, tops, parts, count};
 ghost use Rattle.scripts.specs.Represents.{Held, bodyIn, Tabled};
 ghost use Rattle.scripts.specs.Script.{Script};
 ghost use Rattle.bindings.specs.Resolve.{bindingsIn};
@@ -560,4 +561,47 @@ fn receive_part<'a>(
     kids[p] = sets::union(inside, sets::without(sets::without(here, a), t));
     let next = looked(script, kinds, starts, kids, offsets, bound);
     settle(kinds, next)
+}
+
+// A state beside the part table to which it belongs.
+pub struct Placed {
+    pub kinds: [u8; 64],
+    pub starts: [u32; 64],
+    pub state: State,
+}
+
+// PLACED: the top parts as the body of a new part i, an ambient of that name. Its start stands for the name itself.
+pub fn place_part(
+    script: &[u32],
+    kinds: [u8; 64],
+    starts: [u32; 64],
+    state: State,
+    i: usize,
+    name: u32,
+) -> Placed
+    requires { ⌜ (i < 64) × (name < 65536) × Ready (now script) kinds starts state ⌝ }
+    ensures ready { λ r. ⌜ Ready (now (script .entry)) (r .kinds) (r .starts) (r .state) × (boundIn (now (script .entry)) (r .state) ≡ boundIn (now (script .entry)) state) ⌝ }
+    ensures placed { λ r. ⌜ ((weight spent : ℕ) (b : Closure) → Represents (now (script .entry)) kinds starts weight spent state b → count i b ≡ 0 → weight < 64 → Represents (now (script .entry)) (r .kinds) (r .starts) (weight + 1) spent (r .state) (part i (ambient (named name)) b close)) ⌝ }
+{
+    let mut with_kind = kinds;
+    with_kind[i] = 1;
+    let mut with_start = starts;
+    with_start[i] = 65536 + name;
+    let mut kids = state.kids;
+    kids[i] = kids[64];
+    kids[64] = sets::single(i);
+    let offsets = state.offsets;
+    let next = looked(
+        script,
+        &with_kind,
+        &with_start,
+        kids,
+        offsets,
+        state.bindings,
+    );
+    Placed {
+        kinds: with_kind,
+        starts: with_start,
+        state: next,
+    }
 }
