@@ -12,9 +12,10 @@ use Rattle.messages.proofs.Readings.{refuse≢got, bind-all, got-all, ask-inv, 
 use Rattle.rules.specs.Rule.{Term, Rule, always, negation, either, void, at, beside, some-name, sometime, somewhere, placed}
 use Rattle.rules.specs.ReadRule.{RuleKind, TRUE, NOT, OR, VOID, AT, BESIDE, SOME, SOMETIME, SOMEWHERE, PLACED, OTHER, ruleKind, isChosen, termOf, fits, termBound, bound, somesWith, one, two, ruleFrom, readRule, readWholeRule}
 
-and-right : (a b : Bool) → (a && b) ≡ true → b ≡ true
-and-right true b e = e
-and-right false b e = absurd (false≢true e)
+-- two tests that both hold
+pub and-true : (a b : Bool) → (a && b) ≡ true → (a ≡ true) × (b ≡ true)
+and-true true b e = (refl, e)
+and-true false b e = absurd (false≢true e)
 
 -- what is known of the operand of AT and PLACED: it fits, and its SOME is around
 pub record Operand (somes : List ℕ) (w : ℕ) : Type 0 where
@@ -74,7 +75,7 @@ module _ (C : List ℕ → Cursor → Rule × Cursor → Type 0) (cases : Cases 
       (λ u₂ e₂. bind-all (C somes c) (ask 9 (c .index) (bound somes (ruleKind (q .0)) (operand (q .0)))) _
       (λ u₃ e₃. bind-all (C somes c) (ask 10 (c .index) (leb around 64 && leb (somesWith (ruleKind (q .0)) (length somes)) 8)) _
       (λ u₄ e₄. from-case f around somes c q (next 11 c q e₁) (rule-case f (suc around)) (ruleKind (q .0)) refl (ask-inv 8 _ _ u₂ e₂) (ask-inv 9 _ _ u₃ e₃)
-      (leb-true (somesWith (ruleKind (q .0)) (length somes)) 8 (and-right (leb around 64) _ (ask-inv 10 _ _ u₄ e₄)))))))
+      (leb-true (somesWith (ruleKind (q .0)) (length somes)) 8 (and-true (leb around 64) _ (ask-inv 10 _ _ u₄ e₄) .1))))))
 
   -- and so of every whole rule that is read
   pub whole-rule-case : (n : ℕ) (ws : List ℕ) (p : Rule × Cursor) → readWholeRule n ws ≡ got p → C [] (cursor 0 0 ws) p

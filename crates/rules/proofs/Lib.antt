@@ -1,2 +1,5 @@
--- The laws of `rules` that the crates above cite.
+-- The laws of `rules` that its own proofs and the crates above cite.
 pub mod Cases
+pub mod Words
+pub mod Laws
+pub mod Steps

@@ -1,0 +1,96 @@
+-- Laws of rule words: the term that one says, questions 8 to 10, and the greatest name. Assumes nothing.
+use Prim.Native.Nat.{ℕ, zero, suc, _-_, _≤_, _<_, max}
+use mathlib.Core.Bool.{Bool, true, false, _&&_, _||_, cond}
+use mathlib.Core.List.{List, [], _∷_}
+use mathlib.Core.Path.{_≡_, refl, sym, ap, _∙_}
+use native.Mathlib.Omega.{arith}
+use lib.ListN.{length, drop, getD}
+use borrow.Author.Tests.{le-leb, lt-leb, leb-true}
+use Rattle.messages.specs.Words.{kind, nameFits, member}
+use Rattle.messages.proofs.Tails.{before}
+use Rattle.rules.specs.Rule.{Term, constant, chosen, ruleName, greatestRuleName}
+use Rattle.rules.specs.ReadRule.{RuleKind, TRUE, NOT, OR, VOID, AT, BESIDE, SOME, SOMETIME, SOMEWHERE, PLACED, OTHER, ruleKind, isChosen, termOf, termBound}
+use Rattle.rules.specs.RuleTable.{termWord, levelled, askedTerm}
+use Rattle.rules.specs.declared.RuleTerm.{RuleTerm}
+use Rattle.rules.specs.declared.RuleTerm.the-variants.{Constant, Chosen}
+use Rattle.rules.specs.declared.Asked.{Asked}
+use Rattle.rules.specs.declared.Asked.the-variants.{No}
+
+-- a term is the one or the other
+constant≢chosen : {B : Type 0} (n i : ℕ) → _≡_ {A = RuleTerm} (Constant n) (Chosen i) → B
+constant≢chosen n i e = let z : _≡_ {A = ℕ} 0 1 = cc in absurd (let w : ⊥ = omega arith in w)
+
+-- kinds above 9 are none of a rule
+pub other-kind : (w : ℕ) → (kind w ≡ 0 → ⊥) → (kind w ≡ 1 → ⊥) → (kind w ≡ 2 → ⊥) → (kind w ≡ 3 → ⊥) → (kind w ≡ 4 → ⊥) → (kind w ≡ 5 → ⊥) → (kind w ≡ 6 → ⊥) → (kind w ≡ 7 → ⊥) → (kind w ≡ 8 → ⊥) → (kind w ≡ 9 → ⊥)
+    → ruleKind w ≡ OTHER
+unfolding ruleKind
+other-kind w a b c d e f g h i j = told (kind w) a b c d e f g h i j
+  where
+    told : (k : ℕ) → (k ≡ 0 → ⊥) → (k ≡ 1 → ⊥) → (k ≡ 2 → ⊥) → (k ≡ 3 → ⊥) → (k ≡ 4 → ⊥) → (k ≡ 5 → ⊥) → (k ≡ 6 → ⊥) → (k ≡ 7 → ⊥) → (k ≡ 8 → ⊥) → (k ≡ 9 → ⊥)
+        → getD (TRUE ∷ NOT ∷ OR ∷ VOID ∷ AT ∷ BESIDE ∷ SOME ∷ SOMETIME ∷ SOMEWHERE ∷ PLACED ∷ []) k OTHER ≡ OTHER
+    told zero a b c d e f g h i j = absurd (a refl)
+    told (suc zero) a b c d e f g h i j = absurd (b refl)
+    told (suc (suc zero)) a b c d e f g h i j = absurd (c refl)
+    told (suc (suc (suc zero))) a b c d e f g h i j = absurd (d refl)
+    told (suc (suc (suc (suc zero)))) a b c d e f g h i j = absurd (e refl)
+    told (suc (suc (suc (suc (suc zero))))) a b c d e f g h i j = absurd (f refl)
+    told (suc (suc (suc (suc (suc (suc zero)))))) a b c d e f g h i j = absurd (g refl)
+    told (suc (suc (suc (suc (suc (suc (suc zero))))))) a b c d e f g h i j = absurd (h refl)
+    told (suc (suc (suc (suc (suc (suc (suc (suc zero)))))))) a b c d e f g h i j = absurd (i refl)
+    told (suc (suc (suc (suc (suc (suc (suc (suc (suc zero))))))))) a b c d e f g h i j = absurd (j refl)
+    told (suc (suc (suc (suc (suc (suc (suc (suc (suc (suc k)))))))))) a b c d e f g h i j = refl
+
+-- names 1 to 255 fit
+pub name-fits : (n : ℕ) → (n ≡ 0 → ⊥) → n ≤ 255 → nameFits n ≡ true
+unfolding nameFits
+name-fits n z h = rw (le-leb 1 n (omega arith), le-leb n 255 h)
+
+pub name-none : (n : ℕ) → n ≡ 0 → nameFits n ≡ false
+unfolding nameFits
+name-none n z = rw z
+
+pub name-large : (n : ℕ) → 255 < n → nameFits n ≡ false
+unfolding nameFits
+name-large n h = rw (le-leb 1 n (omega arith), lt-leb n 255 h)
+
+-- Questions 8, 9 and 10 of a word of AT or PLACED, n being its operand, by the term that it says.
+module _ (around : ℕ) (somes : List ℕ) (n : ℕ) (a : Asked) where
+  constant-asked : (m : ℕ) → Constant m ≡ termWord (termOf n) → cond (nameFits m) (levelled around (length somes) a) (No 8) ≡ askedTerm around somes n a
+  unfolding termWord termOf termBound askedTerm
+  constant-asked m e = told (isChosen n) refl (nameFits n) refl
+    where
+      told : (b : Bool) → isChosen n ≡ b → (d : Bool) → nameFits n ≡ d → cond (nameFits m) (levelled around (length somes) a) (No 8) ≡ askedTerm around somes n a
+      told true t d f = constant≢chosen m (n - 134217728) (e ∙ rw t)
+      told false t true f = let z : m ≡ n = cc (e ∙ (let y : termWord (termOf n) ≡ Constant n = rw t in y)) in rw (z, t, f)
+      told false t false f = let z : m ≡ n = cc (e ∙ (let y : termWord (termOf n) ≡ Constant n = rw t in y)) in rw (z, t, f)
+
+  pub term-unfit : (m : ℕ) → Constant m ≡ termWord (termOf n) → nameFits m ≡ false → No 8 ≡ askedTerm around somes n a
+  term-unfit m e f = rw (← constant-asked m e, f)
+
+  pub term-fits : (m : ℕ) → Constant m ≡ termWord (termOf n) → nameFits m ≡ true → levelled around (length somes) a ≡ askedTerm around somes n a
+  term-fits m e f = rw (← constant-asked m e, f)
+
+  chosen-asked : (i : ℕ) → Chosen i ≡ termWord (termOf n) → cond (member i somes) (levelled around (length somes) a) (No 9) ≡ askedTerm around somes n a
+  unfolding termWord termOf termBound askedTerm
+  chosen-asked i e = told (isChosen n) refl (nameFits n) refl
+    where
+      told : (b : Bool) → isChosen n ≡ b → (d : Bool) → nameFits n ≡ d → cond (member i somes) (levelled around (length somes) a) (No 9) ≡ askedTerm around somes n a
+      told true t true f = let z : i ≡ n - 134217728 = cc (e ∙ (let y : termWord (termOf n) ≡ Chosen (n - 134217728) = rw t in y)) in rw (z, t, f)
+      told true t false f = let z : i ≡ n - 134217728 = cc (e ∙ (let y : termWord (termOf n) ≡ Chosen (n - 134217728) = rw t in y)) in rw (z, t, f)
+      told false t d f = constant≢chosen n i (sym (e ∙ rw t))
+
+  pub term-around : (i : ℕ) → Chosen i ≡ termWord (termOf n) → member i somes ≡ true → levelled around (length somes) a ≡ askedTerm around somes n a
+  term-around i e f = rw (← chosen-asked i e, f)
+
+  pub term-free : (i : ℕ) → Chosen i ≡ termWord (termOf n) → member i somes ≡ false → No 9 ≡ askedTerm around somes n a
+  term-free i e f = rw (← chosen-asked i e, f)
+
+-- The greatest name, read from the end: none behind the end, and with the word before i in front.
+pub greatest-end : (l : List ℕ) → greatestRuleName (drop (length l) l) ≡ 0
+unfolding greatestRuleName
+greatest-end [] = refl
+greatest-end (w ∷ l) = greatest-end l
+
+pub greatest-more : (l : List ℕ) (i g r : ℕ) → 0 < i → i ≤ length l → g ≡ greatestRuleName (drop i l) → r ≡ max (ruleName (getD l (i - 1) 0)) g → r ≡ greatestRuleName (drop (i - 1) l)
+unfolding greatestRuleName
+greatest-more l i g r h k e f = rw (before l i h k, ← e) f
