@@ -6,8 +6,8 @@ use mathlib.Core.Path.{_≡_, refl, sym, ap, _∙_, subst}
 use native.Mathlib.Omega.{arith}
 use native.Mathlib.Numerals.{add-one}
 use lib.Dec.{leb}
-use lib.ListN.{length, getD, drop, length-drop}
-use lib.Seq.{drop-drop}
+use lib.ListN.{length, getD, take, drop, length-drop}
+use lib.Seq.{drop-drop, take-all}
 use borrow.Author.Tests.{leb-true}
 use Rattle.messages.specs.Words.{operand}
 use Rattle.messages.specs.Reading.{Cursor, cursor, Reading, refuse, got}
@@ -27,6 +27,10 @@ use Rattle.rules.proofs.Laws.{RuleRead, rule-read, rule-fuel, onward, s
 -- the rule at the front of the words l, the first of which has the index i; n PLACED words stand before it
 abbrev pub ruleAt : (l : List ℕ) (i around : ℕ) (somes : List ℕ) (n : ℕ) → Reading (Rule × Cursor)
 ruleAt l i around somes n = readRule (length l) around somes (cursor i n l)
+
+-- the SOMEs around, as the code lends them: the array's indices from f on
+pub lent : (l : List ℕ) (f : ℕ) → length l ≡ 8 → take (8 - f) (drop f l) ≡ drop f l
+lent l f h = take-all (8 - f) (drop f l) (omega (arith, length-drop f l))
 
 -- no word is left
 pub read-none : (l : List ℕ) (i around : ℕ) (somes : List ℕ) (t : RuleTable) → length l ≡ 0 → refusedAt 11 i ≡ scanned t (ruleAt l i around somes (t .count))
