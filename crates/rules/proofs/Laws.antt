@@ -23,11 +23,12 @@ use Rattle.rules.specs.declared.Asked.the-variants.{Leaf, One, Two, Choi
 use Rattle.rules.proofs.Cases.{Cases, rule-case}
 
 -- What holds where a rule was read from c on, p being the rule and the cursor behind it: `index` says where the rule stands,
--- `fewer` that there are no more PLACED words than words, and `counted` that the table counts them.
+-- `rises` and `fewer` that there are no more PLACED words than words, and `counted` that the table counts them.
 pub record RuleRead (somes : List ℕ) (c : Cursor) (p : Rule × Cursor) : Type 0 where
   pub index : ruleIndex (p .0) ≡ c .index
   pub ahead : c .index < p .1 .index
   pub advances : Advances c (p .1)
+  pub rises : c .number ≤ p .1 .number
   pub fewer : p .1 .number + c .index ≤ c .number + p .1 .index
   pub counted : (t : RuleTable) → t .count ≡ c .number → tabulate (p .0) t .count ≡ p .1 .number
 
@@ -38,6 +39,7 @@ module _ (somes : List ℕ) (c : Cursor) (q : ℕ × Cursor) (n : Next c q) wher
     index = e;
     ahead = omega (arith, n .index);
     advances = next-advances c q n;
+    rises = omega (arith, n .number);
     fewer = omega (arith, n .index, n .number);
     counted = λ t h. ap (λ (x : RuleTable). x .count) (k t) ∙ h ∙ sym (n .number);
   }
@@ -48,6 +50,7 @@ module _ (somes : List ℕ) (c : Cursor) (q : ℕ × Cursor) (n : Next c q) wher
       index = e;
       ahead = omega (arith, n .index, x .ahead);
       advances = advances-on c (q .1) (p .1) (next-advances c q n) (x .advances);
+      rises = omega (arith, n .number, x .rises);
       fewer = omega (arith, n .index, n .number, x .fewer);
       counted = λ t h. ap (λ (x : RuleTable). x .count) (k t) ∙ x .counted t (h ∙ sym (n .number));
     }
@@ -58,6 +61,7 @@ module _ (somes : List ℕ) (c : Cursor) (q : ℕ × Cursor) (n : Next c q) wher
       index = e;
       ahead = omega (arith, n .index, x .ahead, y .ahead);
       advances = advances-on c (p .1) (z .1) (advances-on c (q .1) (p .1) (next-advances c q n) (x .advances)) (y .advances);
+      rises = omega (arith, n .number, x .rises, y .rises);
       fewer = omega (arith, n .index, n .number, x .fewer, y .fewer);
       counted = λ t h.
           ap (λ (x : RuleTable). x .count) (k t) ∙ y .counted (turned (c .index) (ruleIndex (z .0)) (tabulate (p .0) t)) (x .counted t (h ∙ sym (n .number)));
@@ -69,30 +73,31 @@ module _ (somes : List ℕ) (c : Cursor) (q : ℕ × Cursor) (n : Next c q) wher
     index = refl;
     ahead = omega (arith, n .index, x .ahead);
     advances = advances-on c (q .1) (p .1) (next-advances c q n) (record { ahead = x .advances .ahead; within = x .advances .within; tail = x .advances .tail });
+    rises = omega (arith, n .number, x .rises);
     fewer = omega (arith, n .index, n .number, x .fewer);
     counted = λ t h. x .counted (entered (c .index) (q .1 .number) t) (add-one (t .count) ∙ ap suc (h ∙ sym (n .number)));
   }
 
-cases : Cases RuleRead
+pub read-cases : Cases RuleRead
 unfolding ruleIndex tabulate
-cases = record {
-  leaves = λ s c q n. (leaf-read s c q n (always (c .index)) refl (λ t. refl), leaf-read s c q n (void (c .index)) refl (λ t. refl));
+read-cases = record {
+  leaves = λ s c q n. ((λ k. leaf-read s c q n (always (c .index)) refl (λ t. refl)), (λ k. leaf-read s c q n (void (c .index)) refl (λ t. refl)));
   ones = λ s c q p n x. (
-    one-read s c q n s p x (negation (c .index) (p .0)) refl (λ t. refl),
-    one-read s c q n s p x (sometime (c .index) (p .0)) refl (λ t. refl),
-    one-read s c q n s p x (somewhere (c .index) (p .0)) refl (λ t. refl),
+    (λ k. one-read s c q n s p x (negation (c .index) (p .0)) refl (λ t. refl)),
+    (λ k. one-read s c q n s p x (sometime (c .index) (p .0)) refl (λ t. refl)),
+    (λ k. one-read s c q n s p x (somewhere (c .index) (p .0)) refl (λ t. refl)),
   );
   twos = λ s c q p z n x y. (
-    two-read s c q n s p x z y (either (c .index) (p .0) (z .0)) refl (λ t. refl),
-    two-read s c q n s p x z y (beside (c .index) (p .0) (z .0)) refl (λ t. refl),
+    (λ k. two-read s c q n s p x z y (either (c .index) (p .0) (z .0)) refl (λ t. refl)),
+    (λ k. two-read s c q n s p x z y (beside (c .index) (p .0) (z .0)) refl (λ t. refl)),
   );
   ats = λ s c q p n _ _ x. one-read s c q n s p x (at (c .index) (termOf (operand (q .0))) (p .0)) refl (λ t. refl);
-  chooses = λ s c q p n _ x. one-read s c q n (c .index ∷ s) p x (some-name (c .index) (p .0)) refl (λ t. refl);
+  chooses = λ s c q p n _ _ x. one-read s c q n (c .index ∷ s) p x (some-name (c .index) (p .0)) refl (λ t. refl);
   places = λ s c q p n _ _ x. place-read s c q n p x (termOf (operand (q .0)));
 }
 
 pub rule-read : (f around : ℕ) (somes : List ℕ) (c : Cursor) (p : Rule × Cursor) → readRule f around somes c ≡ got p → RuleRead somes c p
-rule-read f around somes c p e = rule-case RuleRead cases f around somes c p e
+rule-read f around somes c p e = rule-case RuleRead read-cases f around somes c p e
 
 -- readers that agree where at most n words are left
 module _ (n : ℕ) (r s : Reader) (h : (a : List ℕ) (c : Cursor) (p : Rule × Cursor) → r a c ≡ got p → RuleRead a c p)

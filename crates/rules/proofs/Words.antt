@@ -1,11 +1,11 @@
 -- Laws of rule words: the term that one says, questions 8 to 10, and the greatest name. Assumes nothing.
 use Prim.Native.Nat.{ℕ, zero, suc, _-_, _≤_, _<_, max}
-use mathlib.Core.Bool.{Bool, true, false, _&&_, _||_, cond}
+use mathlib.Core.Bool.{Bool, true, false, _||_, cond}
 use mathlib.Core.List.{List, [], _∷_}
-use mathlib.Core.Path.{_≡_, refl, sym, ap, _∙_}
+use mathlib.Core.Path.{_≡_, refl, sym, _∙_, subst}
 use native.Mathlib.Omega.{arith}
 use lib.ListN.{length, drop, getD}
-use borrow.Author.Tests.{le-leb, lt-leb, leb-true}
+use borrow.Author.Tests.{le-leb, lt-leb}
 use Rattle.messages.specs.Words.{kind, nameFits, member}
 use Rattle.messages.proofs.Tails.{before}
 use Rattle.rules.specs.Rule.{Term, constant, chosen, ruleName, greatestRuleName}
@@ -19,6 +19,37 @@ use Rattle.rules.specs.declared.Asked.the-variants.{No}
 -- a term is the one or the other
 constant≢chosen : {B : Type 0} (n i : ℕ) → _≡_ {A = RuleTerm} (Constant n) (Chosen i) → B
 constant≢chosen n i e = let z : _≡_ {A = ℕ} 0 1 = cc in absurd (let w : ⊥ = omega arith in w)
+
+-- a kind by its number
+abbrev Numbered : RuleKind → ℕ → Type 0
+Numbered TRUE k = k ≡ 0
+Numbered NOT k = k ≡ 1
+Numbered OR k = k ≡ 2
+Numbered VOID k = k ≡ 3
+Numbered AT k = k ≡ 4
+Numbered BESIDE k = k ≡ 5
+Numbered SOME k = k ≡ 6
+Numbered SOMETIME k = k ≡ 7
+Numbered SOMEWHERE k = k ≡ 8
+Numbered PLACED k = k ≡ 9
+Numbered OTHER k = Unit {0}
+
+kind-number : (k : ℕ) → Numbered (getD (TRUE ∷ NOT ∷ OR ∷ VOID ∷ AT ∷ BESIDE ∷ SOME ∷ SOMETIME ∷ SOMEWHERE ∷ PLACED ∷ []) k OTHER) k
+kind-number zero = refl
+kind-number (suc zero) = refl
+kind-number (suc (suc zero)) = refl
+kind-number (suc (suc (suc zero))) = refl
+kind-number (suc (suc (suc (suc zero)))) = refl
+kind-number (suc (suc (suc (suc (suc zero))))) = refl
+kind-number (suc (suc (suc (suc (suc (suc zero)))))) = refl
+kind-number (suc (suc (suc (suc (suc (suc (suc zero))))))) = refl
+kind-number (suc (suc (suc (suc (suc (suc (suc (suc zero)))))))) = refl
+kind-number (suc (suc (suc (suc (suc (suc (suc (suc (suc zero))))))))) = refl
+kind-number (suc (suc (suc (suc (suc (suc (suc (suc (suc (suc k)))))))))) = tt
+
+pub kind-told : (w : ℕ) (k : RuleKind) → ruleKind w ≡ k → Numbered k (kind w)
+unfolding ruleKind
+kind-told w k e = subst (λ (x : RuleKind). Numbered x (kind w)) e (kind-number (kind w))
 
 -- kinds above 9 are none of a rule
 pub other-kind : (w : ℕ) → (kind w ≡ 0 → ⊥) → (kind w ≡ 1 → ⊥) → (kind w ≡ 2 → ⊥) → (kind w ≡ 3 → ⊥) → (kind w ≡ 4 → ⊥) → (kind w ≡ 5 → ⊥) → (kind w ≡ 6 → ⊥) → (kind w ≡ 7 → ⊥) → (kind w ≡ 8 → ⊥) → (kind w ≡ 9 → ⊥)
