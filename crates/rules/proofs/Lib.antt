@@ -4,3 +4,4 @@ pub mod Cases
 pub mod Laws
 pub mod Steps
 pub mod Tabled
+pub mod Whole

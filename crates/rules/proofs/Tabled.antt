@@ -121,7 +121,7 @@ module _ (words : List ℕ) (few : length words ≤ 256) where
             let i₁ : q .1 .index < p .1 .index = h .read .ahead in
             let i₂ : p .1 .index < z .1 .index = k .read .ahead in
             let last : (u : RuleTable) → ((j : ℕ) → c .index ≤ j → j < z .1 .index → entry u j ≡ entry (tabulate r t) j) → (j : ℕ) → c .index ≤ j → j < p .1 .index → entry u j ≡ entry v j
-                = λ u a j y w. a j y (omega arith) ∙ ap (λ (y : RuleTable). entry y j) (e t) ∙ G .kept j w in
+            = λ u a j y w. a j y (omega arith) ∙ ap (λ (y : RuleTable). entry y j) (e t) ∙ G .kept j w in
             record {
               room = rw (e t) (G .room);
               kept = λ j a. ap (λ (y : RuleTable). entry y j) (e t) ∙ G .kept j (omega arith) ∙ turned-other (c .index) (ruleIndex (z .0)) (tabulate (p .0) t) j (λ w. omega (arith, w, a)) ∙ F .kept j (omega arith);
@@ -161,8 +161,7 @@ module _ (words : List ℕ) (few : length words ≤ 256) where
     places = λ s c q p n k o h.
         one-filled s c q n s (nextPart (q .1)) (n .index) refl p h (entered (c .index) (q .1 .number)) (entered-room (c .index) (q .1 .number)) (entered-other (c .index) (q .1 .number))
         (placed (c .index) (q .1 .number) (termOf (operand (q .0))) (p .0)) (λ t. refl) (read-cases .places s c q p n k o (h .read))
-        (λ st u t m i y b e.
-        (
+        (λ st u t m i y b e. (
           worded c q n st 9 k,
           i,
           y,
@@ -171,3 +170,41 @@ module _ (words : List ℕ) (few : length words ≤ 256) where
           omega (arith, h .read .rises, b),
         ));
   }
+
+  -- the table of a whole rule
+  whole-tabled : (n : ℕ) (p : Rule × Cursor) → readRule (length words) 0 [] (cursor 0 0 words) ≡ got p → n + p .1 .number ≤ 64 → Tabled n words (tabulate (p .0) vacant) p
+  whole-tabled n p e l =
+      let F : Fills [] (cursor 0 0 words) p = rule-case Fills fill-cases (length words) 0 [] (cursor 0 0 words) p e in
+      let counted : tabulate (p .0) vacant .count ≡ p .1 .number = F .read .counted vacant refl in
+      let room : Room vacant = record { rights = length-replicate {A = ℕ} 256 0; places = length-replicate {A = ℕ} 256 0 } in
+      record {
+        few = few;
+        room = omega (arith, counted, l);
+        counted = counted;
+        first = F .read .index;
+        ruled = F .filled refl vacant room .ruled (tabulate (p .0) vacant) (λ j a b. refl) (omega (arith, counted));
+      }
+
+-- what is claimed of a rule that is read
+abbrev Holds : ℕ → List ℕ → Rule × Cursor → Type 0
+Holds n ws p = Tabled n ws (tabulate (p .0) vacant) p
+
+-- THEOREM: the table of a rule that is accepted, and its words, hold the rule that they are read as.
+pub rule-tabled : (n : ℕ) (ws : List ℕ) (p : Rule × Cursor) → readWholeRule n ws ≡ got p → Tabled n ws (tabulate (p .0) vacant) p
+unfolding readWholeRule
+rule-tabled n ws =
+    bind-all (Holds n ws) (ask 7 0 (leb 1 (length ws) && leb (length ws) 256)) _
+    (λ u e₇. bind-all (Holds n ws) (readRule (length ws) 0 [] (cursor 0 0 ws)) _
+    (λ q e. bind-all (Holds n ws) (ask 11 (q .1 .index) (isEmpty (q .1 .left))) _
+    (λ _ _. bind-all (Holds n ws) (ask 12 0 (leb (n + q .1 .number) 64)) _
+    (λ v e₁₂. got-all (Holds n ws) q
+    (whole-tabled ws (leb-true (length ws) 256 (and-true (leb 1 (length ws)) (leb (length ws) 256) (ask-inv 7 0 _ u e₇) .1)) n q e (leb-true (n + q .1 .number) 64 (ask-inv 12 0 _ v e₁₂)))))))
+
+-- what the reader answers, and so what its table holds
+abbrev pub Answers : ℕ → List ℕ → RuleScan → Type 0
+Answers n ws r = (r ≡ scanned vacant (readWholeRule n ws)) × ((p : Rule × Cursor) → readWholeRule n ws ≡ got p → Tabled n ws (r .table) p)
+
+pub answers : (n : ℕ) (ws : List ℕ) (r : RuleScan) → r ≡ scanned vacant (readWholeRule n ws) → Answers n ws r
+unfolding scanned
+answers n ws r e =
+    (e, λ p d. subst (λ (t : RuleTable). Tabled n ws t p) (sym (ap (λ (x : RuleScan). x .table) (e ∙ ap (scanned vacant) d))) (rule-tabled n ws p d))
