@@ -5,3 +5,4 @@ pub mod Laws
 pub mod Steps
 pub mod Tabled
 pub mod Whole
+pub mod Inversion
