@@ -1,7 +1,7 @@
 -- The reader of rules as the code meets it: what a call inside answers, and what the whole answer then is. Assumes nothing.
-use Prim.Native.Nat.{ℕ, zero, suc, _+_, _-_, _≤_, _<_}
+use Prim.Native.Nat.{ℕ, suc, _+_, _-_, _≤_, _<_}
 use mathlib.Core.Bool.{Bool, true, false, _&&_, cond}
-use mathlib.Core.List.{List, [], _∷_}
+use mathlib.Core.List.{List, _∷_}
 use mathlib.Core.Path.{_≡_, refl, sym, ap, _∙_, subst}
 use native.Mathlib.Omega.{arith}
 use native.Mathlib.Numerals.{add-one}
@@ -13,7 +13,7 @@ use Rattle.messages.specs.Words.{operand}
 use Rattle.messages.specs.Reading.{Cursor, cursor, Reading, refuse, got}
 use Rattle.messages.specs.declared.Outcome.the-variants.{Read, Refused}
 use Rattle.messages.proofs.Readings.{placed, read≢refused}
-use Rattle.messages.proofs.Tails.{no-element, first, part, part-drop, length-part}
+use Rattle.messages.proofs.Tails.{no-element, first, part, part-drop}
 use Rattle.rules.specs.Rule.{Rule}
 use Rattle.rules.specs.ReadRule.{RuleKind, TRUE, NOT, OR, VOID, AT, BESIDE, SOME, SOMETIME, SOMEWHERE, PLACED, OTHER, ruleKind, fits, bound, somesWith, Reader, readRule}
 use Rattle.rules.specs.RuleTable.{follow, levelled, asked, refusedAt, turned, entered, tabulate, scanned}

@@ -1,17 +1,17 @@
 -- The rule table and the words hold the rule that is read: what is written at a rule's own words stays, whatever is read
 -- behind them. Assumes nothing.
-use Prim.Native.Nat.{ℕ, zero, suc, _+_, _-_, _≤_, _<_}
+use Prim.Native.Nat.{ℕ, suc, _+_, _-_, _≤_, _<_}
 use mathlib.Core.Bool.{_&&_}
 use mathlib.Core.List.{List, [], _∷_}
-use mathlib.Core.Path.{_≡_, refl, sym, ap, ap₂, _∙_, subst}
+use mathlib.Core.Path.{_≡_, refl, sym, ap, _∙_, subst}
 use native.Mathlib.Omega.{arith}
 use native.Mathlib.Numerals.{add-one}
 use lib.Dec.{leb}
-use lib.ListN.{length, getD, set, drop, replicate, length-set, length-drop, length-replicate}
+use lib.ListN.{length, getD, drop, length-set, length-drop, length-replicate}
 use lib.Seq.{getD-set-same, getD-set-other, getD-drop}
 use borrow.Author.Tests.{leb-true}
 use Rattle.messages.specs.Words.{kind, operand}
-use Rattle.messages.specs.Reading.{Cursor, cursor, Reading, got, _>>=_, ask, nextPart, isEmpty}
+use Rattle.messages.specs.Reading.{Cursor, cursor, got, ask, nextPart, isEmpty}
 use Rattle.messages.proofs.Readings.{bind-all, got-all, ask-inv, Stands, stands-on, Next, next-advances}
 use Rattle.rules.specs.Rule.{Rule, always, negation, either, void, at, beside, some-name, sometime, somewhere, placed, ruleIndex}
 use Rattle.rules.specs.ReadRule.{termOf, readRule, readWholeRule}

@@ -1,6 +1,6 @@
 -- Laws of rule words: the term that one says, questions 8 to 10, and the greatest name. Assumes nothing.
 use Prim.Native.Nat.{ℕ, zero, suc, _-_, _≤_, _<_, max}
-use mathlib.Core.Bool.{Bool, true, false, _||_, cond}
+use mathlib.Core.Bool.{Bool, true, false, cond}
 use mathlib.Core.List.{List, [], _∷_}
 use mathlib.Core.Path.{_≡_, refl, sym, _∙_, subst}
 use native.Mathlib.Omega.{arith}
@@ -8,7 +8,7 @@ use lib.ListN.{length, drop, getD}
 use borrow.Author.Tests.{le-leb, lt-leb}
 use Rattle.messages.specs.Words.{kind, nameFits, member}
 use Rattle.messages.proofs.Tails.{before}
-use Rattle.rules.specs.Rule.{Term, constant, chosen, ruleName, greatestRuleName}
+use Rattle.rules.specs.Rule.{ruleName, greatestRuleName}
 use Rattle.rules.specs.ReadRule.{RuleKind, TRUE, NOT, OR, VOID, AT, BESIDE, SOME, SOMETIME, SOMEWHERE, PLACED, OTHER, ruleKind, isChosen, termOf, termBound}
 use Rattle.rules.specs.RuleTable.{termWord, levelled, askedTerm}
 use Rattle.rules.specs.declared.RuleTerm.{RuleTerm}

@@ -3,3 +3,4 @@ pub mod Rule
 pub mod ReadRule
 pub mod RuleTable
 pub mod Ruled
+pub mod Examples

@@ -1,13 +1,12 @@
 -- What the code of `rules` answers, and the rule table that its reader fills, as a function of the rule that the words are read
 -- as. Assumes nothing: these are definitions.
-use Prim.Native.Nat.{ℕ, zero, suc, _+_}
-use mathlib.Core.Bool.{Bool, true, false, _&&_, _||_, cond}
-use mathlib.Core.List.{List, [], _∷_}
+use Prim.Native.Nat.{ℕ, _+_}
+use mathlib.Core.Bool.{_&&_, _||_, cond}
+use mathlib.Core.List.{List}
 use lib.ListN.{length, set, replicate}
 use lib.Dec.{leb, eqb}
 use Rattle.messages.specs.Words.{nameFits}
 use Rattle.messages.specs.Reading.{Cursor, Reading, refuse, got}
-use Rattle.messages.specs.declared.Outcome.{Outcome}
 use Rattle.messages.specs.declared.Outcome.the-variants.{Read, Refused}
 use Rattle.rules.specs.Rule.{Term, constant, chosen, Rule, always, negation, either, void, at, beside, some-name, sometime, somewhere, placed, ruleIndex}
 use Rattle.rules.specs.ReadRule.{RuleKind, TRUE, NOT, OR, VOID, AT, BESIDE, SOME, SOMETIME, SOMEWHERE, PLACED, OTHER, isChosen, termOf, fits, termBound, bound, somesWith}

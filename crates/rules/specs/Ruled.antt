@@ -1,7 +1,7 @@
 -- How the rule's words and the rule table stand for the rule that was read: what a walk that stands at a word's index may
 -- know of the rule there. The law that they do is in proofs/Tabled.antt. Assumes nothing: these are definitions.
 use Prim.Native.Nat.{ℕ, suc, _+_, _≤_, _<_}
-use mathlib.Core.Bool.{Bool, true, _||_}
+use mathlib.Core.Bool.{true, _||_}
 use mathlib.Core.List.{List, [], _∷_}
 use mathlib.Core.Path.{_≡_}
 use lib.ListN.{getD, length}

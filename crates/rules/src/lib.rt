@@ -2,8 +2,8 @@
 // document 01. It rests on the promises of messages.
 use messages::Outcome;
 ghost use mathlib.Core.Path.{_≡_};
-ghost use mathlib.Core.List.{List, _∷_};
-ghost use Prim.Native.Nat.{ℕ, _+_, _≤_, _<_};
+ghost use mathlib.Core.List.{_∷_};
+ghost use Prim.Native.Nat.{_+_, _≤_, _<_};
 ghost use lib.ListN.{length, drop};
 ghost use Rattle.messages.specs.Words.{operand};
 ghost use Rattle.messages.specs.Reading.{Cursor, cursor, got};
@@ -38,9 +38,9 @@ pub struct RuleTable {
 }
 
 // The indices of the SOMEs around a word, innermost first, from first on.
-pub struct Somes {
-    pub indices: [u16; 8],
-    pub first: usize,
+struct Somes {
+    indices: [u16; 8],
+    first: usize,
 }
 
 // What a reader of rules answers. A refusal gives the empty table.
@@ -186,7 +186,7 @@ fn with_some(somes: Somes, at: u16) -> Somes
 }
 
 // The rule at the front of s, the words from index at on, with so many rules around it.
-pub fn read_rule(s: &[u32], at: usize, around: usize, somes: Somes, table: RuleTable) -> RuleScan
+fn read_rule(s: &[u32], at: usize, around: usize, somes: Somes, table: RuleTable) -> RuleScan
     requires { ⌜ (at + length (now s) ≤ 256) × (around ≤ 65) × (somes .first ≤ 8) × (table .count ≤ at) ⌝ }
     ensures { λ r. ⌜ r ≡ scanned table (readRule (length (now (s .entry))) around (drop (somes .first) (somes .indices)) (cursor at (table .count) (now (s .entry)))) ⌝ }
 {

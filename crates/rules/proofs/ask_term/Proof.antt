@@ -1,5 +1,5 @@
 -- `rules::ask_term` meets its contract: by the term that the word says. Assumes nothing.
-use mathlib.Core.Path.{_≡_, sym, _∙_}
+use mathlib.Core.Path.{sym, _∙_}
 use native.Mathlib.Omega.{arith}
 use borrow.Author.Needs.{needs}
 use Rattle.rules.proofs.Words.{name-fits, name-none, name-large, term-unfit, term-fits, term-around, term-free}
