@@ -1,20 +1,21 @@
 -- Laws of rule words: the term that one says, questions 8 to 10, and the greatest name. Assumes nothing.
-use Prim.Native.Nat.{ℕ, zero, suc, _-_, _≤_, _<_, max}
+use Prim.Native.Nat.{ℕ, zero, suc, _+_, _-_, _/_, _≤_, _<_, max}
 use mathlib.Core.Bool.{Bool, true, false, cond}
 use mathlib.Core.List.{List, [], _∷_}
 use mathlib.Core.Path.{_≡_, refl, sym, _∙_, subst}
 use native.Mathlib.Omega.{arith}
+use native.Mathlib.Numerals.{add-one}
 use lib.ListN.{length, drop, getD}
 use borrow.Author.Tests.{le-leb, lt-leb}
-use Rattle.messages.specs.Words.{kind, nameFits, member}
+use Rattle.messages.specs.Words.{kind, operand, nameFits, member}
 use Rattle.messages.proofs.Tails.{before}
 use Rattle.rules.specs.Rule.{ruleName, greatestRuleName}
-use Rattle.rules.specs.ReadRule.{RuleKind, TRUE, NOT, OR, VOID, AT, BESIDE, SOME, SOMETIME, SOMEWHERE, PLACED, OTHER, ruleKind, isChosen, termOf, termBound}
-use Rattle.rules.specs.RuleTable.{termWord, levelled, askedTerm}
+use Rattle.rules.specs.ReadRule.{RuleKind, TRUE, NOT, OR, VOID, AT, BESIDE, SOME, SOMETIME, SOMEWHERE, PLACED, OTHER, ruleKind, isChosen, termOf, fits, termBound, bound, somesWith}
+use Rattle.rules.specs.RuleTable.{termWord, follow, levelled, askedPlain, askedTerm, asked}
 use Rattle.rules.specs.declared.RuleTerm.{RuleTerm}
 use Rattle.rules.specs.declared.RuleTerm.the-variants.{Constant, Chosen}
 use Rattle.rules.specs.declared.Asked.{Asked}
-use Rattle.rules.specs.declared.Asked.the-variants.{No}
+use Rattle.rules.specs.declared.Asked.the-variants.{Leaf, One, Two, Choice, Place, No}
 
 -- a term is the one or the other
 constant≢chosen : {B : Type 0} (n i : ℕ) → _≡_ {A = RuleTerm} (Constant n) (Chosen i) → B
@@ -34,7 +35,10 @@ Numbered SOMEWHERE k = k ≡ 8
 Numbered PLACED k = k ≡ 9
 Numbered OTHER k = Unit {0}
 
-kind-number : (k : ℕ) → Numbered (getD (TRUE ∷ NOT ∷ OR ∷ VOID ∷ AT ∷ BESIDE ∷ SOME ∷ SOMETIME ∷ SOMEWHERE ∷ PLACED ∷ []) k OTHER) k
+abbrev kindOf : ℕ → RuleKind
+kindOf k = getD (TRUE ∷ NOT ∷ OR ∷ VOID ∷ AT ∷ BESIDE ∷ SOME ∷ SOMETIME ∷ SOMEWHERE ∷ PLACED ∷ []) k OTHER
+
+kind-number : (k : ℕ) → Numbered (kindOf k) k
 kind-number zero = refl
 kind-number (suc zero) = refl
 kind-number (suc (suc zero)) = refl
@@ -51,25 +55,56 @@ pub kind-told : (w : ℕ) (k : RuleKind) → ruleKind w ≡ k → Numbered k (ki
 unfolding ruleKind
 kind-told w k e = subst (λ (x : RuleKind). Numbered x (kind w)) e (kind-number (kind w))
 
--- kinds above 9 are none of a rule
-pub other-kind : (w : ℕ) → (kind w ≡ 0 → ⊥) → (kind w ≡ 1 → ⊥) → (kind w ≡ 2 → ⊥) → (kind w ≡ 3 → ⊥) → (kind w ≡ 4 → ⊥) → (kind w ≡ 5 → ⊥) → (kind w ≡ 6 → ⊥) → (kind w ≡ 7 → ⊥) → (kind w ≡ 8 → ⊥) → (kind w ≡ 9 → ⊥)
-    → ruleKind w ≡ OTHER
-unfolding ruleKind
-other-kind w a b c d e f g h i j = told (kind w) a b c d e f g h i j
-  where
-    told : (k : ℕ) → (k ≡ 0 → ⊥) → (k ≡ 1 → ⊥) → (k ≡ 2 → ⊥) → (k ≡ 3 → ⊥) → (k ≡ 4 → ⊥) → (k ≡ 5 → ⊥) → (k ≡ 6 → ⊥) → (k ≡ 7 → ⊥) → (k ≡ 8 → ⊥) → (k ≡ 9 → ⊥)
-        → getD (TRUE ∷ NOT ∷ OR ∷ VOID ∷ AT ∷ BESIDE ∷ SOME ∷ SOMETIME ∷ SOMEWHERE ∷ PLACED ∷ []) k OTHER ≡ OTHER
-    told zero a b c d e f g h i j = absurd (a refl)
-    told (suc zero) a b c d e f g h i j = absurd (b refl)
-    told (suc (suc zero)) a b c d e f g h i j = absurd (c refl)
-    told (suc (suc (suc zero))) a b c d e f g h i j = absurd (d refl)
-    told (suc (suc (suc (suc zero)))) a b c d e f g h i j = absurd (e refl)
-    told (suc (suc (suc (suc (suc zero))))) a b c d e f g h i j = absurd (f refl)
-    told (suc (suc (suc (suc (suc (suc zero)))))) a b c d e f g h i j = absurd (g refl)
-    told (suc (suc (suc (suc (suc (suc (suc zero))))))) a b c d e f g h i j = absurd (h refl)
-    told (suc (suc (suc (suc (suc (suc (suc (suc zero)))))))) a b c d e f g h i j = absurd (i refl)
-    told (suc (suc (suc (suc (suc (suc (suc (suc (suc zero))))))))) a b c d e f g h i j = absurd (j refl)
-    told (suc (suc (suc (suc (suc (suc (suc (suc (suc (suc k)))))))))) a b c d e f g h i j = refl
+-- what the code asks of a word of that kind
+abbrev askedBy : RuleKind → (around : ℕ) (somes : List ℕ) (n : ℕ) → Asked
+askedBy TRUE around somes n = askedPlain around (length somes) n Leaf
+askedBy NOT around somes n = askedPlain around (length somes) n One
+askedBy OR around somes n = askedPlain around (length somes) n Two
+askedBy VOID around somes n = askedPlain around (length somes) n Leaf
+askedBy AT around somes n = askedTerm around somes n One
+askedBy BESIDE around somes n = askedPlain around (length somes) n Two
+askedBy SOME around somes n = askedPlain around (length somes + 1) n Choice
+askedBy SOMETIME around somes n = askedPlain around (length somes) n One
+askedBy SOMEWHERE around somes n = askedPlain around (length somes) n One
+askedBy PLACED around somes n = askedTerm around somes n Place
+askedBy OTHER around somes n = No 8
+
+kind-asked : (k : RuleKind) (around : ℕ) (somes : List ℕ) (n : ℕ) → askedBy k around somes n ≡ asked around somes k n
+unfolding asked askedPlain askedTerm fits bound somesWith follow
+kind-asked TRUE around somes n = refl
+kind-asked NOT around somes n = refl
+kind-asked OR around somes n = refl
+kind-asked VOID around somes n = refl
+kind-asked AT around somes n = refl
+kind-asked BESIDE around somes n = refl
+kind-asked SOME around somes n = rw (add-one (length somes))
+kind-asked SOMETIME around somes n = refl
+kind-asked SOMEWHERE around somes n = refl
+kind-asked PLACED around somes n = refl
+kind-asked OTHER around somes n = refl
+
+module _ (around : ℕ) (somes : List ℕ) (w : ℕ) where
+  pub word-asked : (k : ℕ) → w / 268435456 ≡ k → askedBy (kindOf k) around somes (operand w) ≡ asked around somes (ruleKind w) (operand w)
+  unfolding ruleKind kind
+  word-asked k e = rw e (kind-asked (kindOf k) around somes (operand w))
+
+  -- kinds above 9 are none of a rule
+  pub other-asked : (w / 268435456 ≡ 0 → ⊥) → (w / 268435456 ≡ 1 → ⊥) → (w / 268435456 ≡ 2 → ⊥) → (w / 268435456 ≡ 3 → ⊥) → (w / 268435456 ≡ 4 → ⊥) → (w / 268435456 ≡ 5 → ⊥) → (w / 268435456 ≡ 6 → ⊥) → (w / 268435456 ≡ 7 → ⊥) → (w / 268435456 ≡ 8 → ⊥) → (w / 268435456 ≡ 9 → ⊥) → No 8 ≡ asked around somes (ruleKind w) (operand w)
+  unfolding kind
+  other-asked a b c d e f g h i j = rw (told (ruleKind w) refl) (kind-asked OTHER around somes (operand w))
+    where
+      told : (k : RuleKind) → ruleKind w ≡ k → k ≡ OTHER
+      told TRUE z = absurd (a (kind-told w TRUE z))
+      told NOT z = absurd (b (kind-told w NOT z))
+      told OR z = absurd (c (kind-told w OR z))
+      told VOID z = absurd (d (kind-told w VOID z))
+      told AT z = absurd (e (kind-told w AT z))
+      told BESIDE z = absurd (f (kind-told w BESIDE z))
+      told SOME z = absurd (g (kind-told w SOME z))
+      told SOMETIME z = absurd (h (kind-told w SOMETIME z))
+      told SOMEWHERE z = absurd (i (kind-told w SOMEWHERE z))
+      told PLACED z = absurd (j (kind-told w PLACED z))
+      told OTHER z = refl
 
 -- names 1 to 255 fit
 pub name-fits : (n : ℕ) → (n ≡ 0 → ⊥) → n ≤ 255 → nameFits n ≡ true
