@@ -1,13 +1,21 @@
 -- What a walk learns where it stands: of the rule at an index, by the kind of the word there. Assumes nothing.
-use Prim.Native.Nat.{ℕ, zero, suc, _+_, _≤_, _<_}
+use Prim.Native.Nat.{ℕ, zero, suc, _+_, _-_, _≤_, _<_}
+use mathlib.Core.Bool.{Bool, true, false, _||_, false≢true}
 use mathlib.Core.List.{List, _∷_}
-use mathlib.Core.Path.{_≡_, refl, sym, ap, ap₂, subst}
+use mathlib.Core.Path.{_≡_, refl, sym, ap, ap₂, _∙_, subst}
+use native.Mathlib.Omega.{arith}
+use lib.Dec.{leb}
 use lib.ListN.{getD, length}
-use Rattle.messages.specs.Words.{kind, operand}
-use Rattle.rules.specs.Rule.{Term, Rule, always, negation, either, void, at, beside, some-name, sometime, somewhere, placed, ruleIndex}
-use Rattle.rules.specs.ReadRule.{termOf}
+use borrow.Author.Tests.{leb-true}
+use Rattle.messages.specs.Words.{kind, operand, nameFits, member}
+use Rattle.rules.specs.Rule.{Term, constant, chosen, Rule, always, negation, either, void, at, beside, some-name, sometime, somewhere, placed, ruleIndex}
+use Rattle.rules.specs.ReadRule.{isChosen, termOf, termBound}
+use Rattle.rules.specs.RuleTable.{termWord}
 use Rattle.rules.specs.Ruled.{Said, Ruled}
 use Rattle.rules.specs.declared.RuleTable.{RuleTable}
+use Rattle.rules.specs.declared.RuleTerm.the-variants.{Constant, Chosen}
+use Rattle.rules.proofs.Words.{constant-told, chosen-told}
+use Rattle.rules.proofs.Cases.{and-true}
 
 module _ (words : List ℕ) (t : RuleTable) (somes : List ℕ) where
   -- the term of the word at the index i
@@ -73,3 +81,28 @@ module _ (words : List ℕ) (t : RuleTable) (somes : List ℕ) where
   rule-inside (sometime i q) h = h .0 .inside
   rule-inside (somewhere i q) h = h .0 .inside
   rule-inside (placed i j n q) h = h .0 .inside
+
+-- What the term at an index is, by what `term_of` answers of the word there: a name from 1 to 255, or the index of a SOME around.
+plain-fits : (n m : ℕ) → (nameFits n || isChosen n) ≡ true → constant m ≡ termOf n → nameFits m ≡ true
+unfolding termOf
+plain-fits n m f e = told (isChosen n) refl (nameFits n) refl
+  where
+    told : (b : Bool) → isChosen n ≡ b → (d : Bool) → nameFits n ≡ d → nameFits m ≡ true
+    told true t d g = let y : constant m ≡ chosen (n - 134217728) = e ∙ rw t in let z : _≡_ {A = ℕ} 0 1 = cc in absurd (omega arith)
+    told false t true g = let y : constant m ≡ constant n = e ∙ rw t in let z : m ≡ n = cc in rw z g
+    told false t false g = absurd (false≢true (rw (g, t) at f))
+
+name-between : (n : ℕ) → nameFits n ≡ true → (1 ≤ n) × (n ≤ 255)
+unfolding nameFits
+name-between n f = let h = and-true (leb 1 n) (leb n 255) f in (leb-true 1 n (h .0), leb-true n 255 (h .1))
+
+module _ (words somes : List ℕ) (i : ℕ) (t : Term) (s : Said words somes i t) where
+  pub constant-said : (n : ℕ) → Constant n ≡ termWord t → (t ≡ constant n) × (1 ≤ n) × (n ≤ 255)
+  constant-said n e =
+      let c : t ≡ constant n = constant-told t n e in
+      let b = name-between n (plain-fits (operand (getD words i 0)) n (s .fits) (sym c ∙ s .term)) in
+      (c, b .0, b .1)
+
+  pub chosen-said : (k : ℕ) → Chosen k ≡ termWord t → (t ≡ chosen k) × (member k somes ≡ true)
+  unfolding termBound
+  chosen-said k e = let c : t ≡ chosen k = chosen-told t k e in (c, rw c at (s .bound))

@@ -9,7 +9,7 @@ use lib.ListN.{length, drop, getD}
 use borrow.Author.Tests.{le-leb, lt-leb}
 use Rattle.messages.specs.Words.{kind, operand, nameFits, member}
 use Rattle.messages.proofs.Tails.{before}
-use Rattle.rules.specs.Rule.{ruleName, greatestRuleName}
+use Rattle.rules.specs.Rule.{Term, constant, chosen, ruleName, greatestRuleName}
 use Rattle.rules.specs.ReadRule.{RuleKind, TRUE, NOT, OR, VOID, AT, BESIDE, SOME, SOMETIME, SOMEWHERE, PLACED, OTHER, ruleKind, isChosen, termOf, fits, termBound, bound, somesWith}
 use Rattle.rules.specs.RuleTable.{termWord, follow, levelled, askedPlain, askedTerm, asked}
 use Rattle.rules.specs.declared.RuleTerm.{RuleTerm}
@@ -20,6 +20,17 @@ use Rattle.rules.specs.declared.Asked.the-variants.{Leaf, One, Two, Choi
 -- a term is the one or the other
 constant≢chosen : {B : Type 0} (n i : ℕ) → _≡_ {A = RuleTerm} (Constant n) (Chosen i) → B
 constant≢chosen n i e = let z : _≡_ {A = ℕ} 0 1 = cc in absurd (let w : ⊥ = omega arith in w)
+
+-- which term it is, by the code's answer
+pub constant-told : (t : Term) (n : ℕ) → Constant n ≡ termWord t → t ≡ constant n
+unfolding termWord
+constant-told (constant m) n e = let z : m ≡ n = cc in rw z
+constant-told (chosen i) n e = constant≢chosen n i e
+
+pub chosen-told : (t : Term) (i : ℕ) → Chosen i ≡ termWord t → t ≡ chosen i
+unfolding termWord
+chosen-told (constant n) i e = constant≢chosen n i (sym e)
+chosen-told (chosen j) i e = let z : j ≡ i = cc in rw z
 
 -- a kind by its number
 abbrev Numbered : RuleKind → ℕ → Type 0
