@@ -2,14 +2,14 @@
 use Prim.Native.Nat.{ℕ, zero, suc, _+_, _≤_}
 use mathlib.Core.List.{List, [], _∷_}
 use mathlib.Core.Bool.{Bool, true, false, _&&_, _||_, false≢true}
-use mathlib.Core.Path.{_≡_, refl, subst}
+use mathlib.Core.Path.{_≡_, refl}
 use lib.Dec.{leb}
 use lib.ListN.{length}
 use borrow.Author.Tests.{leb-true}
 use Rattle.messages.specs.Words.{kind, operand, nameFits}
-use Rattle.messages.specs.Reading.{Cursor, cursor, Reading, got, _>>=_, ask, nextWord, nextPart, isEmpty}
+use Rattle.messages.specs.Reading.{Cursor, cursor, got, ask, nextWord, nextPart, isEmpty}
 use Rattle.messages.proofs.Readings.{refuse≢got, bind-all, got-all, ask-inv, Next, next}
-use Rattle.rules.specs.Rule.{Term, Rule, always, negation, either, void, at, beside, some-name, sometime, somewhere, placed}
+use Rattle.rules.specs.Rule.{Rule, always, negation, either, void, at, beside, some-name, sometime, somewhere, placed}
 use Rattle.rules.specs.ReadRule.{RuleKind, TRUE, NOT, OR, VOID, AT, BESIDE, SOME, SOMETIME, SOMEWHERE, PLACED, OTHER, ruleKind, isChosen, termOf, fits, termBound, bound, somesWith, one, two, ruleFrom, readRule, readWholeRule}
 use Rattle.rules.proofs.Words.{kind-told}
 
