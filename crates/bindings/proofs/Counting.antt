@@ -5,7 +5,7 @@ use mathlib.Core.List.{List, [], _∷_, _++_}
 use mathlib.Core.Path.{_≡_, refl, sym, ap, _∙_}
 use native.Mathlib.Omega.{arith}
 use native.Mathlib.Nat.{add-zero}
-use lib.ListN.{length, drop, set, getD, length-append, length-drop}
+use lib.ListN.{length, drop, getD, length-append, length-drop}
 use lib.Seq.{drop-drop, drop-nil, drop-append-le, drop-append-add}
 use Rattle.messages.specs.Message.{Message, items, asks, firstItem}
 use Rattle.messages.specs.Spelling.{top, push, spelled, messageAt}
@@ -103,15 +103,6 @@ cached-drop k ok = record { counted = kept-drop (ok .counted) k; sized = kept-dr
 -- one binding more, and what was counted of its message
 pub cached-more : {script vs ps cs ss bs : List ℕ} (v a : ℕ) (r : Measured) → Cached script vs ps cs ss bs → Measures (resolve (bindingsIn script vs ps) (messageAt (drop a script))) r → Cached script (v ∷ vs) (a ∷ ps) (r .count ∷ cs) (r .size ∷ ss) (r .bulk ∷ bs)
 cached-more v a r ok m = record { counted = kept-more (ok .counted) v a (r .count) (m .count); sized = kept-more (ok .sized) v a (r .size) (m .size); bulked = kept-more (ok .bulked) v a (r .bulk) (m .bulk) }
-
--- an array that is filled from the end: the part from the place before is one longer
-pub drop-set : (l : List ℕ) (f v : ℕ) → 0 < f → f ≤ length l → drop (f - 1) (set l (f - 1) v) ≡ v ∷ drop f l
-drop-set l zero v z h = absurd (omega arith)
-drop-set [] (suc f) v z h = absurd (omega arith)
-drop-set (x ∷ l) (suc zero) v z h = refl
-drop-set (x ∷ l) (suc (suc f)) v z h =
-    let e : suc (suc f) - 1 ≡ suc (suc f - 1) = omega arith in
-    rw e (drop-set l (suc f) v (omega arith) (omega arith))
 
 -- words
 

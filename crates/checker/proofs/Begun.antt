@@ -171,19 +171,19 @@ module _ (c : Cursor) (q : ℕ × Cursor) (x : Next c q) where
 
 rule-placing : rule.Cases Placing
 rule-placing = record {
-  leaves = λ somes c q x. (record { rises = omega (arith, x .number); places = tt }, record { rises = omega (arith, x .number); places = tt });
+  leaves = λ somes c q x. ((λ k. record { rises = omega (arith, x .number); places = tt }), (λ k. record { rises = omega (arith, x .number); places = tt }));
   ones = λ somes c q p x h. (
-    record { rises = omega (arith, x .number, h .rises); places = down c q x (p .0) (h .places) },
-    record { rises = omega (arith, x .number, h .rises); places = down c q x (p .0) (h .places) },
-    record { rises = omega (arith, x .number, h .rises); places = down c q x (p .0) (h .places) },
+    (λ k. record { rises = omega (arith, x .number, h .rises); places = down c q x (p .0) (h .places) }),
+    (λ k. record { rises = omega (arith, x .number, h .rises); places = down c q x (p .0) (h .places) }),
+    (λ k. record { rises = omega (arith, x .number, h .rises); places = down c q x (p .0) (h .places) }),
   );
   twos = λ somes c q p r x h g.
       let w : Places (c .number) (r .0) = places-down (r .0) (c .number) (p .1 .number) (omega (arith, x .number, h .rises)) (g .places) in (
-        record { rises = omega (arith, x .number, h .rises, g .rises); places = (down c q x (p .0) (h .places), w) },
-        record { rises = omega (arith, x .number, h .rises, g .rises); places = (down c q x (p .0) (h .places), w) },
+        (λ k. record { rises = omega (arith, x .number, h .rises, g .rises); places = (down c q x (p .0) (h .places), w) }),
+        (λ k. record { rises = omega (arith, x .number, h .rises, g .rises); places = (down c q x (p .0) (h .places), w) }),
       );
   ats = λ somes c q p x e o h. record { rises = omega (arith, x .number, h .rises); places = down c q x (p .0) (h .places) };
-  chooses = λ somes c q p x l h. record { rises = omega (arith, x .number, h .rises); places = down c q x (p .0) (h .places) };
+  chooses = λ somes c q p x k l h. record { rises = omega (arith, x .number, h .rises); places = down c q x (p .0) (h .places) };
   places = λ somes c q p x e o h. record { rises = omega (arith, x .number, h .rises); places = (omega (arith, x .number), h .places) };
 }
 

@@ -1,13 +1,12 @@
 -- The script and the rule as read: their part numbers and their names are below what the call hands to the walk.
 -- Assumes nothing.
-use Prim.Native.Nat.{ℕ, zero, suc, _+_, _-_, _≤_, _<_, max}
+use Prim.Native.Nat.{ℕ, _+_, _-_, _≤_, _<_, max}
 use mathlib.Core.Bool.{Bool, true, false, cond, _&&_, _||_, true≢false, false≢true}
 use mathlib.Core.List.{List, [], _∷_}
 use mathlib.Core.Path.{_≡_, refl, sym, ap, _∙_, subst}
 use mathlib.Core.Logic.{_⊎_, inl, inr}
 use native.Mathlib.Omega.{arith}
 use lib.Dec.{leb, ltb, eqb}
-use lib.ListN.{length, getD}
 use borrow.Author.Tests.{eqb-true, eq-eqb, leb-false, lt-ltb}
 use Rattle.messages.specs.Words.{operand, kind, nameFits}
 use Rattle.messages.specs.Reading.{Cursor, cursor, got, nextPart}
@@ -24,7 +23,7 @@ use Rattle.scripts.proofs.Cases as body
 use Rattle.machine.proofs.Options.{byTest}
 use Rattle.machine.proofs.Everywhere.{Everywhere, map-everywhere, more-everywhere, settle-everywhere}
 use Rattle.rules.specs.Rule.{Term, constant, chosen, Rule, always, negation, either, void, at, beside, some-name, sometime, somewhere, placed, ruleName, greatestRuleName}
-use Rattle.rules.specs.ReadRule.{RuleKind, TRUE, NOT, OR, VOID, AT, BESIDE, SOME, SOMETIME, SOMEWHERE, PLACED, OTHER, ruleKind, isChosen, termOf, readWholeRule}
+use Rattle.rules.specs.ReadRule.{isChosen, termOf, readWholeRule}
 use Rattle.rules.proofs.Cases as rule
 use Rattle.walk.proofs.Fits.{MessageAll, HeadAll, Fit, Fits, TermAll, RuleAll, items-all, rule-more}
 
@@ -178,40 +177,12 @@ script-fits ws p e =
 
 -- ---- the rule
 
--- the kinds of AT and PLACED are 4 and 9
-abbrev Termed : ℕ → RuleKind → Type 0
-Termed k TRUE = Unit {0}
-Termed k NOT = Unit {0}
-Termed k OR = Unit {0}
-Termed k VOID = Unit {0}
-Termed k AT = (eqb k 4 || eqb k 9) ≡ true
-Termed k BESIDE = Unit {0}
-Termed k SOME = Unit {0}
-Termed k SOMETIME = Unit {0}
-Termed k SOMEWHERE = Unit {0}
-Termed k PLACED = (eqb k 4 || eqb k 9) ≡ true
-Termed k OTHER = Unit {0}
+-- a word of AT or PLACED has a term
+at-termed : (k : ℕ) → k ≡ 4 → (eqb k 4 || eqb k 9) ≡ true
+at-termed k e = rw e
 
-kind-termed : (k : ℕ) → Termed k (getD (TRUE ∷ NOT ∷ OR ∷ VOID ∷ AT ∷ BESIDE ∷ SOME ∷ SOMETIME ∷ SOMEWHERE ∷ PLACED ∷ []) k OTHER)
-kind-termed zero = tt
-kind-termed (suc zero) = tt
-kind-termed (suc (suc zero)) = tt
-kind-termed (suc (suc (suc zero))) = tt
-kind-termed (suc (suc (suc (suc zero)))) = refl
-kind-termed (suc (suc (suc (suc (suc zero))))) = tt
-kind-termed (suc (suc (suc (suc (suc (suc zero)))))) = tt
-kind-termed (suc (suc (suc (suc (suc (suc (suc zero))))))) = tt
-kind-termed (suc (suc (suc (suc (suc (suc (suc (suc zero)))))))) = tt
-kind-termed (suc (suc (suc (suc (suc (suc (suc (suc (suc zero))))))))) = refl
-kind-termed (suc (suc (suc (suc (suc (suc (suc (suc (suc (suc k)))))))))) = tt
-
-at-termed : (w : ℕ) → ruleKind w ≡ AT → (eqb (kind w) 4 || eqb (kind w) 9) ≡ true
-unfolding ruleKind
-at-termed w e = subst (Termed (kind w)) e (kind-termed (kind w))
-
-placed-termed : (w : ℕ) → ruleKind w ≡ PLACED → (eqb (kind w) 4 || eqb (kind w) 9) ≡ true
-unfolding ruleKind
-placed-termed w e = subst (Termed (kind w)) e (kind-termed (kind w))
+placed-termed : (k : ℕ) → k ≡ 9 → (eqb k 4 || eqb k 9) ≡ true
+placed-termed k e = rw e
 
 -- the names of these words are at most G
 abbrev LowRule : ℕ → Cursor → Type 0
@@ -256,25 +227,25 @@ module _ (G : ℕ) where
   rule-said : rule.Cases (RuledIf G)
   rule-said = record {
     leaves = λ somes c q x. (
-      (λ l. record { low = rule-next G c q x l .1; rises = omega (arith, x .number); fits = tt }),
-      (λ l. record { low = rule-next G c q x l .1; rises = omega (arith, x .number); fits = tt }),
+      (λ k l. record { low = rule-next G c q x l .1; rises = omega (arith, x .number); fits = tt }),
+      (λ k l. record { low = rule-next G c q x l .1; rises = omega (arith, x .number); fits = tt }),
     );
     ones = λ somes c q p x h. (
-      ruled-one c q p (negation (c .index)) x h (λ J P z. z),
-      ruled-one c q p (sometime (c .index)) x h (λ J P z. z),
-      ruled-one c q p (somewhere (c .index)) x h (λ J P z. z),
+      (λ k. ruled-one c q p (negation (c .index)) x h (λ J P z. z)),
+      (λ k. ruled-one c q p (sometime (c .index)) x h (λ J P z. z)),
+      (λ k. ruled-one c q p (somewhere (c .index)) x h (λ J P z. z)),
     );
     twos = λ somes c q p r x h k. (
-      ruled-two c q p r (either (c .index)) x h k (λ J P y z. (y, z)),
-      ruled-two c q p r (beside (c .index)) x h k (λ J P y z. (y, z)),
+      (λ n. ruled-two c q p r (either (c .index)) x h k (λ J P y z. (y, z))),
+      (λ n. ruled-two c q p r (beside (c .index)) x h k (λ J P y z. (y, z))),
     );
     ats = λ somes c q p x e o h l.
         let a = h (rule-next G c q x l .1) in
-        record { low = a .low; rises = omega (arith, a .rises, x .number); fits = (term-fits G (q .0) (at-termed (q .0) e) (rule-next G c q x l .0), a .fits) };
-    chooses = λ somes c q p x s h. ruled-one c q p (some-name (c .index)) x h (λ J P z. z);
+        record { low = a .low; rises = omega (arith, a .rises, x .number); fits = (term-fits G (q .0) (at-termed (kind (q .0)) e) (rule-next G c q x l .0), a .fits) };
+    chooses = λ somes c q p x k s h. ruled-one c q p (some-name (c .index)) x h (λ J P z. z);
     places = λ somes c q p x e o h l.
         let a = h (rule-next G c q x l .1) in
-        record { low = a .low; rises = omega (arith, a .rises, x .number); fits = (omega (arith, a .rises), term-fits G (q .0) (placed-termed (q .0) e) (rule-next G c q x l .0), a .fits) };
+        record { low = a .low; rises = omega (arith, a .rises, x .number); fits = (omega (arith, a .rises), term-fits G (q .0) (placed-termed (kind (q .0)) e) (rule-next G c q x l .0), a .fits) };
   }
 
 -- THEOREM: in a rule as read every PLACED's place is below their number, and no name is above the greatest.

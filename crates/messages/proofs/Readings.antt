@@ -1,12 +1,12 @@
 -- Laws of readings: taking a reading apart that succeeds, and how a cursor advances. Assumes nothing.
-use Prim.Native.Nat.{ℕ, suc, _+_, _-_, _≤_}
+use Prim.Native.Nat.{ℕ, suc, _+_, _-_, _≤_, _<_}
 use mathlib.Core.Bool.{Bool, true, false}
 use mathlib.Core.List.{List, [], _∷_}
 use mathlib.Core.Path.{_≡_, refl, sym, ap, _∙_, subst}
 use native.Mathlib.Omega.{arith}
 use lib.ListN.{length, drop}
 use lib.Seq.{drop-drop}
-use Rattle.messages.specs.Reading.{Cursor, cursor, Reading, refuse, got, _>>=_, ask, split, nextWord, outcome}
+use Rattle.messages.specs.Reading.{Cursor, cursor, Reading, refuse, got, _>>=_, ask, split, nextWord, isEmpty, outcome}
 use Rattle.messages.specs.declared.Outcome.{Outcome}
 use Rattle.messages.specs.declared.Outcome.the-variants.{Read, Refused}
 
@@ -77,6 +77,15 @@ advances-on c d e a b = record {
       ∙ (let z : (d .index - c .index) + (e .index - d .index) ≡ e .index - c .index = omega (arith, a .ahead, b .ahead) in rw z);
 }
 
+-- the cursor stands in these words
+abbrev pub Stands : (words : List ℕ) → Cursor → Type 0
+Stands ws c = c .left ≡ drop (c .index) ws
+
+pub stands-on : (ws : List ℕ) (c d : Cursor) → Advances c d → Stands ws c → Stands ws d
+stands-on ws c d a s =
+    let e : c .index + (d .index - c .index) ≡ d .index = omega (arith, a .ahead) in
+    a .tail ∙ ap (λ (l : List ℕ). drop (d .index - c .index) l) s ∙ drop-drop (d .index - c .index) (c .index) ws ∙ rw e
+
 -- the next word is one further on
 pub record Next (c : Cursor) (p : ℕ × Cursor) : Type 0 where
   pub words : c .left ≡ (p .0) ∷ (p .1 .left)
@@ -113,6 +122,15 @@ split-end q i n (w ∷ ws) e = absurd (omega arith)
 
 pub next-end : (q : ℕ) (c : Cursor) → length (c .left) ≡ 0 → nextWord q c ≡ refuse q (c .index)
 next-end q c h = split-end q (c .index) (c .number) (c .left) h
+
+-- whether words are left
+pub left-none : (l : List ℕ) → length l ≡ 0 → isEmpty l ≡ true
+left-none [] h = refl
+left-none (w ∷ l) h = absurd (omega arith)
+
+pub left-some : (l : List ℕ) → 0 < length l → isEmpty l ≡ false
+left-some [] h = absurd (omega arith)
+left-some (w ∷ l) h = refl
 
 -- a cursor by its fields
 pub placed : (c : Cursor) (i n : ℕ) (l : List ℕ) → c .index ≡ i → c .number ≡ n → c .left ≡ l → c ≡ cursor i n l

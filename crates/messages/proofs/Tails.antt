@@ -1,9 +1,9 @@
 -- A list by its first element and its tails, as the readers take it apart. Assumes nothing.
 use mathlib.Core.Path.{_≡_, refl, ap, _∙_}
 use mathlib.Core.List.{List, [], _∷_}
-use Prim.Native.Nat.{ℕ, _-_, _<_}
+use Prim.Native.Nat.{ℕ, zero, suc, _-_, _<_, _≤_}
 use native.Mathlib.Omega.{arith}
-use lib.ListN.{length, getD, take, drop, length-drop}
+use lib.ListN.{length, getD, set, take, drop, length-drop}
 use lib.Seq.{take-all, drop-cons}
 
 -- no element
@@ -24,3 +24,18 @@ part-drop s k = take-all (length s - k) (drop k s) (omega (arith, length-drop k 
 
 pub length-part : (s : List ℕ) (k : ℕ) → length (part s k) ≡ length s - k
 length-part s k = ap length (part-drop s k) ∙ length-drop k s
+
+-- the tail from the place before i is one longer
+pub before : (s : List ℕ) (i : ℕ) → 0 < i → i ≤ length s → drop (i - 1) s ≡ getD s (i - 1) 0 ∷ drop i s
+before s i h k =
+    let e : suc (i - 1) ≡ i = omega arith in
+    drop-cons s (i - 1) 0 (omega arith) ∙ ap (λ (n : ℕ). getD s (i - 1) 0 ∷ drop n s) e
+
+-- an array that is filled from the end
+pub drop-set : (s : List ℕ) (i v : ℕ) → 0 < i → i ≤ length s → drop (i - 1) (set s (i - 1) v) ≡ v ∷ drop i s
+drop-set s zero v z h = absurd (omega arith)
+drop-set [] (suc i) v z h = absurd (omega arith)
+drop-set (x ∷ s) (suc zero) v z h = refl
+drop-set (x ∷ s) (suc (suc i)) v z h =
+    let e : suc (suc i) - 1 ≡ suc (suc i - 1) = omega arith in
+    rw e (drop-set s (suc i) v (omega arith) (omega arith))

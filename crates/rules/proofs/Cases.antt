@@ -2,19 +2,21 @@
 use Prim.Native.Nat.{ℕ, zero, suc, _+_, _≤_}
 use mathlib.Core.List.{List, [], _∷_}
 use mathlib.Core.Bool.{Bool, true, false, _&&_, _||_, false≢true}
-use mathlib.Core.Path.{_≡_, refl, subst}
+use mathlib.Core.Path.{_≡_, refl}
 use lib.Dec.{leb}
 use lib.ListN.{length}
 use borrow.Author.Tests.{leb-true}
-use Rattle.messages.specs.Words.{operand, nameFits}
-use Rattle.messages.specs.Reading.{Cursor, cursor, Reading, got, _>>=_, ask, nextWord, nextPart, isEmpty}
+use Rattle.messages.specs.Words.{kind, operand, nameFits}
+use Rattle.messages.specs.Reading.{Cursor, cursor, got, ask, nextWord, nextPart, isEmpty}
 use Rattle.messages.proofs.Readings.{refuse≢got, bind-all, got-all, ask-inv, Next, next}
-use Rattle.rules.specs.Rule.{Term, Rule, always, negation, either, void, at, beside, some-name, sometime, somewhere, placed}
+use Rattle.rules.specs.Rule.{Rule, always, negation, either, void, at, beside, some-name, sometime, somewhere, placed}
 use Rattle.rules.specs.ReadRule.{RuleKind, TRUE, NOT, OR, VOID, AT, BESIDE, SOME, SOMETIME, SOMEWHERE, PLACED, OTHER, ruleKind, isChosen, termOf, fits, termBound, bound, somesWith, one, two, ruleFrom, readRule, readWholeRule}
+use Rattle.rules.proofs.Words.{kind-told}
 
-and-right : (a b : Bool) → (a && b) ≡ true → b ≡ true
-and-right true b e = e
-and-right false b e = absurd (false≢true e)
+-- two tests that both hold
+pub and-true : (a b : Bool) → (a && b) ≡ true → (a ≡ true) × (b ≡ true)
+and-true true b e = (refl, e)
+and-true false b e = absurd (false≢true e)
 
 -- what is known of the operand of AT and PLACED: it fits, and its SOME is around
 pub record Operand (somes : List ℕ) (w : ℕ) : Type 0 where
@@ -24,16 +26,18 @@ pub record Operand (somes : List ℕ) (w : ℕ) : Type 0 where
 -- The cases of a claim C about rules that are read: `somes` are the SOMEs around, c is the cursor at the rule's word w, with d
 -- behind it, and p is what was read with the cursor behind it.
 pub record Cases (C : List ℕ → Cursor → Rule × Cursor → Type 0) : Type 0 where
-  pub leaves : (somes : List ℕ) (c : Cursor) (q : ℕ × Cursor) → Next c q → C somes c (always (c .index), q .1) × C somes c (void (c .index), q .1)
+  pub leaves : (somes : List ℕ) (c : Cursor) (q : ℕ × Cursor) → Next c q
+      → (kind (q .0) ≡ 0 → C somes c (always (c .index), q .1)) × (kind (q .0) ≡ 3 → C somes c (void (c .index), q .1))
   pub ones : (somes : List ℕ) (c : Cursor) (q : ℕ × Cursor) (p : Rule × Cursor) → Next c q → C somes (q .1) p
-      → C somes c (negation (c .index) (p .0), p .1) × C somes c (sometime (c .index) (p .0), p .1) × C somes c (somewhere (c .index) (p .0), p .1)
+      → (kind (q .0) ≡ 1 → C somes c (negation (c .index) (p .0), p .1)) × (kind (q .0) ≡ 7 → C somes c (sometime (c .index) (p .0), p .1))
+      × (kind (q .0) ≡ 8 → C somes c (somewhere (c .index) (p .0), p .1))
   pub twos : (somes : List ℕ) (c : Cursor) (q : ℕ × Cursor) (p r : Rule × Cursor) → Next c q → C somes (q .1) p → C somes (p .1) r
-      → C somes c (either (c .index) (p .0) (r .0), r .1) × C somes c (beside (c .index) (p .0) (r .0), r .1)
-  pub ats : (somes : List ℕ) (c : Cursor) (q : ℕ × Cursor) (p : Rule × Cursor) → Next c q → ruleKind (q .0) ≡ AT → Operand somes (q .0) → C somes (q .1) p
+      → (kind (q .0) ≡ 2 → C somes c (either (c .index) (p .0) (r .0), r .1)) × (kind (q .0) ≡ 5 → C somes c (beside (c .index) (p .0) (r .0), r .1))
+  pub ats : (somes : List ℕ) (c : Cursor) (q : ℕ × Cursor) (p : Rule × Cursor) → Next c q → kind (q .0) ≡ 4 → Operand somes (q .0) → C somes (q .1) p
       → C somes c (at (c .index) (termOf (operand (q .0))) (p .0), p .1)
-  pub chooses : (somes : List ℕ) (c : Cursor) (q : ℕ × Cursor) (p : Rule × Cursor) → Next c q → suc (length somes) ≤ 8 → C (c .index ∷ somes) (q .1) p
+  pub chooses : (somes : List ℕ) (c : Cursor) (q : ℕ × Cursor) (p : Rule × Cursor) → Next c q → kind (q .0) ≡ 6 → suc (length somes) ≤ 8 → C (c .index ∷ somes) (q .1) p
       → C somes c (some-name (c .index) (p .0), p .1)
-  pub places : (somes : List ℕ) (c : Cursor) (q : ℕ × Cursor) (p : Rule × Cursor) → Next c q → ruleKind (q .0) ≡ PLACED → Operand somes (q .0) → C somes (nextPart (q .1)) p
+  pub places : (somes : List ℕ) (c : Cursor) (q : ℕ × Cursor) (p : Rule × Cursor) → Next c q → kind (q .0) ≡ 9 → Operand somes (q .0) → C somes (nextPart (q .1)) p
       → C somes c (placed (c .index) (q .1 .number) (termOf (operand (q .0))) (p .0), p .1)
 
 module _ (C : List ℕ → Cursor → Rule × Cursor → Type 0) (cases : Cases C) where
@@ -52,16 +56,16 @@ module _ (C : List ℕ → Cursor → Rule × Cursor → Type 0) (cases : Cases 
     from-case : (k : RuleKind) → ruleKind (q .0) ≡ k → fits k (operand (q .0)) ≡ true → bound somes k (operand (q .0)) ≡ true → somesWith k (length somes) ≤ 8
         → (p : Rule × Cursor) → ruleFrom (readRule f (suc around)) k (termOf (operand (q .0))) (c .index) somes (q .1) ≡ got p → C somes c p
     unfolding ruleFrom fits bound somesWith
-    from-case TRUE e x y z = got-all (C somes c) _ (cases .leaves somes c q n .0)
-    from-case NOT e x y z = one-case (negation (c .index)) somes (q .1) (λ p h. cases .ones somes c q p n h .0)
-    from-case OR e x y z = two-case (either (c .index)) (λ p r h g. cases .twos somes c q p r n h g .0)
-    from-case VOID e x y z = got-all (C somes c) _ (cases .leaves somes c q n .1)
-    from-case AT e x y z = one-case (at (c .index) (termOf (operand (q .0)))) somes (q .1) (λ p h. cases .ats somes c q p n e (record { fits = x; bound = y }) h)
-    from-case BESIDE e x y z = two-case (beside (c .index)) (λ p r h g. cases .twos somes c q p r n h g .1)
-    from-case SOME e x y z = one-case (some-name (c .index)) (c .index ∷ somes) (q .1) (λ p h. cases .chooses somes c q p n z h)
-    from-case SOMETIME e x y z = one-case (sometime (c .index)) somes (q .1) (λ p h. cases .ones somes c q p n h .1)
-    from-case SOMEWHERE e x y z = one-case (somewhere (c .index)) somes (q .1) (λ p h. cases .ones somes c q p n h .2)
-    from-case PLACED e x y z = one-case (placed (c .index) (q .1 .number) (termOf (operand (q .0)))) somes (nextPart (q .1)) (λ p h. cases .places somes c q p n e (record { fits = x; bound = y }) h)
+    from-case TRUE e x y z = got-all (C somes c) _ (cases .leaves somes c q n .0 (kind-told (q .0) TRUE e))
+    from-case NOT e x y z = one-case (negation (c .index)) somes (q .1) (λ p h. cases .ones somes c q p n h .0 (kind-told (q .0) NOT e))
+    from-case OR e x y z = two-case (either (c .index)) (λ p r h g. cases .twos somes c q p r n h g .0 (kind-told (q .0) OR e))
+    from-case VOID e x y z = got-all (C somes c) _ (cases .leaves somes c q n .1 (kind-told (q .0) VOID e))
+    from-case AT e x y z = one-case (at (c .index) (termOf (operand (q .0)))) somes (q .1) (λ p h. cases .ats somes c q p n (kind-told (q .0) AT e) (record { fits = x; bound = y }) h)
+    from-case BESIDE e x y z = two-case (beside (c .index)) (λ p r h g. cases .twos somes c q p r n h g .1 (kind-told (q .0) BESIDE e))
+    from-case SOME e x y z = one-case (some-name (c .index)) (c .index ∷ somes) (q .1) (λ p h. cases .chooses somes c q p n (kind-told (q .0) SOME e) z h)
+    from-case SOMETIME e x y z = one-case (sometime (c .index)) somes (q .1) (λ p h. cases .ones somes c q p n h .1 (kind-told (q .0) SOMETIME e))
+    from-case SOMEWHERE e x y z = one-case (somewhere (c .index)) somes (q .1) (λ p h. cases .ones somes c q p n h .2 (kind-told (q .0) SOMEWHERE e))
+    from-case PLACED e x y z = one-case (placed (c .index) (q .1 .number) (termOf (operand (q .0)))) somes (nextPart (q .1)) (λ p h. cases .places somes c q p n (kind-told (q .0) PLACED e) (record { fits = x; bound = y }) h)
     from-case OTHER e x y z = λ p d. refuse≢got d
 
   -- THEOREM: the cases are all.
@@ -74,7 +78,7 @@ module _ (C : List ℕ → Cursor → Rule × Cursor → Type 0) (cases : Cases 
       (λ u₂ e₂. bind-all (C somes c) (ask 9 (c .index) (bound somes (ruleKind (q .0)) (operand (q .0)))) _
       (λ u₃ e₃. bind-all (C somes c) (ask 10 (c .index) (leb around 64 && leb (somesWith (ruleKind (q .0)) (length somes)) 8)) _
       (λ u₄ e₄. from-case f around somes c q (next 11 c q e₁) (rule-case f (suc around)) (ruleKind (q .0)) refl (ask-inv 8 _ _ u₂ e₂) (ask-inv 9 _ _ u₃ e₃)
-      (leb-true (somesWith (ruleKind (q .0)) (length somes)) 8 (and-right (leb around 64) _ (ask-inv 10 _ _ u₄ e₄)))))))
+      (leb-true (somesWith (ruleKind (q .0)) (length somes)) 8 (and-true (leb around 64) _ (ask-inv 10 _ _ u₄ e₄) .1))))))
 
   -- and so of every whole rule that is read
   pub whole-rule-case : (n : ℕ) (ws : List ℕ) (p : Rule × Cursor) → readWholeRule n ws ≡ got p → C [] (cursor 0 0 ws) p

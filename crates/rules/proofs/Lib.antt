@@ -1,2 +1,8 @@
--- The laws of `rules` that the crates above cite.
+-- The laws of `rules` that its own proofs and the crates above cite.
+pub mod Words
 pub mod Cases
+pub mod Laws
+pub mod Steps
+pub mod Tabled
+pub mod Whole
+pub mod Inversion

@@ -1,17 +1,16 @@
 -- Laws of the readers of bodies and parts: where they stand when they have read one, and that more fuel than words
 -- changes nothing. Assumes nothing.
-use Prim.Native.Nat.{ℕ, zero, suc, _+_, _-_, _≤_, _<_}
+use Prim.Native.Nat.{ℕ, zero, suc, _+_, _≤_, _<_}
 use mathlib.Core.Bool.{Bool, true, false}
 use mathlib.Core.List.{List, [], _∷_}
 use mathlib.Core.Path.{_≡_, refl, sym, ap, _∙_, subst}
 use native.Mathlib.Omega.{arith}
 use lib.Dec.{leb}
 use lib.ListN.{length, drop}
-use lib.Seq.{drop-drop}
 use Rattle.messages.specs.Reading.{Cursor, cursor, Reading, refuse, got, _>>=_, ask, nextWord, nextPart}
 use Rattle.messages.specs.Message.{Message}
 use Rattle.messages.specs.ReadMessage.{readMessage}
-use Rattle.messages.proofs.Readings.{refuse≢got, bind-all, got-all, bind-cong, bind-refuse, Advances, advances-on, Next, next, next-advances, next-shorter, advances-shorter, next-end}
+use Rattle.messages.proofs.Readings.{refuse≢got, bind-all, got-all, bind-cong, bind-refuse, Advances, advances-on, Stands, stands-on, Next, next, next-advances, next-shorter, advances-shorter, next-end}
 use Rattle.messages.specs.Spelling.{messageAt}
 use Rattle.messages.proofs.Laws.{MessageRead, message-advances, message-fuel}
 use Rattle.messages.proofs.Spells.{read-message}
@@ -21,15 +20,6 @@ use Rattle.scripts.specs.Table.{startBy, startOf}
 use Rattle.scripts.specs.Represents.{Numbered, Placed, headAt}
 use Rattle.scripts.specs.declared.PartWord.{PartWord}
 use Rattle.scripts.specs.declared.PartWord.the-variants.{Close, Ambient, Action, Receipt, Output, No}
-
--- the cursor stands in these words
-abbrev pub Stands : (script : List ℕ) → Cursor → Type 0
-Stands ws c = c .left ≡ drop (c .index) ws
-
-pub stands-on : (ws : List ℕ) (c d : Cursor) → Advances c d → Stands ws c → Stands ws d
-stands-on ws c d a s =
-    let e : c .index + (d .index - c .index) ≡ d .index = omega (arith, a .ahead) in
-    a .tail ∙ ap (λ (l : List ℕ). drop (d .index - c .index) l) s ∙ drop-drop (d .index - c .index) (c .index) ws ∙ rw e
 
 -- What holds where a body was read, and where a part was, the cursor behind its word: `numbers` counts the parts, `fewer`
 -- says that there are no more of them than words, `numbered` that they are numbered in word order, and `placed` and `says`

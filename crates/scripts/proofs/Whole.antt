@@ -9,7 +9,7 @@ use lib.Dec.{leb}
 use lib.ListN.{length}
 use Rattle.messages.specs.Reading.{Cursor, cursor, Reading, refuse, got, _>>=_, ask, isEmpty}
 use Rattle.messages.specs.declared.Outcome.the-variants.{Read, Refused}
-use Rattle.messages.proofs.Readings.{bind-got, bind-refuse, ask-yes, ask-no, read≢refused}
+use Rattle.messages.proofs.Readings.{bind-got, bind-refuse, ask-yes, ask-no, left-none, left-some, read≢refused}
 use Rattle.scripts.specs.Script.{Script, readScript}
 use Rattle.scripts.specs.Table.{vacant, tabulate, refusedAt, scanned}
 use Rattle.scripts.specs.declared.Table.{Table}
@@ -36,15 +36,6 @@ module _ (s : List ℕ) where
 
   pub script-long : 1024 < length s → refusedAt 1 0 ≡ scanned 64 vacant (readScript s)
   script-long h = sized (rw (le-leb 1 (length s) (omega arith), lt-leb (length s) 1024 h))
-
--- whether words are left
-left-none : (l : List ℕ) → length l ≡ 0 → isEmpty l ≡ true
-left-none [] h = refl
-left-none (w ∷ l) h = absurd (omega arith)
-
-left-some : (l : List ℕ) → 0 < length l → isEmpty l ≡ false
-left-some [] h = absurd (omega arith)
-left-some (w ∷ l) h = refl
 
 -- what an answer says of the body's reading
 scan-told : (o : ℕ) (t : Table) (x : Reading (Script × Cursor)) (a : Scan) (n : ℕ) → a ≡ scanned o t x → a .outcome ≡ Read n

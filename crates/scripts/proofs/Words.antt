@@ -1,15 +1,15 @@
--- Laws of the part words, of the receipts around a word, and of the greatest name. Assumes nothing.
-use Prim.Native.Nat.{ℕ, zero, suc, _-_, _≤_, _<_, max}
+-- Laws of the part words and of the greatest name. Assumes nothing.
+use Prim.Native.Nat.{ℕ, _-_, _≤_, _<_, max}
 use mathlib.Core.List.{List, [], _∷_}
 use mathlib.Core.Logic.{⊎-elim}
-use mathlib.Core.Path.{_≡_, refl, ap, _∙_}
+use mathlib.Core.Path.{_≡_, refl}
 use native.Mathlib.Omega.{arith}
 use borrow.Author.Tests.{le-leb, lt-leb, ne-eqb}
 use denote.Enum.Declared.{tagOf}
 use types.Run.{OneOf}
-use lib.ListN.{length, drop, set, getD}
-use lib.Seq.{drop-cons}
+use lib.ListN.{length, drop, getD}
 use Rattle.messages.specs.Words.{kind, operand}
+use Rattle.messages.proofs.Tails.{before}
 use Rattle.scripts.proofs.PartWord.{the-type}
 use Rattle.scripts.specs.declared.PartWord.{PartWord}
 use Rattle.scripts.specs.declared.PartWord.the-variants.{Close, Ambient, Action, Receipt, Output, No}
@@ -42,31 +42,17 @@ asked-within nest Receipt h = rw (le-leb nest 64 h)
 asked-within nest Output h = rw (le-leb nest 64 h)
 asked-within nest (No q) h = refl
 
--- an array that is filled from the end: the tail from the place before is one longer
-pub drop-set : (l : List ℕ) (f v : ℕ) → 0 < f → f ≤ length l → drop (f - 1) (set l (f - 1) v) ≡ v ∷ drop f l
-drop-set l zero v z h = absurd (omega arith)
-drop-set [] (suc f) v z h = absurd (omega arith)
-drop-set (x ∷ l) (suc zero) v z h = refl
-drop-set (x ∷ l) (suc (suc f)) v z h =
-    let e : suc (suc f) - 1 ≡ suc (suc f - 1) = omega arith in
-    rw e (drop-set l (suc f) v (omega arith) (omega arith))
-
 -- The greatest name, read from the end: none behind the end, and with the word before i in front.
 pub greatest-end : (l : List ℕ) → greatestName (drop (length l) l) ≡ 0
 unfolding greatestName
 greatest-end [] = refl
 greatest-end (w ∷ l) = greatest-end l
 
-front : (l : List ℕ) (i : ℕ) → 0 < i → i ≤ length l → drop (i - 1) l ≡ getD l (i - 1) 0 ∷ drop i l
-front l i h k =
-    let e : suc (i - 1) ≡ i = omega arith in
-    drop-cons l (i - 1) 0 (omega arith) ∙ ap (λ (n : ℕ). getD l (i - 1) 0 ∷ drop n l) e
-
 module _ (l : List ℕ) (i g : ℕ) (h : 0 < i) (k : i ≤ length l) (e : g ≡ greatestName (drop i l)) where
   pub greatest-other : (kind (getD l (i - 1) 0) ≡ 8 → ⊥) → g ≡ greatestName (drop (i - 1) l)
   unfolding greatestName
-  greatest-other n = rw (front l i h k, ne-eqb _ _ n) e
+  greatest-other n = rw (before l i h k, ne-eqb _ _ n) e
 
   pub greatest-name : (r : ℕ) → kind (getD l (i - 1) 0) ≡ 8 → r ≡ max (operand (getD l (i - 1) 0)) g → r ≡ greatestName (drop (i - 1) l)
   unfolding greatestName
-  greatest-name r n f = rw (front l i h k, n, ← e) f
+  greatest-name r n f = rw (before l i h k, n, ← e) f

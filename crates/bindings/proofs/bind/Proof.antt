@@ -6,7 +6,8 @@ use borrow.Author.Needs.{needs}
 use lib.ListN.{length}
 use Rattle.bindings.specs.Resolve.{bindingsIn}
 use Rattle.bindings.specs.Held.{bindingsOf}
-use Rattle.bindings.proofs.Counting.{drop-set, cached-more}
+use Rattle.messages.proofs.Tails.{drop-set}
+use Rattle.bindings.proofs.Counting.{cached-more}
 use Rattle.bindings.proofs.bind.Statement.{statement}
 use Rattle.bindings.proofs.bind.Tie as tie
 
