@@ -7,7 +7,6 @@ pub mod Bound
 pub mod Heads
 pub mod Holding
 pub mod Focus
-pub mod Search
 pub mod Settling
 pub mod Settled
 pub mod Looking

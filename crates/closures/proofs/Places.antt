@@ -14,7 +14,7 @@ use Rattle.scripts.specs.Represents.{Held}
 use Rattle.machine.specs.Moves.{isNamed, headName}
 use Rattle.machine.proofs.Options.{byTest}
 use Rattle.closures.specs.Closure.{ClosureHead, Closure, Bindings, under}
-use Rattle.closures.specs.Searches.{firstPlace, placeBelow, place}
+use Rattle.closures.specs.Searches.{firstPlace, placeBelow, place, Stands}
 use Rattle.closures.proofs.Holding.{self, in-count, not-in}
 
 abbrev named : Bindings → ClosureHead → Type 0
@@ -154,13 +154,6 @@ around σ x b (beside {i = i} {r = r} p) = elim (around σ x b p) [
 -- b is the number of a body in which moves are made: the top's, or that of a named ambient which stands somewhere
 abbrev pub Active : (σ : Bindings) (w : ℕ → ClosureHead) (at : ℕ → ℕ) → ℕ → Type 0
 Active σ w at b = (b ≡ 64) ⊎ ((b < 64) × (at b < 65) × named σ (w b))
-
--- the sets and heads hold the closure, its own parts being those of number 64's body, and no number stands in it twice
-pub record Stands (k : ℕ → List ℕ) (w : ℕ → ClosureHead) (f : Closure) : Type 0 where
-  pub top : k 64 ≡ tops f
-  pub held : Held k w f
-  pub once : (j : ℕ) → count j f ≤ 1
-  pub low : (j : ℕ) → 64 ≤ j → count j f ≡ 0
 
 module _ (σ : Bindings) (k : ℕ → List ℕ) (w : ℕ → ClosureHead) (f : Closure) (Q : Stands k w f) where
   abbrev at : ℕ → ℕ

@@ -26,10 +26,12 @@ placeBelow σ t (part i h b r) =
 unfoldable pub place : Bindings → (t : ℕ) → Closure → ℕ
 place σ t b = cond (elem t (tops b)) 64 (placeBelow σ t b)
 
--- r is the place of t in every closure whose top parts are `left`, if it has at most `fuel` parts
-abbrev pub Places : Bindings → (bodies : ℕ → List ℕ) (heads : ℕ → ClosureHead) (left : List ℕ) (t fuel r : ℕ) → Type 0
-Places σ bodies heads left t fuel r =
-    (b : Closure) → left ≡ tops b → Held bodies heads b → parts b ≤ fuel → r ≡ placeBelow σ t b
+-- the sets and heads hold the closure, its own parts being those of number 64's body, and no number stands in it twice
+pub record Stands (bodies : ℕ → List ℕ) (heads : ℕ → ClosureHead) (b : Closure) : Type 0 where
+  pub top : bodies 64 ≡ tops b
+  pub held : Held bodies heads b
+  pub once : (i : ℕ) → count i b ≤ 1
+  pub low : (i : ℕ) → 64 ≤ i → count i b ≡ 0
 
 -- `after` and the top parts r hold what every closure becomes whose top parts are `left`, when it is settled, if it has at
 -- most `fuel` parts; the bodies of all other parts are as they were

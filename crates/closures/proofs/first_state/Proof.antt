@@ -28,7 +28,7 @@ settle-requires : tie.Need-settle-requires
 settle-requires c κs = search needs
 
 returns : tie.Need-returns
-returns c = 
+returns c =
     let x = c .before .before .before .before .args in
     let n = c .before .before .none .ensures (x .script .now) in
     let s = c .before .looked .result in

@@ -37,15 +37,15 @@ look-requires c κs = rw (c .before .before .before .before .tail .ensures, c .b
 returns : tie.Need-returns
 unfolding bindingsOf
 returns c = (
-      record {
-        bound = c .before .before .before .before .before .before .before .before .before .before .before .before .pre;
-        seen =
-            λ low.
-            subst (λ (σ : Bindings). Seen σ (heads (c .before .before .before .before .before .before .before .before .before .before .before .before .args .script .now) (c .before .before .before .before .before .before .before .before .before .before .before .before .args .kinds .now) (c .before .before .before .before .before .before .before .before .before .before .before .before .args .starts .now) (c .before .before .before .before .before .before .before .before .before .before .before .before .args .offsets)) (c .look .result))
-            (rw (c .before .before .before .before .before .tail .ensures, c .before .before .before .tail2 .ensures)) (c .look .ensures low);
-      },
-      (refl, refl, refl),
-    )
+  record {
+    bound = c .before .before .before .before .before .before .before .before .before .before .before .before .pre;
+    seen =
+        λ low.
+        subst (λ (σ : Bindings). Seen σ (heads (c .before .before .before .before .before .before .before .before .before .before .before .before .args .script .now) (c .before .before .before .before .before .before .before .before .before .before .before .before .args .kinds .now) (c .before .before .before .before .before .before .before .before .before .before .before .before .args .starts .now) (c .before .before .before .before .before .before .before .before .before .before .before .before .args .offsets)) (c .look .result))
+        (rw (c .before .before .before .before .before .tail .ensures, c .before .before .before .tail2 .ensures)) (c .look .ensures low);
+  },
+  (refl, refl, refl),
+)
 
 pub looked-spec : {M : Type 1} → statement M
 looked-spec =
