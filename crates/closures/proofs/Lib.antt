@@ -14,6 +14,7 @@ pub mod Deeds
 pub mod Moving
 pub mod Opening
 pub mod Places
+pub mod Locating
 pub mod Spending
 pub mod Entering
 pub mod Leaving

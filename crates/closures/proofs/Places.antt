@@ -56,7 +56,7 @@ inside-apart σ x b (beside p) m q = inside-apart σ x b p (omega arith) q
 
 -- ---- the place is where it stands
 
-nowhere : (σ : Bindings) (x : ℕ) (f : Closure) → count x f ≡ 0 → placeBelow σ x f ≡ 65
+pub nowhere : (σ : Bindings) (x : ℕ) (f : Closure) → count x f ≡ 0 → placeBelow σ x f ≡ 65
 unfolding sum placeBelow
 nowhere σ x close e = refl
 nowhere σ x (part i h s r) e =
@@ -75,7 +75,7 @@ unfolding placeBelow
 most-below σ x close = omega arith
 most-below σ x (part i h s r) = first-most (cond (isNamed (headName (under σ) h)) (cond (elem x (tops s)) i (placeBelow σ x s)) 65) (placeBelow σ x r) (most-below σ x r)
 
-place-most : (σ : Bindings) (x : ℕ) (f : Closure) → place σ x f ≤ 65
+pub place-most : (σ : Bindings) (x : ℕ) (f : Closure) → place σ x f ≤ 65
 unfolding place
 place-most σ x f = byTest (elem x (tops f)) (λ e. rw e (omega arith)) (λ e. rw e (most-below σ x f))
 
