@@ -8,7 +8,7 @@ use mathlib.Core.Path.{_≡_, refl, sym, ap, _∙_, subst}
 use native.Mathlib.Omega.{arith}
 use lib.Dec.{eqb, ltb}
 use borrow.Author.Tests.{eqb-true, eq-eqb}
-use Rattle.sets.specs.Sets.{elem, insert, remove, join, keep}
+use Rattle.sets.specs.Sets.{elem, insert, remove, join, keep, isNone}
 use Rattle.scripts.specs.Tree.{Body, close, part, one, tops, sum, count, put, merge}
 use Rattle.scripts.specs.Represents.{Held}
 use Rattle.machine.specs.Bodies.{find, drop, alter, holder}
@@ -21,6 +21,9 @@ total v b = sum (λ i h. v i) b
 
 pub self : (i : ℕ) → one (eqb i i) ≡ 1
 self i = ap one (eq-eqb i i refl)
+
+pub no-cons : (x : ℕ) (l : List ℕ) → x ∷ l ≡ [] → ⊥
+no-cons x l e = true≢false (sym (ap isNone e))
 
 module _ {H : Type 0} where
   -- ---- a body's own numbers

@@ -7,7 +7,6 @@ pub mod Bound
 pub mod Heads
 pub mod Holding
 pub mod Focus
-pub mod Search
 pub mod Settling
 pub mod Settled
 pub mod Looking
@@ -15,6 +14,7 @@ pub mod Deeds
 pub mod Moving
 pub mod Opening
 pub mod Places
+pub mod Locating
 pub mod Spending
 pub mod Entering
 pub mod Leaving

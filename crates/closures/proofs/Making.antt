@@ -18,13 +18,12 @@ use Rattle.machine.proofs.Inversion.{here-inv}
 use Rattle.machine.proofs.Options.{byTest}
 use Rattle.closures.specs.Closure.{Action, ClosureHead, Closure, Bindings, under, settleUnder, settledUnder, closureMove}
 use Rattle.closures.specs.Represents.{headOf, heads, boundIn, Represents}
-use Rattle.closures.specs.Searches.{place}
+use Rattle.closures.specs.Searches.{place, Stands}
 use Rattle.closures.specs.Targets.{canOpen, canReceive, canEnter, canExit}
 use Rattle.closures.specs.declared.State.{State}
 use Rattle.closures.proofs.Arrays.{Replaced, Carried, Raised}
 use Rattle.closures.proofs.Heads.{head-spent}
 use Rattle.closures.proofs.Focus.{Change}
-use Rattle.closures.proofs.Places.{Stands}
 use Rattle.closures.proofs.Moving.{Shrinks, shrinks, After, after}
 use Rattle.closures.proofs.Spending.{Spent}
 use Rattle.closures.proofs.Opening.{open-change, receive-change}

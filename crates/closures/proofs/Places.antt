@@ -14,7 +14,7 @@ use Rattle.scripts.specs.Represents.{Held}
 use Rattle.machine.specs.Moves.{isNamed, headName}
 use Rattle.machine.proofs.Options.{byTest}
 use Rattle.closures.specs.Closure.{ClosureHead, Closure, Bindings, under}
-use Rattle.closures.specs.Searches.{firstPlace, placeBelow, place}
+use Rattle.closures.specs.Searches.{firstPlace, placeBelow, place, Stands}
 use Rattle.closures.proofs.Holding.{self, in-count, not-in}
 
 abbrev named : Bindings → ClosureHead → Type 0
@@ -56,7 +56,7 @@ inside-apart σ x b (beside p) m q = inside-apart σ x b p (omega arith) q
 
 -- ---- the place is where it stands
 
-nowhere : (σ : Bindings) (x : ℕ) (f : Closure) → count x f ≡ 0 → placeBelow σ x f ≡ 65
+pub nowhere : (σ : Bindings) (x : ℕ) (f : Closure) → count x f ≡ 0 → placeBelow σ x f ≡ 65
 unfolding sum placeBelow
 nowhere σ x close e = refl
 nowhere σ x (part i h s r) e =
@@ -75,7 +75,7 @@ unfolding placeBelow
 most-below σ x close = omega arith
 most-below σ x (part i h s r) = first-most (cond (isNamed (headName (under σ) h)) (cond (elem x (tops s)) i (placeBelow σ x s)) 65) (placeBelow σ x r) (most-below σ x r)
 
-place-most : (σ : Bindings) (x : ℕ) (f : Closure) → place σ x f ≤ 65
+pub place-most : (σ : Bindings) (x : ℕ) (f : Closure) → place σ x f ≤ 65
 unfolding place
 place-most σ x f = byTest (elem x (tops f)) (λ e. rw e (omega arith)) (λ e. rw e (most-below σ x f))
 
@@ -155,13 +155,6 @@ around σ x b (beside {i = i} {r = r} p) = elim (around σ x b p) [
 abbrev pub Active : (σ : Bindings) (w : ℕ → ClosureHead) (at : ℕ → ℕ) → ℕ → Type 0
 Active σ w at b = (b ≡ 64) ⊎ ((b < 64) × (at b < 65) × named σ (w b))
 
--- the sets and heads hold the closure, its own parts being those of number 64's body, and no number stands in it twice
-pub record Stands (k : ℕ → List ℕ) (w : ℕ → ClosureHead) (f : Closure) : Type 0 where
-  pub top : k 64 ≡ tops f
-  pub held : Held k w f
-  pub once : (j : ℕ) → count j f ≤ 1
-  pub low : (j : ℕ) → 64 ≤ j → count j f ≡ 0
-
 module _ (σ : Bindings) (k : ℕ → List ℕ) (w : ℕ → ClosureHead) (f : Closure) (Q : Stands k w f) where
   abbrev at : ℕ → ℕ
   at i = place σ i f
@@ -209,34 +202,3 @@ module _ (σ : Bindings) (k : ℕ → List ℕ) (w : ℕ → ClosureHead) (f : C
       by-place (inr p) =
           let h = inside-held σ k w x (at x) p (Q .held) in
           (h .0, inr (below (at x) f (Q .low) (inside-count σ x (at x) p .1), stands p, h .1))
-
-  -- ---- all places at once: handed on from each active body to what stands in it
-
-  module _ (P : ℕ → ℕ) (onward : (b x : ℕ) → b < 64 → P b < 65 → named σ (w b) → elem x (k b) ≡ true → P x ≡ b) where
-    reached : (x b : ℕ) {g : Closure} → Inside σ x b g → Held k w g → ((j : ℕ) → 64 ≤ j → count j g ≡ 0) → ((y : ℕ) → elem y (tops g) ≡ true → P y < 65) → P x ≡ b
-    unfolding sum tops elem
-    reached x b (directly {i = i} {h = h} {s = s} {r = r} n e) p l u =
-        onward i x (below i (part i h s r) l (omega (arith, self i))) (u i (ap (λ (v : Bool). v || elem i (tops r)) (eq-eqb i i refl)))
-        (ap (λ (c : ClosureHead). isNamed (headName (under σ) c)) (p .1) ∙ n) (ap (elem x) (p .0) ∙ e)
-    reached x b (deeper {i = i} {h = h} {s = s} {r = r} n q) p l u =
-        let small : i < 64 = below i (part i h s r) l (omega (arith, self i)) in
-        let own : P i < 65 = u i (ap (λ (v : Bool). v || elem i (tops r)) (eq-eqb i i refl)) in
-        let has-name : named σ (w i) = ap (λ (c : ClosureHead). isNamed (headName (under σ) c)) (p .1) ∙ n in
-        reached x b q (p .2) (λ j m. omega (arith, l j m)) (λ y e. omega (arith, onward i y small own has-name (ap (elem y) (p .0) ∙ e)))
-    reached x b (beside {i = i} q) p l u =
-        reached x b q (p .3) (λ j m. omega (arith, l j m)) (λ y e. u y (byTest (eqb y i) (λ v. rw v) (λ v. rw v e)))
-
-    -- THEOREM: places that are right where they are given, and that no active body leaves out, are all right.
-    pub places-are : ((x : ℕ) → P x ≤ 65) → ((x : ℕ) → P x < 65 → P x ≡ place σ x f) → ((x : ℕ) → elem x (k 64) ≡ true → P x ≡ 64) → (x : ℕ) → P x ≡ place σ x f
-    places-are most right first x = byTest (ltb (at x) 65)
-        (λ t. found (placed x (ltb-true (at x) 65 t)))
-        (λ t. byTest (ltb (P x) 65)
-        (λ u. right x (ltb-true (P x) 65 u))
-        (λ u. omega (arith, most x, place-most σ x f, ltb-false (at x) 65 t, ltb-false (P x) 65 u)))
-      where
-        on-top : (y : ℕ) → elem y (tops f) ≡ true → P y ≡ 64
-        on-top y e = first y (ap (elem y) (Q .top) ∙ e)
-
-        found : ((at x ≡ 64) × (elem x (tops f) ≡ true)) ⊎ Inside σ x (at x) f → P x ≡ at x
-        found (inl z) = on-top x (z .1) ∙ sym (z .0)
-        found (inr p) = reached x (at x) p (Q .held) (Q .low) (λ y e. omega (arith, on-top y e))

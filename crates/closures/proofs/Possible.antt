@@ -16,11 +16,11 @@ use Rattle.machine.specs.Moves.{Moved, isNamed, sameName, toEnter, toExit, toOp
 use Rattle.machine.proofs.Inversion.{Here, by-open, by-receive, by-enter, by-exit, here-inv}
 use Rattle.machine.proofs.Options.{byTest}
 use Rattle.closures.specs.Closure.{Action, ClosureHead, Closure, Bindings, under, settledUnder, closureMove}
-use Rattle.closures.specs.Searches.{place}
+use Rattle.closures.specs.Searches.{place, Stands}
 use Rattle.closures.specs.Targets.{isSome, canOpen, canReceive, canEnter, canExit, canMoveFrom, canMove}
 use Rattle.closures.proofs.Holding.{found-inv}
 use Rattle.closures.proofs.Focus.{site}
-use Rattle.closures.proofs.Places.{Stands, place-low, place-of}
+use Rattle.closures.proofs.Places.{place-low, place-of}
 use Rattle.closures.proofs.Actors.{receive-what}
 use Rattle.closures.proofs.Acting.{both, here-needs, Spot, stands, active, open-at, receive-at, enter-at, exit-at}
 

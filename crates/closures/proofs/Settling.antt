@@ -15,8 +15,7 @@ use Rattle.machine.proofs.Sums.{settle-sum}
 use Rattle.closures.specs.Closure.{ClosureHead, Closure, Bindings, allSpent, settleUnder}
 use Rattle.closures.specs.Searches.{Settles}
 use Rattle.closures.specs.Seen.{busyUnder, Busy}
-use Rattle.closures.proofs.Holding.{self, tops-put, tops-merge, differ, frame, held-put, held-merge}
-use Rattle.closures.proofs.Search.{no-cons}
+use Rattle.closures.proofs.Holding.{no-cons, self, tops-put, tops-merge, differ, frame, held-put, held-merge}
 
 -- no number stands more often than before
 pub settled-count : (σ : Bindings) (j : ℕ) (b : Closure) → count j (settleUnder σ b) ≤ count j b

@@ -10,7 +10,7 @@ use Rattle.scripts.specs.Tree.{close, part, tops, parts, count}
 use Rattle.scripts.specs.Represents.{Held}
 use Rattle.machine.specs.Moves.{isNamed, headName}
 use Rattle.closures.specs.Closure.{ClosureHead, Closure, Bindings, under, settleUnder}
-use Rattle.closures.specs.Seen.{Busy, Ambients}
+use Rattle.closures.specs.Seen.{Busy, Ambients, Names}
 
 -- the first place, or where it is 65 the second
 abbrev pub firstPlace : ℕ → ℕ → ℕ
@@ -22,14 +22,38 @@ placeBelow σ t close = 65
 placeBelow σ t (part i h b r) =
     firstPlace (cond (isNamed (headName (under σ) h)) (cond (elem t (tops b)) i (placeBelow σ t b)) 65) (placeBelow σ t r)
 
+-- the same where the body's own parts stand in that of number `at`
+unfoldable pub placeFrom : Bindings → (at t : ℕ) → Closure → ℕ
+placeFrom σ at t b = cond (elem t (tops b)) at (placeBelow σ t b)
+
 -- the same from the top, whose parts stand in the body of number 64
 unfoldable pub place : Bindings → (t : ℕ) → Closure → ℕ
 place σ t b = cond (elem t (tops b)) 64 (placeBelow σ t b)
 
--- r is the place of t in every closure whose top parts are `left`, if it has at most `fuel` parts
-abbrev pub Places : Bindings → (bodies : ℕ → List ℕ) (heads : ℕ → ClosureHead) (left : List ℕ) (t fuel r : ℕ) → Type 0
-Places σ bodies heads left t fuel r =
-    (b : Closure) → left ≡ tops b → Held bodies heads b → parts b ≤ fuel → r ≡ placeBelow σ t b
+-- the sets and heads hold the closure, its own parts being those of number 64's body, and no number stands in it twice
+pub record Stands (bodies : ℕ → List ℕ) (heads : ℕ → ClosureHead) (b : Closure) : Type 0 where
+  pub top : bodies 64 ≡ tops b
+  pub held : Held bodies heads b
+  pub once : (i : ℕ) → count i b ≤ 1
+  pub low : (i : ℕ) → 64 ≤ i → count i b ≡ 0
+
+-- `after` are the places, which were `before`, when those of all parts are written of every closure whose top parts are
+-- `left` and stand in the body of `at`, if it has at most `fuel` parts
+abbrev pub Locates : Bindings → (bodies : ℕ → List ℕ) (heads : ℕ → ClosureHead) (left : List ℕ) (at fuel : ℕ) (before after : ℕ → ℕ) → Type 0
+Locates σ bodies heads left at fuel before after =
+    (b : Closure) → left ≡ tops b → Held bodies heads b → ((j : ℕ) → count j b ≤ 1) → parts b ≤ fuel
+    → (i : ℕ) → after i ≡ firstPlace (placeFrom σ at i b) (before i)
+
+-- the same for all heads and bindings of which `named` has the parts that have a name
+abbrev pub LocatesBy : (named : List ℕ) (bodies : ℕ → List ℕ) (left : List ℕ) (at fuel : ℕ) (before after : ℕ → ℕ) → Type 0
+LocatesBy named bodies left at fuel before after =
+    (σ : Bindings) (heads : ℕ → ClosureHead) → Names σ heads named → Locates σ bodies heads left at fuel before after
+
+-- the places are those of all parts, in every closure that stands in the bodies, if it has at most 64 parts
+abbrev pub Located : (named : List ℕ) (bodies : ℕ → List ℕ) (places : ℕ → ℕ) → Type 0
+Located named bodies places =
+    (σ : Bindings) (heads : ℕ → ClosureHead) (b : Closure) → Names σ heads named → Stands bodies heads b → parts b ≤ 64
+    → (i : ℕ) → places i ≡ place σ i b
 
 -- `after` and the top parts r hold what every closure becomes whose top parts are `left`, when it is settled, if it has at
 -- most `fuel` parts; the bodies of all other parts are as they were
@@ -45,5 +69,5 @@ SettlesBy busy kinds bodies after left r fuel =
 
 -- To unfold this is to unfold every definition of this module: for a proof by computation.
 unfoldable pub computing : Unit {0}
-unfolding placeBelow place
+unfolding placeBelow placeFrom place
 computing = tt

@@ -12,7 +12,7 @@ use Rattle.messages.specs.declared.First.{First}
 use Rattle.messages.specs.declared.First.the-variants.{Nothing, Enter, Exit, Open, Other}
 use Rattle.sets.specs.Sets.{members, elem}
 use Rattle.scripts.specs.Tree.{Head, ambient, action, receipt, output, isAmbient}
-use Rattle.machine.specs.Moves.{sameName, headName, firstOf}
+use Rattle.machine.specs.Moves.{isNamed, sameName, headName, firstOf}
 use Rattle.closures.specs.Closure.{ClosureHead, Bindings, under, allSpent}
 use Rattle.closures.specs.declared.Looks.{Looks}
 use Rattle.closures.specs.declared.Deed.{Deed}
@@ -103,6 +103,10 @@ Busy σ w l = (i : ℕ) → i < 64 → elem i l ≡ busyUnder σ (w i)
 
 abbrev pub Ambients : (ℕ → ClosureHead) → (kinds : List ℕ) → Type 0
 Ambients w kinds = (i : ℕ) → i < 64 → eqb (getD kinds i 0) 1 ≡ isAmbient (w i)
+
+-- l has the parts that have a name
+abbrev pub Names : Bindings → (ℕ → ClosureHead) → List ℕ → Type 0
+Names σ w l = (i : ℕ) → i < 64 → elem i l ≡ isNamed (headName (under σ) (w i))
 
 -- To unfold this is to unfold every definition of this module: for a proof by computation.
 unfoldable pub computing : Unit {0}

@@ -24,7 +24,7 @@ ghost use Rattle.bindings.specs.Measures.{Kept, itemCount};
 ghost use Rattle.bindings.specs.Held.{bindingsOf};
 ghost use Rattle.machine.specs.Moves.{isThat, sameName, headName, firstOf};
 ghost use Rattle.closures.specs.Closure.{ClosureHead, Closure, under, settleUnder, closureOf};
-ghost use Rattle.closures.specs.Searches.{SettlesBy};
+ghost use Rattle.closures.specs.Searches.{SettlesBy, LocatesBy, Located};
 ghost use Rattle.closures.specs.Represents.{headOf, heads, boundIn, Counted, Ready, Represents};
 ghost use Rattle.closures.specs.Makes.{Opens, Enters, Exits, Receives};
 ghost use Rattle.closures.specs.Seen.{nameIn, actOf, aimOf, busyOf, isOutput, Does, kept, Seen};
@@ -604,4 +604,46 @@ pub fn place_part(
         starts: with_start,
         state: next,
     }
+
+// ---- The places of the parts and the targets of an actor.
+
+// Writes the places of the parts of left, which stand in the body of the part at, and of those in the bodies of the named
+// ambients among them, at any depth.
+fn locate_below<'a, 'b>(
+    found: &'b mut [usize; 64],
+    kids: &'a [u64; 65],
+    named: u64,
+    left: u64,
+    at: usize,
+    fuel: usize,
+)
+    requires { ⌜ (length (now found) ≡ 64) × (at < 65) ⌝ }
+    ensures kept { λ r. ⌜ length (now (found .exit)) ≡ 64 ⌝ }
+    ensures located { λ r. ⌜ LocatesBy (members named) (bodyIn (now (kids .entry))) (members left) at fuel (λ i. getD (now (found .entry)) i 65) (λ i. getD (now (found .exit)) i 65) ⌝ }
+{
+    if left == 0 {
+        return;
+    }
+    if fuel == 0 {
+        return;
+    }
+    let i = sets::first(left);
+    let others = sets::rest(left);
+    found[i] = at;
+    if sets::has(named, i) {
+        let inside = kids[i];
+        locate_below(found, kids, named, inside, i, fuel - 1);
+    }
+    locate_below(found, kids, named, others, at, fuel - 1)
+}
+
+// For every part the part in whose body it stands: 64 for the top, 65 where there is none, or an ambient around it has no
+// name.
+pub fn locate(kids: &[u64; 65], named: u64) -> [usize; 64]
+    ensures { λ r. ⌜ Located (members named) (bodyIn (now (kids .entry))) (λ i. getD r i 65) ⌝ }
+{
+    let mut found: [usize; 64] = [65; 64];
+    let top = kids[64];
+    locate_below(&mut found, kids, named, top, 64, 64);
+    found
 }

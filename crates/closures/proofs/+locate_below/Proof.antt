@@ -1,0 +1,162 @@
+-- `locate_below` meets its contract: one law of the pass for each way on. The measure is the fuel. Assumes nothing.
+use Prim.Native.Nat.{ℕ, _-_, _<_}
+use mathlib.Core.Bool.{true, false}
+use mathlib.Core.List.{List, _∷_}
+use mathlib.Core.Logic.{inl, inr}
+use mathlib.Core.Path.{_≡_, sym, ap, _∙_, subst}
+use lib.ListN.{length, getD, set, length-set}
+use native.Mathlib.Omega.{arith}
+use borrow.Author.Needs.{needs}
+use borrow.Fn.Kinds.{In}
+use borrow.Fn.PlainCycle.{Measures, is, falls, and}
+use Rattle.sets.specs.Sets.{members, tail}
+use Rattle.sets.proofs.Members.{first-is, first-below, not-none, members-empty}
+use Rattle.sets.proofs.first.Reads as first-reads
+use Rattle.sets.proofs.has.Reads as has-reads
+use Rattle.sets.proofs.rest.Reads as rest-reads
+use Rattle.scripts.specs.Represents.{bodyIn}
+use Rattle.closures.specs.Closure.{ClosureHead, Bindings}
+use Rattle.closures.specs.Searches.{Locates}
+use Rattle.closures.specs.Seen.{Names}
+use Rattle.closures.proofs.Locating.{Enters, enters-named, enters-nameless, locates-none, locates-no-fuel, locates-first, set-place}
+use Rattle.closures.proofs.locate_below.Reads as locate-below
+use Rattle.closures.proofs.locate_below.Kinds as locate-below-kinds
+use Rattle.closures.proofs.+locate_below.Lts-locate_below as locate-below-lts
+use Rattle.closures.proofs.+locate_below.{statement}
+use Rattle.closures.proofs.+locate_below.Tie.{close}
+
+abbrev μ-locate-below : Measures 2 locate-below-kinds.ps ℕ
+μ-locate-below κs a = a .1 .1 .1 .1 .1 .0
+
+abbrev locate-below-at : ℕ → In 2 locate-below-kinds.ps
+locate-below-at t = and 2 locate-below-kinds.ps (is 2 locate-below-kinds.ps μ-locate-below t) locate-below.Pre
+
+abbrev locate-below-below : ℕ → In 2 locate-below-kinds.ps
+locate-below-below t = and 2 locate-below-kinds.ps (falls 2 locate-below-kinds.ps _<_ μ-locate-below t) locate-below.Pre
+
+abbrev claims : ℕ → locate-below-lts.Claims
+claims t = (first-reads.Asked, first-reads.Learnt, rest-reads.Asked, rest-reads.Learnt, has-reads.Asked, has-reads.Learnt, locate-below-below t, locate-below.Post)
+
+abbrev placed : List ℕ → ℕ → ℕ
+placed l x = getD l x 65
+
+module _ (t : ℕ) where
+  -- the function's entry, the places behind the first of left and behind the rest, and that where the two ways meet
+  abbrev Start : Type 0
+  Start = locate-below-lts.Start (claims t) (locate-below-at t) locate-below.Post
+
+  abbrev First : Type 0
+  First = locate-below-lts.After-first (claims t) (locate-below-at t) locate-below.Post
+
+  abbrev Rest : Type 0
+  Rest = locate-below-lts.After-rest (claims t) (locate-below-at t) locate-below.Post
+
+  abbrev Joined : Type 0
+  Joined = locate-below-lts.Joined3 (claims t) (locate-below-at t) locate-below.Post
+
+  abbrev k : Start → ℕ → List ℕ
+  k s = bodyIn (s .args .kids .now)
+
+  abbrev left : Start → List ℕ
+  left s = members (s .args .left)
+
+  abbrev start : First → Start
+  start c = c .before .before .before
+
+  split : (c : First) → left (start c) ≡ c .first .result ∷ tail (left (start c))
+  split c = first-is (start c .args .left) (c .first .result) (start c .fits .left .fits) (c .before .before .if1 .left) (c .first .ensures)
+
+  low : (c : First) → c .first .result < 64
+  low c = first-below (start c .args .left) (c .first .result) (tail (left (start c))) (split c)
+
+  abbrev found₁ : Rest → List ℕ
+  found₁ c = set (start (c .before) .args .found .now) (c .before .first .result) (start (c .before) .args .at)
+
+  -- the places when those in the body of the first are written, if it has a name
+  through : (c : Joined) → (length (c .if3 .found) ≡ 64) × ((σ : Bindings) (w : ℕ → ClosureHead) → Names σ w (members (start (c .before .before .before) .args .named))
+      → Enters σ (k (start (c .before .before .before))) w (c .before .before .before .first .result) (start (c .before .before .before) .args .fuel - 1) (placed (found₁ (c .before .before))) (placed (c .if3 .found)))
+  through c = elim (c .if3 .came) [
+    | inl z ↦ (
+      ap length (z .4) ∙ z .3 .ensures .0,
+      λ σ w names. subst (λ (l : List ℕ). Enters σ (k (start (c .before .before .before))) w (c .before .before .before .first .result) (start (c .before .before .before) .args .fuel - 1) (placed (found₁ (c .before .before))) (placed l)) (sym (z .4))
+          (enters-named σ (k (start (c .before .before .before))) w (c .before .before .before .first .result) (start (c .before .before .before) .args .fuel - 1) (placed (found₁ (c .before .before))) (placed (z .3 .last .0))
+          (sym (names (c .before .before .before .first .result) (low (c .before .before .before))) ∙ sym (c .before .has .ensures) ∙ z .0 .taken) (z .3 .ensures .1 σ w names)),
+    )
+    | inr z ↦ (
+      ap length (z .1) ∙ length-set (start (c .before .before .before) .args .found .now) (c .before .before .before .first .result) (start (c .before .before .before) .args .at) ∙ start (c .before .before .before) .pre .1 .0,
+      λ σ w names. subst (λ (l : List ℕ). Enters σ (k (start (c .before .before .before))) w (c .before .before .before .first .result) (start (c .before .before .before) .args .fuel - 1) (placed (found₁ (c .before .before))) (placed l)) (sym (z .1))
+          (enters-nameless σ (k (start (c .before .before .before))) w (c .before .before .before .first .result) (start (c .before .before .before) .args .fuel - 1) (placed (found₁ (c .before .before)))
+          (sym (names (c .before .before .before .first .result) (low (c .before .before .before))) ∙ sym (c .before .has .ensures) ∙ z .0 .left)),
+    )
+  ]
+
+  locate-below-returns : locate-below-lts.Need-returns (claims t) (locate-below-at t) locate-below.Post
+  locate-below-returns c = (c .before .pre .1 .0, λ σ w names. locates-none σ (k (c .before)) w (left (c .before)) (c .before .args .at) (c .before .args .fuel) (placed (c .before .args .found .now)) (ap members (c .if1 .taken) ∙ members-empty))
+
+  locate-below-returns-2 : locate-below-lts.Need-returns-2 (claims t) (locate-below-at t) locate-below.Post
+  locate-below-returns-2 c = (c .before .before .pre .1 .0, λ σ w names. locates-no-fuel σ (k (c .before .before)) w (left (c .before .before)) (c .before .before .args .at) (c .before .before .args .fuel) (placed (c .before .before .args .found .now)) (c .if2 .taken))
+
+  locate-below-first-requires : locate-below-lts.Need-first-requires (claims t) (locate-below-at t) locate-below.Post
+  locate-below-first-requires c κs = search needs
+
+  locate-below-rest-requires : locate-below-lts.Need-rest-requires (claims t) (locate-below-at t) locate-below.Post
+  locate-below-rest-requires c κs = not-none (c .before .before .before .args .left) (c .before .before .before .fits .left .fits) (c .before .before .if1 .left)
+
+  locate-below-mul-found : locate-below-lts.Need-mul-found (claims t) (locate-below-at t) locate-below.Post
+  locate-below-mul-found c = omega (arith, low (c .before))
+
+  locate-below-element-write-found : locate-below-lts.Need-element-write-found (claims t) (locate-below-at t) locate-below.Post
+  locate-below-element-write-found c = omega (arith, low (c .before))
+
+  locate-below-has-requires : locate-below-lts.Need-has-requires (claims t) (locate-below-at t) locate-below.Post
+  locate-below-has-requires c κs = low (c .before)
+
+  locate-below-mul-inside : locate-below-lts.Need-mul-inside (claims t) (locate-below-at t) locate-below.Post
+  locate-below-mul-inside c = omega (arith, low (c .before .before .before))
+
+  locate-below-element-copy-out-inside : locate-below-lts.Need-element-copy-out-inside (claims t) (locate-below-at t) locate-below.Post
+  locate-below-element-copy-out-inside c = omega (arith, low (c .before .before .before))
+
+  locate-below-sub-locate-below : locate-below-lts.Need-sub-locate-below (claims t) (locate-below-at t) locate-below.Post
+  locate-below-sub-locate-below c = omega (arith, c .before .before .before .before .before .before .if2 .left)
+
+  locate-below-locate-below-requires : locate-below-lts.Need-locate-below-requires (claims t) (locate-below-at t) locate-below.Post
+  locate-below-locate-below-requires c κs = (omega (arith, c .before .before .before .before .before .before .before .before .pre .0, c .before .before .before .before .before .before .if2 .left), (length-set (c .before .before .before .before .before .before .before .before .args .found .now) (c .before .before .before .before .before .first .result) (c .before .before .before .before .before .before .before .before .args .at) ∙ c .before .before .before .before .before .before .before .before .pre .1 .0, omega (arith, low (c .before .before .before .before .before))))
+
+  locate-below-sub-locate-below-2 : locate-below-lts.Need-sub-locate-below-2 (claims t) (locate-below-at t) locate-below.Post
+  locate-below-sub-locate-below-2 c = omega (arith, c .before .before .before .before .before .if2 .left)
+
+  locate-below-locate-below-requires-2 : locate-below-lts.Need-locate-below-requires-2 (claims t) (locate-below-at t) locate-below.Post
+  locate-below-locate-below-requires-2 c κs = (omega (arith, c .before .before .before .before .before .before .before .pre .0, c .before .before .before .before .before .if2 .left), (through (c .before) .0, c .before .before .before .before .before .before .before .pre .1 .1))
+
+  locate-below-returns-3 : locate-below-lts.Need-returns-3 (claims t) (locate-below-at t) locate-below.Post
+  locate-below-returns-3 c = (
+    c .locate-below2 .ensures .0,
+    λ σ w names. locates-first σ (k (c .before .before .before .before .before .before .before .before)) w (left (c .before .before .before .before .before .before .before .before)) (c .before .before .before .before .before .before .before .before .args .at) (c .before .before .before .before .before .before .before .before .args .fuel) (placed (c .before .before .before .before .before .before .before .before .args .found .now)) (c .before .before .before .before .before .first .result) (tail (left (c .before .before .before .before .before .before .before .before))) (placed (found₁ (c .before .before .before .before))) (placed (c .before .before .if3 .found)) (placed (c .locate-below2 .last .0)) (split (c .before .before .before .before .before)) (c .before .before .before .before .before .before .before .before .pre .1 .1)
+        (set-place (c .before .before .before .before .before .before .before .before .args .found .now) (c .before .before .before .before .before .first .result) (c .before .before .before .before .before .before .before .before .args .at) (omega (arith, low (c .before .before .before .before .before), c .before .before .before .before .before .before .before .before .pre .1 .0)))
+        (through (c .before .before) .1 σ w names)
+        (subst (λ (l : List ℕ). Locates σ (k (c .before .before .before .before .before .before .before .before)) w l (c .before .before .before .before .before .before .before .before .args .at) (c .before .before .before .before .before .before .before .before .args .fuel - 1) (placed (c .before .before .if3 .found)) (placed (c .locate-below2 .last .0))) (c .before .before .before .before .rest .ensures) (c .locate-below2 .ensures .1 σ w names)),
+  )
+
+pub +locate-below-spec : {M : Type 1} → statement M
++locate-below-spec =
+    close
+    μ-locate-below
+    (λ t. locate-below-lts.spec
+    (claims t)
+    (locate-below-at t)
+    locate-below.Post
+    (locate-below-returns t)
+    (locate-below-returns-2 t)
+    (locate-below-first-requires t)
+    (locate-below-rest-requires t)
+    (locate-below-mul-found t)
+    (locate-below-element-write-found t)
+    (locate-below-has-requires t)
+    (locate-below-mul-inside t)
+    (locate-below-element-copy-out-inside t)
+    (locate-below-sub-locate-below t)
+    (locate-below-locate-below-requires t)
+    (locate-below-sub-locate-below-2 t)
+    (locate-below-locate-below-requires-2 t)
+    (locate-below-returns-3 t))
