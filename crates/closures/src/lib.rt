@@ -604,6 +604,7 @@ pub fn place_part(
         starts: with_start,
         state: next,
     }
+}
 
 // ---- The places of the parts and the targets of an actor.
 
