@@ -24,12 +24,12 @@ use Rattle.machine.proofs.Inversion.{here-inv}
 use Rattle.machine.proofs.Options.{byTest, and-inv}
 use Rattle.closures.specs.Closure.{ClosureHead, Closure, Bindings, under, settleUnder}
 use Rattle.closures.specs.Represents.{headOf, heads, boundIn, Ready, Represents}
-use Rattle.closures.specs.Searches.{place}
+use Rattle.closures.specs.Searches.{place, Stands}
 use Rattle.closures.specs.Targets.{isSome, canOpen, canReceive, canEnter, canExit}
 use Rattle.closures.specs.Makes.{Makes, Opens, Enters, Exits, Receives}
 use Rattle.closures.specs.declared.State.{State}
 use Rattle.closures.proofs.Heads.{by-kind}
-use Rattle.closures.proofs.Places.{Stands, place-of, place-active, place-apart}
+use Rattle.closures.proofs.Places.{place-of, place-active, place-apart}
 use Rattle.closures.proofs.Arrays.{Replaced, Carried, Raised, set-replaced, set-carried, set-raised}
 use Rattle.closures.proofs.Moving.{shrinks}
 use Rattle.closures.proofs.Acting.{receive-at}
