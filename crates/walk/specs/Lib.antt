@@ -2,3 +2,4 @@
 pub mod Walk
 pub mod PlainWalk
 pub mod ClosureWalk
+pub mod Visits
