@@ -83,11 +83,11 @@ pub record Stage (words : List ℕ) (table : RuleTable) (script kinds starts : L
   pub limited : limits .limit ≡ limits .parts + table .count
   pub few : limits .limit ≤ 64
   pub greatest : limits .greatest ≤ 255
-  pub words : length words ≤ 256
+  pub short : length words ≤ 256
   pub ruled : Ruled words table (indices e) q
   pub stood : ruleIndex q ≡ index
   pub later : Later from q
-  pub chosen : Chosen (limits .greatest) e chosen somes
+  pub named : Chosen (limits .greatest) e chosen somes
 
 -- the machine whose tree is b
 abbrev pub machineOf : (script : List ℕ) → State → Closure → ClosureMachine
