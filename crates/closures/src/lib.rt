@@ -9,7 +9,7 @@ use bindings::wide;
 use messages::First;
 use messages::Named;
 ghost use mathlib.Core.Path.{_≡_};
-ghost use mathlib.Core.Bool.{Bool, false, cond};
+ghost use mathlib.Core.Bool.{Bool, true, false, cond};
 ghost use mathlib.Core.List.{List, []};
 ghost use Prim.Native.Nat.{ℕ, _+_, _≤_, _<_};
 ghost use lib.Dec.{eqb};
@@ -26,7 +26,7 @@ ghost use Rattle.machine.specs.Moves.{isThat, sameName, headName, firstOf};
 ghost use Rattle.closures.specs.Closure.{ClosureHead, Closure, under, settleUnder, closureOf};
 ghost use Rattle.closures.specs.Searches.{SettlesBy, LocatesBy, Located};
 ghost use Rattle.closures.specs.Represents.{headOf, heads, boundIn, Counted, Ready, Represents};
-ghost use Rattle.closures.specs.Makes.{Opens, Enters, Exits, Receives};
+ghost use Rattle.closures.specs.Makes.{Opens, Enters, Exits, Receives, Moves};
 ghost use Rattle.closures.specs.Seen.{nameIn, actOf, aimOf, busyOf, isOutput, Does, kept, Seen};
 
 // What is kept of the parts: the set of those that have a name, and their names; what each does first (1 OPEN, 2 IN,
@@ -647,4 +647,67 @@ pub fn locate(kids: &[u64; 65], named: u64) -> [usize; 64]
     let top = kids[64];
     locate_below(&mut found, kids, named, top, 64, 64);
     found
+}
+
+// IN, or where it is none EXIT, of the actor a in the body of p.
+fn go_with<'a>(
+    script: &'a [u32],
+    kinds: &'a [u8; 64],
+    starts: &'a [u32; 64],
+    state: State,
+    places: &'a [usize; 64],
+    p: usize,
+    a: usize,
+    t: usize,
+    enters: bool,
+) -> State
+    requires { ⌜ (p < 64) × (a < 64) × (t < 64) × Ready (now script) (now kinds) (now starts) state ⌝ }
+    ensures ready { λ r. ⌜ Ready (now (script .entry)) (now (kinds .entry)) (now (starts .entry)) r ⌝ }
+    ensures entered { λ r. ⌜ (enters ≡ true → getD (now (places .entry)) p 0 < 65 → Enters (now (script .entry)) (now (kinds .entry)) (now (starts .entry)) state r p (getD (now (places .entry)) p 0) a t) ⌝ }
+    ensures left { λ r. ⌜ (enters ≡ false → getD (now (places .entry)) t 0 < 65 → Exits (now (script .entry)) (now (kinds .entry)) (now (starts .entry)) state r p t (getD (now (places .entry)) t 0) a) ⌝ }
+{
+    if enters {
+        let q = places[p];
+        if q >= 65 {
+            return state;
+        }
+        return carry(script, kinds, starts, state, p, q, t, a);
+    }
+    let q = places[t];
+    if q >= 65 {
+        return state;
+    }
+    carry(script, kinds, starts, state, p, t, q, a)
+}
+
+// The state after the move of the actor a to t, one of its targets, places being those of all parts.
+pub fn make_move<'a>(
+    script: &'a [u32],
+    kinds: &'a [u8; 64],
+    starts: &'a [u32; 64],
+    state: State,
+    places: &'a [usize; 64],
+    a: usize,
+    t: usize,
+) -> State
+    requires { ⌜ (a < 64) × (t < 64) × Ready (now script) (now kinds) (now starts) state ⌝ }
+    ensures ready { λ r. ⌜ Ready (now (script .entry)) (now (kinds .entry)) (now (starts .entry)) r ⌝ }
+    ensures made { λ r. ⌜ Moves (now (script .entry)) (now (kinds .entry)) (now (starts .entry)) state r (λ i. getD (now (places .entry)) i 0) a t ⌝ }
+{
+    let p = places[a];
+    if p >= 65 {
+        return state;
+    }
+    let looks = state.looks;
+    let act = looks.acts[a];
+    if act == 1 {
+        return open_part(script, kinds, starts, state, p, a, t);
+    }
+    if act == 4 {
+        return receive_part(script, kinds, starts, state, p, a, t);
+    }
+    if p == 64 {
+        return state;
+    }
+    go_with(script, kinds, starts, state, places, p, a, t, act == 2)
 }
