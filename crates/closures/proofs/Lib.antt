@@ -21,5 +21,6 @@ pub mod Leaving
 pub mod Actors
 pub mod Acting
 pub mod Possible
+pub mod Aiming
 pub mod Arrays
 pub mod Making

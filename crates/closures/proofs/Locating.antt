@@ -5,7 +5,7 @@ use mathlib.Core.List.{List, [], _∷_}
 use mathlib.Core.Path.{_≡_, refl, sym, ap, _∙_, subst}
 use native.Mathlib.Omega.{arith}
 use lib.Dec.{eqb, ltb}
-use lib.ListN.{getD, set, length}
+use lib.ListN.{getD, set, length, replicate, getD-replicate}
 use lib.Seq.{getD-set-same, getD-set-other}
 use borrow.Author.Tests.{eqb-true, eqb-false, eq-eqb, ltb-true, ltb-false, lt-ltb}
 use Rattle.messages.specs.declared.Named.the-variants.{Called, Nameless}
@@ -104,14 +104,14 @@ module _ (σ : Bindings) (k : ℕ → List ℕ) (w : ℕ → ClosureHead) where
 
 -- ---- the places in an array
 
-pub set-place : (l : List ℕ) (i at : ℕ) → i < length l → (x : ℕ) → getD (set l i at) x 65 ≡ cond (eqb x i) at (getD l x 65)
+pub set-place : (l : List ℕ) (i at : ℕ) → i < length l → (x : ℕ) → getD (set l i at) x 0 ≡ cond (eqb x i) at (getD l x 0)
 set-place l i at m x = byTest (eqb x i)
-    (λ t. rw (t, eqb-true x i t) (getD-set-same l i at 65 m))
-    (λ t. rw t (getD-set-other l i x at 65 (eqb-false x i t)))
+    (λ t. rw (t, eqb-true x i t) (getD-set-same l i at 0 m))
+    (λ t. rw t (getD-set-other l i x at 0 (eqb-false x i t)))
 
 -- from the top, where no place is written yet
-pub located : (σ : Bindings) (k : ℕ → List ℕ) (w : ℕ → ClosureHead) (b : Closure) (before after : ℕ → ℕ) → Stands k w b → parts b ≤ 64 → ((x : ℕ) → before x ≡ 65)
-    → Locates σ k w (k 64) 64 64 before after → (x : ℕ) → after x ≡ place σ x b
+pub located : (σ : Bindings) (k : ℕ → List ℕ) (w : ℕ → ClosureHead) (b : Closure) (after : ℕ → ℕ) → Stands k w b → parts b ≤ 64
+    → Locates σ k w (k 64) 64 64 (λ x. getD (replicate 64 65) x 0) after → (x : ℕ) → x < 64 → after x ≡ place σ x b
 unfolding placeFrom place
-located σ k w b before after Q few free L x =
-    L b (Q .top) (Q .held) (Q .once) few x ∙ ap (firstPlace (place σ x b)) (free x) ∙ first-none (place σ x b) (place-most σ x b)
+located σ k w b after Q few L x m =
+    L b (Q .top) (Q .held) (Q .once) few x ∙ ap (firstPlace (place σ x b)) (getD-replicate 64 x 65 0 m) ∙ first-none (place σ x b) (place-most σ x b)

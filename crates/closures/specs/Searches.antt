@@ -1,6 +1,6 @@
 -- What the engine's passes over the part sets find and leave: the part in whose body a part stands, and the bodies after
 -- every action with no items left is gone. Assumes nothing: these are definitions.
-use Prim.Native.Nat.{ℕ, _≤_}
+use Prim.Native.Nat.{ℕ, _≤_, _<_}
 use mathlib.Core.Bool.{cond}
 use mathlib.Core.List.{List}
 use mathlib.Core.Path.{_≡_}
@@ -53,7 +53,7 @@ LocatesBy named bodies left at fuel before after =
 abbrev pub Located : (named : List ℕ) (bodies : ℕ → List ℕ) (places : ℕ → ℕ) → Type 0
 Located named bodies places =
     (σ : Bindings) (heads : ℕ → ClosureHead) (b : Closure) → Names σ heads named → Stands bodies heads b → parts b ≤ 64
-    → (i : ℕ) → places i ≡ place σ i b
+    → (i : ℕ) → i < 64 → places i ≡ place σ i b
 
 -- `after` and the top parts r hold what every closure becomes whose top parts are `left`, when it is settled, if it has at
 -- most `fuel` parts; the bodies of all other parts are as they were

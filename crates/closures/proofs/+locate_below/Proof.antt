@@ -38,7 +38,7 @@ abbrev claims : ℕ → locate-below-lts.Claims
 claims t = (first-reads.Asked, first-reads.Learnt, rest-reads.Asked, rest-reads.Learnt, has-reads.Asked, has-reads.Learnt, locate-below-below t, locate-below.Post)
 
 abbrev placed : List ℕ → ℕ → ℕ
-placed l x = getD l x 65
+placed l x = getD l x 0
 
 module _ (t : ℕ) where
   -- the function's entry, the places behind the first of left and behind the rest, and that where the two ways meet
