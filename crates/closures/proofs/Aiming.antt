@@ -1,6 +1,6 @@
 -- What is kept of an actor and the places say which parts are the targets of its moves. Assumes nothing.
 use Prim.Native.Nat.{ℕ, _≤_, _<_}
-use mathlib.Core.Bool.{Bool, true, false, not, _&&_, _||_, cond, and-false}
+use mathlib.Core.Bool.{Bool, true, false, not, _&&_, and-false}
 use mathlib.Core.List.{List, [], _∷_}
 use mathlib.Core.Option.{none}
 use mathlib.Core.Path.{_≡_, refl, sym, ap, _∙_}
@@ -77,13 +77,10 @@ targets-are σ k w b Q P right act aim a t la lt ea ei =
     ∙ by-places σ k w P (λ i. place σ i b) right a t la
     ∙ sym (possible σ k w b Q a t)
 
--- a set of those that pass the test
-pub targets-of : (k : ℕ → List ℕ) (act : ℕ) (aim : List ℕ) (P : ℕ → ℕ) (a : ℕ) (l : List ℕ) → a < 64 → ((t : ℕ) → elem t l ≡ isTarget k act (P a) (P (P a)) t (elem t aim)) → TargetsOf k act aim P a l
-targets-of k act aim P a l la e σ w b Q ea ei right t lt = e t ∙ targets-are σ k w b Q P right act aim a t la lt ea ei
-
--- the test by a known act
-pub by-act : (k : ℕ → List ℕ) (act n p q t : ℕ) (u : Bool) → act ≡ n → isTarget k n p q t u ≡ isTarget k act p q t u
-by-act k act n p q t u e = ap (λ (m : ℕ). isTarget k m p q t u) (sym e)
+-- a set of those that pass the test of the actor's act
+pub targets-of : (k : ℕ → List ℕ) (act : ℕ) (aim : List ℕ) (P : ℕ → ℕ) (a : ℕ) (l : List ℕ) → a < 64 → (n : ℕ) → act ≡ n → ((t : ℕ) → elem t l ≡ isTarget k n (P a) (P (P a)) t (elem t aim)) → TargetsOf k act aim P a l
+targets-of k act aim P a l la n d e σ w b Q ea ei right t lt =
+    e t ∙ ap (λ (m : ℕ). isTarget k m (P a) (P (P a)) t (elem t aim)) (sym d) ∙ targets-are σ k w b Q P right act aim a t la lt ea ei
 
 -- an actor that does nothing has none
 pub no-target : (k : ℕ → List ℕ) (act p q t : ℕ) (u : Bool) → (act ≡ 1 → ⊥) → (act ≡ 2 → ⊥) → (act ≡ 3 → ⊥) → (act ≡ 4 → ⊥) → isTarget k act p q t u ≡ false

@@ -1,14 +1,13 @@
 -- The places of all parts, written in one pass over the part sets. Assumes nothing.
-use Prim.Native.Nat.{ℕ, suc, _+_, _-_, _≤_, _<_}
-use mathlib.Core.Bool.{Bool, true, false, _||_, cond}
+use Prim.Native.Nat.{ℕ, _+_, _-_, _≤_, _<_}
+use mathlib.Core.Bool.{true, false, _||_, cond}
 use mathlib.Core.List.{List, [], _∷_}
-use mathlib.Core.Path.{_≡_, refl, sym, ap, _∙_, subst}
+use mathlib.Core.Path.{_≡_, refl, sym, ap, _∙_}
 use native.Mathlib.Omega.{arith}
 use lib.Dec.{eqb, ltb}
 use lib.ListN.{getD, set, length, replicate, getD-replicate}
 use lib.Seq.{getD-set-same, getD-set-other}
-use borrow.Author.Tests.{eqb-true, eqb-false, eq-eqb, ltb-true, ltb-false, lt-ltb}
-use Rattle.messages.specs.declared.Named.the-variants.{Called, Nameless}
+use borrow.Author.Tests.{eqb-true, eqb-false, ltb-false, lt-ltb}
 use Rattle.sets.specs.Sets.{members, elem, headOr, tail}
 use Rattle.scripts.specs.Tree.{close, part, one, tops, sum, parts, count}
 use Rattle.scripts.specs.Represents.{Held}
@@ -18,7 +17,7 @@ use Rattle.closures.specs.Closure.{ClosureHead, Closure, Bindings, under
 use Rattle.closures.specs.Searches.{firstPlace, placeBelow, placeFrom, place, Stands, Locates}
 use Rattle.closures.specs.Seen.{nameIn, Names, Seen}
 use Rattle.closures.specs.declared.Looks.{Looks}
-use Rattle.closures.proofs.Holding.{no-cons, self, not-in}
+use Rattle.closures.proofs.Holding.{no-cons, not-in}
 use Rattle.closures.proofs.Places.{nowhere, place-most}
 
 -- the parts that have a name are those of the table of names
