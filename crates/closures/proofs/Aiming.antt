@@ -4,7 +4,9 @@ use mathlib.Core.Bool.{Bool, true, false, not, _&&_, and-false}
 use mathlib.Core.List.{List, [], _∷_}
 use mathlib.Core.Option.{none}
 use mathlib.Core.Path.{_≡_, refl, sym, ap, _∙_}
+use native.Mathlib.Omega.{arith}
 use lib.Dec.{eqb, ltb}
+use lib.ListN.{getD}
 use borrow.Author.Tests.{eqb-true, eqb-false, eq-eqb, ne-eqb, lt-ltb, le-ltb}
 use Rattle.messages.specs.Message.{firstItem}
 use Rattle.messages.specs.declared.First.{First}
@@ -13,14 +15,19 @@ use Rattle.sets.specs.Sets.{members, elem, remove, both}
 use Rattle.sets.proofs.Lists.{elem-remove}
 use Rattle.sets.proofs.Members.{elem-keep, members-empty}
 use Rattle.scripts.specs.Tree.{ambient, action, receipt, output}
+use Rattle.scripts.specs.Represents.{bodyIn}
 use Rattle.machine.specs.Moves.{sameName, toEnter, toExit, toOpen, variableOf, messageOf, headName, firstOf}
 use Rattle.machine.proofs.Options.{byTest}
 use Rattle.closures.specs.Closure.{ClosureHead, Closure, Bindings, itemsLeft, under, closureMove}
-use Rattle.closures.specs.Searches.{place, Stands}
-use Rattle.closures.specs.Seen.{itemAct, itemName, isOutput, actUnder, aimUnder}
+use Rattle.closures.specs.Represents.{heads, boundIn, Ready, Represents}
+use Rattle.closures.specs.Searches.{place, Stands, Located}
+use Rattle.closures.specs.Seen.{itemAct, itemName, isOutput, actUnder, aimUnder, Seen}
+use Rattle.closures.specs.declared.State.{State}
 use Rattle.closures.specs.Targets.{isSome, canOpen, canReceive, canEnter, canExit, canMoveFrom, canMove, isWithin, isBeside, isAround, isTarget, TargetsOf}
 use Rattle.closures.proofs.Actors.{by-opener, by-receiver, by-enterer, by-leaver, by-idler, by-places}
 use Rattle.closures.proofs.Possible.{possible}
+use Rattle.closures.proofs.Locating.{seen-names}
+use Rattle.closures.proofs.Making.{represented}
 
 -- ---- the tests, by what is kept
 
@@ -125,3 +132,18 @@ module _ (p q t : ℕ) where
   around-one aim l r m n d e =
       ap (elem t) (e ∙ ap (both aim) d) ∙ elem-keep (λ j. elem j (q ∷ [])) t aim
       ∙ byTest (eqb t q) (λ u. rw (u, lt-ltb p 64 m, lt-ltb q 64 n)) (λ u. rw (u, lt-ltb p 64 m, lt-ltb q 64 n))
+
+-- ---- the same of a state that represents a closure
+
+module _ (script kinds starts : List ℕ) (weight spent : ℕ) (s : State) (b : Closure) (ready : Ready script kinds starts s) (few : spent < 4294967295) (R : Represents script kinds starts weight spent s b) where
+  seen : Seen (boundIn script s) (heads script kinds starts (s .offsets)) (s .looks)
+  seen = ready .seen (λ i. omega (arith, R .spends i))
+
+  module _ (P : ℕ → ℕ) (L : Located (members (s .looks .named)) (bodyIn (s .kids)) P) where
+    pub state-places : (i : ℕ) → i < 64 → P i ≡ place (boundIn script s) i b
+    state-places = L (boundIn script s) (heads script kinds starts (s .offsets)) b (seen-names (boundIn script s) (heads script kinds starts (s .offsets)) (s .looks) seen) (represented script kinds starts weight spent s b R) (omega (arith, R .light, R .weighs))
+
+    -- THEOREM: of what is kept and the places that are found, the targets are those of the moves that the closure allows.
+    pub state-targets : (a : ℕ) → a < 64 → (l : List ℕ) → TargetsOf (bodyIn (s .kids)) (getD (s .looks .acts) a 0) (members (getD (s .looks .aims) a 0)) P a l
+        → (t : ℕ) → t < 64 → elem t l ≡ isSome (closureMove (boundIn script s) a t b)
+    state-targets a m l T = T (boundIn script s) (heads script kinds starts (s .offsets)) b (represented script kinds starts weight spent s b R) (seen .deeds a m .acts) (seen .deeds a m .aims) state-places

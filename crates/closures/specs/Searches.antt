@@ -23,12 +23,12 @@ placeBelow σ t (part i h b r) =
     firstPlace (cond (isNamed (headName (under σ) h)) (cond (elem t (tops b)) i (placeBelow σ t b)) 65) (placeBelow σ t r)
 
 -- the same where the body's own parts stand in that of number `at`
-unfoldable pub placeFrom : Bindings → (at t : ℕ) → Closure → ℕ
+abbrev pub placeFrom : Bindings → (at t : ℕ) → Closure → ℕ
 placeFrom σ at t b = cond (elem t (tops b)) at (placeBelow σ t b)
 
 -- the same from the top, whose parts stand in the body of number 64
 unfoldable pub place : Bindings → (t : ℕ) → Closure → ℕ
-place σ t b = cond (elem t (tops b)) 64 (placeBelow σ t b)
+place σ t b = placeFrom σ 64 t b
 
 -- the sets and heads hold the closure, its own parts being those of number 64's body, and no number stands in it twice
 pub record Stands (bodies : ℕ → List ℕ) (heads : ℕ → ClosureHead) (b : Closure) : Type 0 where
@@ -69,5 +69,5 @@ SettlesBy busy kinds bodies after left r fuel =
 
 -- To unfold this is to unfold every definition of this module: for a proof by computation.
 unfoldable pub computing : Unit {0}
-unfolding placeBelow placeFrom place
+unfolding placeBelow place
 computing = tt
