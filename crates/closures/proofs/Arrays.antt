@@ -1,20 +1,12 @@
 -- How the part sets and the offsets change with a move, and that the arrays in which one or two entries are set change so.
 -- Assumes nothing.
-use Prim.Native.Nat.{ℕ, _+_, _≤_, _<_}
+use Prim.Native.Nat.{ℕ, _+_, _<_}
 use mathlib.Core.List.{List}
 use mathlib.Core.Path.{_≡_, sym, ap, _∙_}
-use native.Mathlib.Omega.{arith}
-use lib.Dec.{ltb}
-use lib.ListN.{getD, set, length, replicate, length-replicate, getD-replicate, List·getD-eq-default}
+use lib.ListN.{getD, set, length}
 use lib.Seq.{getD-set-same, getD-set-other, lt-length-set}
-use borrow.Author.Tests.{ltb-true, ltb-false}
 use Rattle.sets.specs.Sets.{members, insert, remove}
 use Rattle.scripts.specs.Represents.{bodyIn}
-use Rattle.machine.proofs.Options.{byTest}
-
--- every entry of an array that begins with one value, and every entry beyond
-pub all-alike : (n v i : ℕ) → getD (replicate n v) i v ≡ v
-all-alike n v i = byTest (ltb i n) (λ u. getD-replicate n i v v (ltb-true i n u)) (λ u. List·getD-eq-default (replicate n v) v (let m : length (replicate n v) ≤ i = omega (arith, length-replicate n v, ltb-false i n u) in m))
 
 -- the sets after that of b has become l
 pub record Replaced (k k′ : ℕ → List ℕ) (b : ℕ) (l : List ℕ) : Type 0 where

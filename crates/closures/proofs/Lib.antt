@@ -21,6 +21,7 @@ pub mod Leaving
 pub mod Actors
 pub mod Acting
 pub mod Possible
+pub mod Aiming
 pub mod Arrays
 pub mod Placing
 pub mod Making

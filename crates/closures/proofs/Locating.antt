@@ -1,14 +1,13 @@
 -- The places of all parts, written in one pass over the part sets. Assumes nothing.
-use Prim.Native.Nat.{ℕ, suc, _+_, _-_, _≤_, _<_}
-use mathlib.Core.Bool.{Bool, true, false, _||_, cond}
+use Prim.Native.Nat.{ℕ, _+_, _-_, _≤_, _<_}
+use mathlib.Core.Bool.{true, false, _||_, cond}
 use mathlib.Core.List.{List, [], _∷_}
-use mathlib.Core.Path.{_≡_, refl, sym, ap, _∙_, subst}
+use mathlib.Core.Path.{_≡_, refl, sym, ap, _∙_}
 use native.Mathlib.Omega.{arith}
 use lib.Dec.{eqb, ltb}
-use lib.ListN.{getD, set, length}
+use lib.ListN.{getD, set, length, replicate, getD-replicate}
 use lib.Seq.{getD-set-same, getD-set-other}
-use borrow.Author.Tests.{eqb-true, eqb-false, eq-eqb, ltb-true, ltb-false, lt-ltb}
-use Rattle.messages.specs.declared.Named.the-variants.{Called, Nameless}
+use borrow.Author.Tests.{eqb-true, eqb-false, ltb-false, lt-ltb}
 use Rattle.sets.specs.Sets.{members, elem, headOr, tail}
 use Rattle.scripts.specs.Tree.{close, part, one, tops, sum, parts, count}
 use Rattle.scripts.specs.Represents.{Held}
@@ -18,7 +17,7 @@ use Rattle.closures.specs.Closure.{ClosureHead, Closure, Bindings, under
 use Rattle.closures.specs.Searches.{firstPlace, placeBelow, placeFrom, place, Stands, Locates}
 use Rattle.closures.specs.Seen.{nameIn, Names, Seen}
 use Rattle.closures.specs.declared.Looks.{Looks}
-use Rattle.closures.proofs.Holding.{no-cons, self, not-in}
+use Rattle.closures.proofs.Holding.{no-cons, not-in}
 use Rattle.closures.proofs.Places.{nowhere, place-most}
 
 -- the parts that have a name are those of the table of names
@@ -43,7 +42,6 @@ first-none x l = byTest (ltb x 65) (λ t. rw t) (λ t. rw t (omega (arith, ltb-f
 -- ---- the place of a part
 
 pub place-none : (σ : Bindings) (at x : ℕ) (b : Closure) → count x b ≡ 0 → placeFrom σ at x b ≡ 65
-unfolding placeFrom
 place-none σ at x b e = rw (not-in x b e) (nowhere σ x b e)
 
 -- ---- the ways on of the pass
@@ -69,19 +67,18 @@ module _ (σ : Bindings) (k : ℕ → List ℕ) (w : ℕ → ClosureHead) where
 
   module _ (left : List ℕ) (at fuel : ℕ) (P : ℕ → ℕ) where
     pub locates-none : left ≡ [] → Locates σ k w left at fuel P P
-    unfolding tops elem placeBelow placeFrom
+    unfolding tops elem placeBelow
     locates-none z close e h once m x = refl
     locates-none z (part j g s r) e h once m x = absurd (no-cons j (tops r) (sym e ∙ z))
 
     pub locates-no-fuel : fuel ≡ 0 → Locates σ k w left at fuel P P
-    unfolding tops elem placeBelow placeFrom sum
+    unfolding tops elem placeBelow sum
     locates-no-fuel d close e h once m x = refl
     locates-no-fuel d (part j g s r) e h once m x = absurd (let z : ⊥ = omega arith in z)
 
     -- what is written of a part, of those in its body and of those beside it, no number standing twice
     together : at < 65 → (j : ℕ) (h : ClosureHead) (x : ℕ) (s r : Closure) → one (eqb x j) + (count x s + count x r) ≤ 1
         → firstPlace (placeFrom σ at x r) (firstPlace (below σ j h x s) (cond (eqb x j) at (P x))) ≡ firstPlace (cond (eqb x j || elem x (tops r)) at (firstPlace (below σ j h x s) (placeBelow σ x r))) (P x)
-    unfolding placeFrom
     together own j h x s r once = byTest (eqb x j)
         (λ t. let o : 1 + (count x s + count x r) ≤ 1 = rw t at once in rw (t, below-none σ j h x s (omega arith), place-none σ at x r (omega arith), lt-ltb at 65 own))
         (λ t. byTest (elem x (tops r))
@@ -92,7 +89,7 @@ module _ (σ : Bindings) (k : ℕ → List ℕ) (w : ℕ → ClosureHead) where
 
     pub locates-first : (i : ℕ) (l : List ℕ) (P₁ P₂ P₃ : ℕ → ℕ) → left ≡ i ∷ l → at < 65 → ((x : ℕ) → P₁ x ≡ cond (eqb x i) at (P x)) → Enters σ k w i (fuel - 1) P₁ P₂
         → Locates σ k w l at (fuel - 1) P₂ P₃ → Locates σ k w left at fuel P P₃
-    unfolding tops elem placeBelow placeFrom sum
+    unfolding tops elem placeBelow sum
     locates-first i l P₁ P₂ P₃ first own here inside rest close e h once m x = absurd (no-cons i l (sym first ∙ e))
     locates-first i l P₁ P₂ P₃ first own here inside rest (part j g s r) e h once m x =
         let p : i ≡ j = ap (headOr 0) (sym first ∙ e) in
@@ -104,14 +101,14 @@ module _ (σ : Bindings) (k : ℕ → List ℕ) (w : ℕ → ClosureHead) where
 
 -- ---- the places in an array
 
-pub set-place : (l : List ℕ) (i at : ℕ) → i < length l → (x : ℕ) → getD (set l i at) x 65 ≡ cond (eqb x i) at (getD l x 65)
+pub set-place : (l : List ℕ) (i at : ℕ) → i < length l → (x : ℕ) → getD (set l i at) x 0 ≡ cond (eqb x i) at (getD l x 0)
 set-place l i at m x = byTest (eqb x i)
-    (λ t. rw (t, eqb-true x i t) (getD-set-same l i at 65 m))
-    (λ t. rw t (getD-set-other l i x at 65 (eqb-false x i t)))
+    (λ t. rw (t, eqb-true x i t) (getD-set-same l i at 0 m))
+    (λ t. rw t (getD-set-other l i x at 0 (eqb-false x i t)))
 
 -- from the top, where no place is written yet
-pub located : (σ : Bindings) (k : ℕ → List ℕ) (w : ℕ → ClosureHead) (b : Closure) (before after : ℕ → ℕ) → Stands k w b → parts b ≤ 64 → ((x : ℕ) → before x ≡ 65)
-    → Locates σ k w (k 64) 64 64 before after → (x : ℕ) → after x ≡ place σ x b
-unfolding placeFrom place
-located σ k w b before after Q few free L x =
-    L b (Q .top) (Q .held) (Q .once) few x ∙ ap (firstPlace (place σ x b)) (free x) ∙ first-none (place σ x b) (place-most σ x b)
+pub located : (σ : Bindings) (k : ℕ → List ℕ) (w : ℕ → ClosureHead) (b : Closure) (after : ℕ → ℕ) → Stands k w b → parts b ≤ 64
+    → Locates σ k w (k 64) 64 64 (λ x. getD (replicate 64 65) x 0) after → (x : ℕ) → x < 64 → after x ≡ place σ x b
+unfolding place
+located σ k w b after Q few L x m =
+    L b (Q .top) (Q .held) (Q .once) few x ∙ ap (firstPlace (place σ x b)) (getD-replicate 64 x 65 0 m) ∙ first-none (place σ x b) (place-most σ x b)

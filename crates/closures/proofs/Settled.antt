@@ -4,10 +4,10 @@ use Prim.Native.Nat.{ℕ, _+_, _*_, _-_, _≤_, _<_}
 use mathlib.Core.List.{List, []}
 use mathlib.Core.Path.{_≡_, refl, sym, ap, _∙_, subst}
 use native.Mathlib.Omega.{arith}
-use lib.Dec.{eqb}
-use lib.ListN.{getD, set, length, drop, replicate}
+use lib.Dec.{eqb, ltb}
+use lib.ListN.{getD, set, length, drop, replicate, getD-replicate, List·getD-eq-default}
 use lib.Seq.{getD-set-same, getD-set-other}
-use borrow.Author.Tests.{lt-ltb}
+use borrow.Author.Tests.{lt-ltb, ltb-true, ltb-false}
 use Rattle.messages.specs.Message.{Message}
 use Rattle.sets.specs.Sets.{members}
 use Rattle.scripts.specs.Tree.{Head, Body, close, part, one, tops, sum, parts, count, mapHeads}
@@ -29,7 +29,6 @@ use Rattle.closures.specs.declared.State.{State}
 use Rattle.closures.proofs.Holding.{total, differ, frame}
 use Rattle.closures.proofs.Heads.{by-kind, kind-ambient}
 use Rattle.closures.proofs.Settling.{settled-count}
-use Rattle.closures.proofs.Arrays.{all-alike}
 
 -- the state after its parts are settled from the top
 pub settled-is : (script kinds starts : List ℕ) (weight spent : ℕ) (s : State) (b : Closure) (kids : List ℕ) (m : ℕ) → Ready script kinds starts s → spent < 4294967295
@@ -78,7 +77,7 @@ pub begun : (script kinds starts kids : List ℕ) (n : ℕ) (s : State) (b : Scr
     → Represents script kinds starts (parts b) 0 s (closureOf b)
 unfolding closureOf
 begun script kinds starts kids n s b T low ek eo ef =
-    let zero : (i : ℕ) → getD (s .offsets) i 0 ≡ 0 = λ i. ap (λ (o : List ℕ). getD o i 0) eo ∙ all-alike 64 0 i in
+    let zero : (i : ℕ) → getD (s .offsets) i 0 ≡ 0 = λ i. ap (λ (o : List ℕ). getD o i 0) eo ∙ zeros i in
     let numbers : (j : ℕ) → count j (closureOf b) ≡ count j b = λ j. map-sum (λ i h. one (eqb j i)) (λ (x : Written). wholeHead (x .head)) b in
     let few : parts b ≤ 64 = omega (arith, T .few, T .counted) in
     record {
@@ -92,6 +91,9 @@ begun script kinds starts kids n s b T low ek eo ef =
       weighs = omega (arith, map-sum (λ i h. 1) (λ (x : Written). wholeHead (x .head)) b);
       spends = λ i. omega (arith, zero i);
     }
+  where
+    zeros : (i : ℕ) → _≡_ {A = ℕ} (getD (replicate 64 0) i 0) 0
+    zeros i = byTest (ltb i 64) (λ u. getD-replicate 64 i 0 0 (ltb-true i 64 u)) (λ u. List·getD-eq-default (replicate 64 0) 0 (ltb-false i 64 u))
 
 -- a state with the same offsets, looks and bindings is as ready
 pub ready-same : (script kinds starts : List ℕ) (s r : State) → s .offsets ≡ r .offsets → s .looks ≡ r .looks → s .bindings ≡ r .bindings → Ready script kinds starts s → Ready script kinds starts r

@@ -1,6 +1,6 @@
 -- What the engine's passes over the part sets find and leave: the part in whose body a part stands, and the bodies after
 -- every action with no items left is gone. Assumes nothing: these are definitions.
-use Prim.Native.Nat.{ℕ, _≤_}
+use Prim.Native.Nat.{ℕ, _≤_, _<_}
 use mathlib.Core.Bool.{cond}
 use mathlib.Core.List.{List}
 use mathlib.Core.Path.{_≡_}
@@ -23,12 +23,12 @@ placeBelow σ t (part i h b r) =
     firstPlace (cond (isNamed (headName (under σ) h)) (cond (elem t (tops b)) i (placeBelow σ t b)) 65) (placeBelow σ t r)
 
 -- the same where the body's own parts stand in that of number `at`
-unfoldable pub placeFrom : Bindings → (at t : ℕ) → Closure → ℕ
+abbrev pub placeFrom : Bindings → (at t : ℕ) → Closure → ℕ
 placeFrom σ at t b = cond (elem t (tops b)) at (placeBelow σ t b)
 
 -- the same from the top, whose parts stand in the body of number 64
 unfoldable pub place : Bindings → (t : ℕ) → Closure → ℕ
-place σ t b = cond (elem t (tops b)) 64 (placeBelow σ t b)
+place σ t b = placeFrom σ 64 t b
 
 -- the sets and heads hold the closure, its own parts being those of number 64's body, and no number stands in it twice
 pub record Stands (bodies : ℕ → List ℕ) (heads : ℕ → ClosureHead) (b : Closure) : Type 0 where
@@ -53,7 +53,7 @@ LocatesBy named bodies left at fuel before after =
 abbrev pub Located : (named : List ℕ) (bodies : ℕ → List ℕ) (places : ℕ → ℕ) → Type 0
 Located named bodies places =
     (σ : Bindings) (heads : ℕ → ClosureHead) (b : Closure) → Names σ heads named → Stands bodies heads b → parts b ≤ 64
-    → (i : ℕ) → places i ≡ place σ i b
+    → (i : ℕ) → i < 64 → places i ≡ place σ i b
 
 -- `after` and the top parts r hold what every closure becomes whose top parts are `left`, when it is settled, if it has at
 -- most `fuel` parts; the bodies of all other parts are as they were
@@ -69,5 +69,5 @@ SettlesBy busy kinds bodies after left r fuel =
 
 -- To unfold this is to unfold every definition of this module: for a proof by computation.
 unfoldable pub computing : Unit {0}
-unfolding placeBelow placeFrom place
+unfolding placeBelow place
 computing = tt

@@ -27,6 +27,7 @@ ghost use Rattle.closures.specs.Closure.{ClosureHead, Closure, under, se
 ghost use Rattle.closures.specs.Searches.{SettlesBy, LocatesBy, Located};
 ghost use Rattle.closures.specs.Represents.{headOf, heads, boundIn, Counted, Ready, Represents};
 ghost use Rattle.closures.specs.Makes.{Opens, Enters, Exits, Receives, Moves};
+ghost use Rattle.closures.specs.Targets.{isWithin, isBeside, isAround, TargetsOf};
 ghost use Rattle.closures.specs.Seen.{nameIn, actOf, aimOf, busyOf, isOutput, Does, kept, Seen};
 
 // What is kept of the parts: the set of those that have a name, and their names; what each does first (1 OPEN, 2 IN,
@@ -620,7 +621,7 @@ fn locate_below<'a, 'b>(
 )
     requires { ⌜ (length (now found) ≡ 64) × (at < 65) ⌝ }
     ensures kept { λ r. ⌜ length (now (found .exit)) ≡ 64 ⌝ }
-    ensures located { λ r. ⌜ LocatesBy (members named) (bodyIn (now (kids .entry))) (members left) at fuel (λ i. getD (now (found .entry)) i 65) (λ i. getD (now (found .exit)) i 65) ⌝ }
+    ensures located { λ r. ⌜ LocatesBy (members named) (bodyIn (now (kids .entry))) (members left) at fuel (λ i. getD (now (found .entry)) i 0) (λ i. getD (now (found .exit)) i 0) ⌝ }
 {
     if left == 0 {
         return;
@@ -641,7 +642,7 @@ fn locate_below<'a, 'b>(
 // For every part the part in whose body it stands: 64 for the top, 65 where there is none, or an ambient around it has no
 // name.
 pub fn locate(kids: &[u64; 65], named: u64) -> [usize; 64]
-    ensures { λ r. ⌜ Located (members named) (bodyIn (now (kids .entry))) (λ i. getD r i 65) ⌝ }
+    ensures { λ r. ⌜ Located (members named) (bodyIn (now (kids .entry))) (λ i. getD r i 0) ⌝ }
 {
     let mut found: [usize; 64] = [65; 64];
     let top = kids[64];
@@ -649,8 +650,67 @@ pub fn locate(kids: &[u64; 65], named: u64) -> [usize; 64]
     found
 }
 
+// Those of aim in the body of the part p.
+fn aimed_within(kids: &[u64; 65], aim: u64, p: usize) -> u64
+    ensures { λ r. ⌜ ((t : ℕ) → elem t (members r) ≡ isWithin (bodyIn (now (kids .entry))) p t (elem t (members aim))) ⌝ }
+{
+    if p >= 65 {
+        return 0;
+    }
+    let inside = kids[p];
+    sets::intersection(aim, inside)
+}
+
+// Those of aim in the body in which the part p stands, but for p.
+fn aimed_beside<'a>(kids: &'a [u64; 65], aim: u64, places: &'a [usize; 64], p: usize) -> u64
+    ensures { λ r. ⌜ ((t : ℕ) → elem t (members r) ≡ isBeside (bodyIn (now (kids .entry))) p (getD (now (places .entry)) p 0) t (elem t (members aim))) ⌝ }
+{
+    if p >= 64 {
+        return 0;
+    }
+    let q = places[p];
+    sets::without(aimed_within(kids, aim, q), p)
+}
+
+// The part in whose body the part p stands, if it is in aim.
+fn aimed_around(aim: u64, places: &[usize; 64], p: usize) -> u64
+    ensures { λ r. ⌜ ((t : ℕ) → elem t (members r) ≡ isAround p (getD (now (places .entry)) p 0) t (elem t (members aim))) ⌝ }
+{
+    if p >= 64 {
+        return 0;
+    }
+    let q = places[p];
+    if q >= 64 {
+        return 0;
+    }
+    sets::intersection(aim, sets::single(q))
+}
+
+// The targets of the actor a's moves, by what it does first and where it stands.
+pub fn targets<'a>(
+    kids: &'a [u64; 65],
+    acts: &'a [u8; 64],
+    aims: &'a [u64; 64],
+    places: &'a [usize; 64],
+    a: usize,
+) -> u64
+    requires { ⌜ a < 64 ⌝ }
+    ensures { λ r. ⌜ TargetsOf (bodyIn (now (kids .entry))) (getD (now (acts .entry)) a 0) (members (getD (now (aims .entry)) a 0)) (λ i. getD (now (places .entry)) i 0) a (members r) ⌝ }
+{
+    let act = acts[a];
+    let aim = aims[a];
+    let p = places[a];
+    match act {
+        1 => aimed_within(kids, aim, p),
+        2 => aimed_beside(kids, aim, places, p),
+        3 => aimed_around(aim, places, p),
+        4 => aimed_within(kids, aim, p),
+        _ => 0,
+    }
+}
+
 // IN, or where it is none EXIT, of the actor a in the body of p.
-fn go_with<'a>(
+fn carry_around<'a>(
     script: &'a [u32],
     kinds: &'a [u8; 64],
     starts: &'a [u32; 64],
@@ -709,5 +769,5 @@ pub fn make_move<'a>(
     if p == 64 {
         return state;
     }
-    go_with(script, kinds, starts, state, places, p, a, t, act == 2)
+    carry_around(script, kinds, starts, state, places, p, a, t, act == 2)
 }

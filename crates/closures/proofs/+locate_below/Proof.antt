@@ -1,6 +1,5 @@
 -- `locate_below` meets its contract: one law of the pass for each way on. The measure is the fuel. Assumes nothing.
 use Prim.Native.Nat.{ℕ, _-_, _<_}
-use mathlib.Core.Bool.{true, false}
 use mathlib.Core.List.{List, _∷_}
 use mathlib.Core.Logic.{inl, inr}
 use mathlib.Core.Path.{_≡_, sym, ap, _∙_, subst}
@@ -15,7 +14,8 @@ use Rattle.sets.proofs.first.Reads as first-reads
 use Rattle.sets.proofs.has.Reads as has-reads
 use Rattle.sets.proofs.rest.Reads as rest-reads
 use Rattle.scripts.specs.Represents.{bodyIn}
-use Rattle.closures.specs.Closure.{ClosureHead, Bindings}
+use Rattle.machine.specs.Moves.{isNamed, headName}
+use Rattle.closures.specs.Closure.{ClosureHead, Bindings, under}
 use Rattle.closures.specs.Searches.{Locates}
 use Rattle.closures.specs.Seen.{Names}
 use Rattle.closures.proofs.Locating.{Enters, enters-named, enters-nameless, locates-none, locates-no-fuel, locates-first, set-place}
@@ -38,7 +38,7 @@ abbrev claims : ℕ → locate-below-lts.Claims
 claims t = (first-reads.Asked, first-reads.Learnt, rest-reads.Asked, rest-reads.Learnt, has-reads.Asked, has-reads.Learnt, locate-below-below t, locate-below.Post)
 
 abbrev placed : List ℕ → ℕ → ℕ
-placed l x = getD l x 65
+placed l x = getD l x 0
 
 module _ (t : ℕ) where
   -- the function's entry, the places behind the first of left and behind the rest, and that where the two ways meet
@@ -72,23 +72,26 @@ module _ (t : ℕ) where
   abbrev found₁ : Rest → List ℕ
   found₁ c = set (start (c .before) .args .found .now) (c .before .first .result) (start (c .before) .args .at)
 
-  -- the places when those in the body of the first are written, if it has a name
-  through : (c : Joined) → (length (c .if3 .found) ≡ 64) × ((σ : Bindings) (w : ℕ → ClosureHead) → Names σ w (members (start (c .before .before .before) .args .named))
-      → Enters σ (k (start (c .before .before .before))) w (c .before .before .before .first .result) (start (c .before .before .before) .args .fuel - 1) (placed (found₁ (c .before .before))) (placed (c .if3 .found)))
-  through c = elim (c .if3 .came) [
-    | inl z ↦ (
-      ap length (z .4) ∙ z .3 .ensures .0,
-      λ σ w names. subst (λ (l : List ℕ). Enters σ (k (start (c .before .before .before))) w (c .before .before .before .first .result) (start (c .before .before .before) .args .fuel - 1) (placed (found₁ (c .before .before))) (placed l)) (sym (z .4))
-          (enters-named σ (k (start (c .before .before .before))) w (c .before .before .before .first .result) (start (c .before .before .before) .args .fuel - 1) (placed (found₁ (c .before .before))) (placed (z .3 .last .0))
-          (sym (names (c .before .before .before .first .result) (low (c .before .before .before))) ∙ sym (c .before .has .ensures) ∙ z .0 .taken) (z .3 .ensures .1 σ w names)),
-    )
-    | inr z ↦ (
-      ap length (z .1) ∙ length-set (start (c .before .before .before) .args .found .now) (c .before .before .before .first .result) (start (c .before .before .before) .args .at) ∙ start (c .before .before .before) .pre .1 .0,
-      λ σ w names. subst (λ (l : List ℕ). Enters σ (k (start (c .before .before .before))) w (c .before .before .before .first .result) (start (c .before .before .before) .args .fuel - 1) (placed (found₁ (c .before .before))) (placed l)) (sym (z .1))
-          (enters-nameless σ (k (start (c .before .before .before))) w (c .before .before .before .first .result) (start (c .before .before .before) .args .fuel - 1) (placed (found₁ (c .before .before)))
-          (sym (names (c .before .before .before .first .result) (low (c .before .before .before))) ∙ sym (c .before .has .ensures) ∙ z .0 .left)),
-    )
-  ]
+  -- l has the places when those in the body of the first are written, if it has a name
+  abbrev Through : Rest → List ℕ → Type 0
+  Through c l = (length l ≡ 64) × ((σ : Bindings) (w : ℕ → ClosureHead) → Names σ w (members (start (c .before) .args .named))
+      → Enters σ (k (start (c .before))) w (c .before .first .result) (start (c .before) .args .fuel - 1) (placed (found₁ c)) (placed l))
+
+  abbrev Tested : Type 0
+  Tested = locate-below-lts.After-has (claims t) (locate-below-at t) locate-below.Post
+
+  tested : (c : Tested) (σ : Bindings) (w : ℕ → ClosureHead) → Names σ w (members (start (c .before .before) .args .named)) → isNamed (headName (under σ) (w (c .before .before .first .result))) ≡ c .has .result
+  tested c σ w names = sym (names (c .before .before .first .result) (low (c .before .before))) ∙ sym (c .has .ensures)
+
+  through : (c : Joined) → Through (c .before .before) (c .if3 .found)
+  through c =
+      let r : Rest = c .before .before in
+      let s : Start = start (r .before) in
+      let i : ℕ = r .before .first .result in
+      elim (c .if3 .came) [
+        | inl z ↦ subst (Through r) (sym (z .4)) (z .3 .ensures .0, λ σ w names. enters-named σ (k s) w i (s .args .fuel - 1) (placed (found₁ r)) (placed (z .3 .last .0)) (tested (c .before) σ w names ∙ z .0 .taken) (z .3 .ensures .1 σ w names))
+        | inr z ↦ subst (Through r) (sym (z .1)) (length-set (s .args .found .now) i (s .args .at) ∙ s .pre .1 .0, λ σ w names. enters-nameless σ (k s) w i (s .args .fuel - 1) (placed (found₁ r)) (tested (c .before) σ w names ∙ z .0 .left))
+      ]
 
   locate-below-returns : locate-below-lts.Need-returns (claims t) (locate-below-at t) locate-below.Post
   locate-below-returns c = (c .before .pre .1 .0, λ σ w names. locates-none σ (k (c .before)) w (left (c .before)) (c .before .args .at) (c .before .args .fuel) (placed (c .before .args .found .now)) (ap members (c .if1 .taken) ∙ members-empty))
@@ -130,13 +133,17 @@ module _ (t : ℕ) where
   locate-below-locate-below-requires-2 c κs = (omega (arith, c .before .before .before .before .before .before .before .pre .0, c .before .before .before .before .before .if2 .left), (through (c .before) .0, c .before .before .before .before .before .before .before .pre .1 .1))
 
   locate-below-returns-3 : locate-below-lts.Need-returns-3 (claims t) (locate-below-at t) locate-below.Post
-  locate-below-returns-3 c = (
-    c .locate-below2 .ensures .0,
-    λ σ w names. locates-first σ (k (c .before .before .before .before .before .before .before .before)) w (left (c .before .before .before .before .before .before .before .before)) (c .before .before .before .before .before .before .before .before .args .at) (c .before .before .before .before .before .before .before .before .args .fuel) (placed (c .before .before .before .before .before .before .before .before .args .found .now)) (c .before .before .before .before .before .first .result) (tail (left (c .before .before .before .before .before .before .before .before))) (placed (found₁ (c .before .before .before .before))) (placed (c .before .before .if3 .found)) (placed (c .locate-below2 .last .0)) (split (c .before .before .before .before .before)) (c .before .before .before .before .before .before .before .before .pre .1 .1)
-        (set-place (c .before .before .before .before .before .before .before .before .args .found .now) (c .before .before .before .before .before .first .result) (c .before .before .before .before .before .before .before .before .args .at) (omega (arith, low (c .before .before .before .before .before), c .before .before .before .before .before .before .before .before .pre .1 .0)))
-        (through (c .before .before) .1 σ w names)
-        (subst (λ (l : List ℕ). Locates σ (k (c .before .before .before .before .before .before .before .before)) w l (c .before .before .before .before .before .before .before .before .args .at) (c .before .before .before .before .before .before .before .before .args .fuel - 1) (placed (c .before .before .if3 .found)) (placed (c .locate-below2 .last .0))) (c .before .before .before .before .rest .ensures) (c .locate-below2 .ensures .1 σ w names)),
-  )
+  locate-below-returns-3 c =
+      let r : Rest = c .before .before .before .before in
+      let s : Start = start (r .before) in
+      let i : ℕ = r .before .first .result in
+      let after : List ℕ = c .before .before .if3 .found in (
+        c .locate-below2 .ensures .0,
+        λ σ w names. locates-first σ (k s) w (left s) (s .args .at) (s .args .fuel) (placed (s .args .found .now)) i (tail (left s)) (placed (found₁ r)) (placed after) (placed (c .locate-below2 .last .0)) (split (r .before)) (s .pre .1 .1)
+            (set-place (s .args .found .now) i (s .args .at) (omega (arith, low (r .before), s .pre .1 .0)))
+            (through (c .before .before) .1 σ w names)
+            (subst (λ (l : List ℕ). Locates σ (k s) w l (s .args .at) (s .args .fuel - 1) (placed after) (placed (c .locate-below2 .last .0))) (r .rest .ensures) (c .locate-below2 .ensures .1 σ w names)),
+      )
 
 pub +locate-below-spec : {M : Type 1} → statement M
 +locate-below-spec =

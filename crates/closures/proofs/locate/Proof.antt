@@ -1,7 +1,6 @@
 -- `locate` meets its contract: the places are found from the top. Assumes nothing.
 use Rattle.scripts.specs.Represents.{bodyIn}
-use lib.ListN.{getD, replicate}
-use Rattle.closures.proofs.Arrays.{all-alike}
+use lib.ListN.{getD}
 use Rattle.closures.proofs.Locating.{located}
 use borrow.Author.Needs.{needs}
 use Rattle.closures.proofs.locate.Statement.{statement}
@@ -17,7 +16,7 @@ locate-below-requires : tie.Need-locate-below-requires
 locate-below-requires c κs = search needs
 
 returns : tie.Need-returns
-returns c σ w b names Q few = located σ (bodyIn (c .before .before .before .args .kids .now)) w b (λ i. getD (replicate 64 65) i 65) (λ i. getD (c .locate-below .last .0) i 65) Q few (all-alike 64 65) (c .locate-below .ensures .1 σ w names)
+returns c σ w b names Q few = located σ (bodyIn (c .before .before .before .args .kids .now)) w b (λ i. getD (c .locate-below .last .0) i 0) Q few (c .locate-below .ensures .1 σ w names)
 
 pub locate-spec : {M : Type 1} → statement M
 locate-spec = tie.close (tie.spec element-copy-out-top locate-below-requires returns)

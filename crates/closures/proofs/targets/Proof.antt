@@ -1,0 +1,104 @@
+-- `targets` meets its contract: one test for each act. Assumes nothing.
+use Prim.Native.Nat.{ℕ}
+use mathlib.Core.Bool.{Bool}
+use mathlib.Core.List.{List}
+use mathlib.Core.Path.{_≡_, refl, sym, _∙_}
+use lib.ListN.{getD}
+use Rattle.sets.specs.Sets.{members, elem}
+use Rattle.scripts.specs.Represents.{bodyIn}
+use Rattle.closures.specs.Targets.{isTarget, TargetsOf}
+use Rattle.closures.proofs.Aiming.{targets-of, no-target, in-none}
+use borrow.Author.Needs.{needs}
+use Rattle.closures.proofs.targets.Statement.{statement}
+use Rattle.closures.proofs.targets.Tie as tie
+use Rattle.closures.proofs.targets.Reads as reads
+use Rattle.closures.proofs.targets.Lts as lts
+use Rattle.closures.proofs.aimed_around.Reads as aimed-around-reads
+use Rattle.closures.proofs.aimed_beside.Reads as aimed-beside-reads
+use Rattle.closures.proofs.aimed_within.Reads as aimed-within-reads
+
+element-copy-out-act : tie.Need-element-copy-out-act
+element-copy-out-act c = search needs
+
+mul-aim : tie.Need-mul-aim
+mul-aim c = search needs
+
+element-copy-out-aim : tie.Need-element-copy-out-aim
+element-copy-out-aim c = search needs
+
+mul-p : tie.Need-mul-p
+mul-p c = search needs
+
+element-copy-out-p : tie.Need-element-copy-out-p
+element-copy-out-p c = search needs
+
+aimed-within-requires : tie.Need-aimed-within-requires
+aimed-within-requires c κs = search needs
+
+aimed-beside-requires : tie.Need-aimed-beside-requires
+aimed-beside-requires c κs = search needs
+
+aimed-around-requires : tie.Need-aimed-around-requires
+aimed-around-requires c κs = search needs
+
+aimed-within-requires-2 : tie.Need-aimed-within-requires-2
+aimed-within-requires-2 c κs = search needs
+
+abbrev k : tie.Start → ℕ → List ℕ
+k s = bodyIn (s .args .kids .now)
+
+abbrev act : tie.Start → ℕ
+act s = getD (s .args .acts .now) (s .args .a) 0
+
+abbrev aim : tie.Start → List ℕ
+aim s = members (getD (s .args .aims .now) (s .args .a) 0)
+
+abbrev at : tie.Start → ℕ → ℕ
+at s i = getD (s .args .places .now) i 0
+
+abbrev test : (s : tie.Start) (n t : ℕ) → Bool
+test s n t = isTarget (k s) n (at s (s .args .a)) (at s (at s (s .args .a))) t (elem t (aim s))
+
+answers : (s : tie.Start) (n r : ℕ) → act s ≡ n → ((t : ℕ) → elem t (members r) ≡ test s n t) → TargetsOf (k s) (act s) (aim s) (at s) (s .args .a) (members r)
+answers s n r = targets-of (k s) (act s) (aim s) (at s) (s .args .a) (members r) (s .pre) n
+
+returns : tie.Need-returns
+unfolding isTarget
+returns c = answers (c .before .before .before .before .before) 1 (c .aimed-within .result) (c .before .match .keys1) (c .aimed-within .ensures)
+
+returns-2 : tie.Need-returns-2
+unfolding isTarget
+returns-2 c = answers (c .before .before .before .before .before) 2 (c .aimed-beside .result) (c .before .match .keys2) (c .aimed-beside .ensures)
+
+returns-3 : tie.Need-returns-3
+unfolding isTarget
+returns-3 c = answers (c .before .before .before .before .before) 3 (c .aimed-around .result) (c .before .match .keys3) (c .aimed-around .ensures)
+
+returns-4 : tie.Need-returns-4
+unfolding isTarget
+returns-4 c = answers (c .before .before .before .before .before) 4 (c .aimed-within2 .result) (c .before .match .keys4) (c .aimed-within2 .ensures)
+
+returns-5 : tie.Need-returns-5
+returns-5 c =
+    let s : tie.Start = c .before .before .before .before in
+    answers s (act s) 0 refl
+    (λ t. in-none t ∙ sym (no-target (k s) (act s) (at s (s .args .a)) (at s (at s (s .args .a))) t (elem t (aim s)) (c .match .rest .0 .0 .0 .1) (c .match .rest .0 .0 .1) (c .match .rest .0 .1) (c .match .rest .1)))
+
+pub targets-spec : {M : Type 1} → statement M
+targets-spec =
+    tie.close
+    (tie.spec
+    element-copy-out-act
+    mul-aim
+    element-copy-out-aim
+    mul-p
+    element-copy-out-p
+    aimed-within-requires
+    aimed-beside-requires
+    aimed-around-requires
+    aimed-within-requires-2
+    returns
+    returns-2
+    returns-3
+    returns-4
+    returns-5)
