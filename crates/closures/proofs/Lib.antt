@@ -26,3 +26,4 @@ pub mod Arrays
 pub mod Placing
 pub mod Making
 pub mod Finishing
+pub mod Dispatch
