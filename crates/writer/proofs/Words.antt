@@ -1,0 +1,102 @@
+-- A pass over the words of messages writes each message whole. Assumes nothing.
+use Prim.Native.Nat.{ℕ, zero, suc, _+_, _-_, _≤_, _<_}
+use mathlib.Core.Bool.{Bool, true, false, cond}
+use mathlib.Core.List.{List, [], _∷_, _++_, append-assoc, append-nil}
+use mathlib.Core.Path.{_≡_, refl, sym, ap, _∙_}
+use native.Mathlib.Omega.{arith}
+use native.Mathlib.Nat.{add-zero}
+use lib.ListN.{length, drop, getD, length-append}
+use lib.Seq.{drop-drop}
+use Rattle.messages.specs.Words.{word}
+use Rattle.messages.specs.Message.{Message, name, variable, enter, exit, opens, empty, path, items}
+use Rattle.messages.specs.Spelling.{top, push, spelled, messageAt}
+use Rattle.messages.specs.declared.MessageWord.{MessageWord}
+use Rattle.messages.specs.declared.MessageWord.the-variants.{Name, Variable, Enter, Exit, Open, Empty, Path, Unfit}
+use Rattle.bindings.specs.Resolve.{resolve, bindingsIn}
+use Rattle.bindings.specs.Measures.{size, itemsSize}
+use Rattle.bindings.specs.Passes.{firstWord, firsts, shapeOf, arityOf, boundAt}
+use Rattle.bindings.proofs.Resolving.{resolve-name, resolve-enter, resolve-exit, resolve-opens, resolve-empty, resolve-path, given}
+use Rattle.bindings.proofs.Passing.{firsts-first, message-first, Free, Bound, bound, bound-variable, given-place}
+use Rattle.writer.specs.Write.{Indices, newIndex, writeMessage, whole}
+use Rattle.writer.specs.Passes.{allWritten, plainWord}
+
+-- how many words a message is written with, and an action's items
+
+pub message-length : (ix : Indices) (m : Message) → length (writeMessage ix m) ≡ size m
+unfolding writeMessage size
+message-length ix (name n) = refl
+message-length ix (variable v) = refl
+message-length ix (enter m) = ap suc (message-length ix m)
+message-length ix (exit m) = ap suc (message-length ix m)
+message-length ix (opens m) = ap suc (message-length ix m)
+message-length ix empty = refl
+message-length ix (path m k) = omega (arith, length-append (writeMessage ix m) (writeMessage ix k), message-length ix m, message-length ix k)
+
+whole-size : (is : List Message) → size (whole is) ≡ itemsSize is
+unfolding whole size itemsSize
+whole-size [] = refl
+whole-size (m ∷ []) = refl
+whole-size (m ∷ (k ∷ ks)) = omega (arith, whole-size (k ∷ ks))
+
+pub items-length : (ix : Indices) (is : List Message) → length (writeMessage ix (whole is)) ≡ itemsSize is
+items-length ix is = message-length ix (whole is) ∙ whole-size is
+
+some-size : (m : Message) → 0 < size m
+unfolding size
+some-size (name n) = omega arith
+some-size (variable v) = omega arith
+some-size (enter m) = omega arith
+some-size (exit m) = omega arith
+some-size (opens m) = omega arith
+some-size empty = omega arith
+some-size (path m k) = omega arith
+
+pub some-words : (ix : Indices) (m : Message) → 0 < length (writeMessage ix m)
+some-words ix m = omega (arith, message-length ix m, some-size m)
+
+-- the messages' words, by the first word
+
+pub none-written : (ix : Indices) (σ : List (ℕ × Message)) (p : ℕ) (s : List Message) → p ≡ 0 → allWritten ix σ (firsts p s) ≡ []
+unfolding allWritten firsts
+none-written ix σ p s e = rw e
+
+pub one-written : (ix : Indices) (σ : List (ℕ × Message)) (l : List ℕ) → allWritten ix σ (firsts 1 (spelled l)) ≡ writeMessage ix (resolve σ (messageAt l))
+unfolding allWritten firsts messageAt
+one-written ix σ l = append-nil (writeMessage ix (resolve σ (top (spelled l))))
+
+-- a word that is no variable with a binding stands for itself, and what stands in it comes behind
+written-word : (ix : Indices) (σ : List (ℕ × Message)) (m : MessageWord) (p : ℕ) (s : List Message) → Free σ m
+    → allWritten ix σ (firsts (suc p) (push m s)) ≡ (plainWord ix m ∷ []) ++ allWritten ix σ (firsts (p + arityOf m) s)
+unfolding allWritten firsts push top plainWord shapeOf writeMessage
+written-word ix σ (Name n) p s f = rw (resolve-name, add-zero p)
+written-word ix σ (Variable v) p s f = rw (f v refl, add-zero p)
+written-word ix σ Enter p s f = let e : p + 1 ≡ suc p = omega arith in rw (resolve-enter, e)
+written-word ix σ Exit p s f = let e : p + 1 ≡ suc p = omega arith in rw (resolve-exit, e)
+written-word ix σ Open p s f = let e : p + 1 ≡ suc p = omega arith in rw (resolve-opens, e)
+written-word ix σ Empty p s f = rw (resolve-empty, add-zero p)
+written-word ix σ Path p s f =
+    let e : p + 2 ≡ suc (suc p) = omega arith in
+    rw (resolve-path, e, drop-drop 1 1 s) (ap (λ (r : List ℕ). word 14 0 ∷ r) (append-assoc (writeMessage ix (resolve σ (top s))) (writeMessage ix (resolve σ (top (drop 1 s)))) (allWritten ix σ (firsts p (drop 2 s)))))
+written-word ix σ Unfit p s f = rw (resolve-empty, add-zero p)
+
+pub written-first : (ix : Indices) (σ : List (ℕ × Message)) (l : List ℕ) (p : ℕ) → 0 < p → Free σ (firstWord l)
+    → (plainWord ix (firstWord l) ∷ []) ++ allWritten ix σ (firsts (p - 1 + arityOf (firstWord l)) (spelled (drop 1 l))) ≡ allWritten ix σ (firsts p (spelled l))
+written-first ix σ l zero h f = absurd (omega arith)
+written-first ix σ l (suc p) h f =
+    let q : suc p - 1 ≡ p = omega arith in
+    rw (q, firsts-first (suc p) l) (sym (written-word ix σ (firstWord l) p (spelled (drop 1 l)) f))
+
+-- a variable with a binding stands for the message of that binding, after the older ones
+written-variable : (ix : Indices) (σ : List (ℕ × Message)) (m : MessageWord) (v p : ℕ) (s : List Message) → m ≡ Variable v
+    → allWritten ix σ (firsts (suc p) (push m s)) ≡ writeMessage ix (resolve σ (variable v)) ++ allWritten ix σ (firsts p s)
+unfolding allWritten firsts push top
+written-variable ix σ m v p s e = rw e
+
+pub written-bound : (ix : Indices) (script vs ps l : List ℕ) (p k : ℕ) → 0 < p → length ps ≡ length vs → k ≡ boundAt (firstWord l) vs → k < length vs
+    → allWritten ix (bindingsIn script (drop (k + 1) vs) (drop (k + 1) ps)) (firsts 1 (spelled (drop (getD ps k 0) script))) ++ allWritten ix (bindingsIn script vs ps) (firsts (p - 1) (spelled (drop 1 l)))
+    ≡ allWritten ix (bindingsIn script vs ps) (firsts p (spelled l))
+written-bound ix script vs ps l zero k z a b h = absurd (omega arith)
+written-bound ix script vs ps l (suc p) k z a b h =
+    let q : suc p - 1 ≡ p = omega arith in
+    elim (bound-variable vs (firstWord l) k b h)
+    [ bound v e g ↦ rw (q, firsts-first (suc p) l, one-written ix (bindingsIn script (drop (k + 1) vs) (drop (k + 1) ps)) (drop (getD ps k 0) script), given-place script vs ps a k h v g) (sym (written-variable ix (bindingsIn script vs ps) (firstWord l) v p (spelled (drop 1 l)) e)) ]
