@@ -68,11 +68,12 @@ exact ix l o c a e h b = omega (arith, strung-length ix l (drop o a), length-dro
 
 -- the items before, and those behind
 pub strung-split : (ix : Indices) (l o c n : ℕ) (x a b : List Message) → x ≡ a ++ b → c ≡ capped (length a) → o < c → n ≡ l - (c - o)
-    → o + length (strung ix l (drop o a)) < 4294967295 → strung ix l (drop o a) ++ strung ix n b ≡ strung ix l (drop o x)
+    → o + length (strung ix l (drop o x)) < 4294967295 → strung ix l (drop o a) ++ strung ix n b ≡ strung ix l (drop o x)
 strung-split ix l o c n x a b e p h q w =
-    let k : c ≡ length a = exact ix l o c a p h w in
+    let s : strung ix l (drop o x) ≡ strung ix l (drop o a) ++ strung ix (l - length (drop o a)) b = ap (strung ix l) (sym (drop-within x a b o c e p h)) ∙ strung-append ix l (drop o a) b in
+    let k : c ≡ length a = exact ix l o c a p h (omega (arith, ap length s, length-append (strung ix l (drop o a)) (strung ix (l - length (drop o a)) b))) in
     let z : n ≡ l - length (drop o a) = omega (arith, length-drop o a) in
-    sym (ap (strung ix l) (sym (drop-within x a b o c e p h)) ∙ strung-append ix l (drop o a) b ∙ rw z)
+    rw z (sym s)
 
 pub items-none : (ix : Indices) (o c : ℕ) (is : List Message) → c ≡ capped (length is) → c ≤ o → o < 4294967295 → word 13 0 ∷ [] ≡ writeMessage ix (whole (drop o is))
 items-none ix o c is e h p =

@@ -47,6 +47,9 @@ over-more A B xs ys zs m e y z =
 pub wrote-as : {A B xs ys : List ℕ} {r : ℕ} → A ≡ B → Wrote A xs ys r → Wrote B xs ys r
 wrote-as {A} {B} {xs} {ys} {r} e w = rw (← e) w
 
+pub wrote-if : {A B xs ys : List ℕ} {r : ℕ} → (length B ≤ length xs → A ≡ B) → Wrote A xs ys r → Wrote B xs ys r
+wrote-if {A} {B} {xs} {ys} {r} f w = record { right = λ h. wrote-as (f h) w .right h }
+
 -- one writer after another; what the second writes may go by the number of words that the first wrote
 pub wrote-more : {A B xs ys zs : List ℕ} {m r : ℕ} → Wrote A xs ys m → (m ≡ length A → Wrote B (lent m ys) zs r) → Wrote (A ++ B) xs (joined m ys zs) (r + m)
 wrote-more {A} {B} {xs} {ys} {zs} {m} {r} f g = record { right = both }

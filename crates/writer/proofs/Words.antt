@@ -5,17 +5,20 @@ use mathlib.Core.List.{List, [], _∷_, _++_, append-assoc, append-nil}
 use mathlib.Core.Path.{_≡_, refl, sym, ap, _∙_}
 use native.Mathlib.Omega.{arith}
 use native.Mathlib.Nat.{add-zero}
+use lib.Dec.{eqb, leb}
 use lib.ListN.{length, drop, getD, length-append}
 use lib.Seq.{drop-drop}
-use Rattle.messages.specs.Words.{word}
+use borrow.Author.Tests.{leb-true}
+use Rattle.messages.specs.Words.{word, kind, operand, nameFits}
 use Rattle.messages.specs.Message.{Message, name, variable, enter, exit, opens, empty, path, items}
+use Rattle.messages.specs.ReadMessage.{messageWord}
 use Rattle.messages.specs.Spelling.{top, push, spelled, messageAt}
 use Rattle.messages.specs.declared.MessageWord.{MessageWord}
 use Rattle.messages.specs.declared.MessageWord.the-variants.{Name, Variable, Enter, Exit, Open, Empty, Path, Unfit}
 use Rattle.bindings.specs.Resolve.{resolve, bindingsIn}
 use Rattle.bindings.specs.Measures.{size, itemsSize}
 use Rattle.bindings.specs.Passes.{firstWord, firsts, shapeOf, arityOf, boundAt}
-use Rattle.bindings.proofs.Resolving.{resolve-name, resolve-enter, resolve-exit, resolve-opens, resolve-empty, resolve-path, given}
+use Rattle.bindings.proofs.Resolving.{by-test, resolve-name, resolve-enter, resolve-exit, resolve-opens, resolve-empty, resolve-path, given}
 use Rattle.bindings.proofs.Passing.{firsts-first, message-first, Free, Bound, bound, bound-variable, given-place}
 use Rattle.writer.specs.Write.{Indices, newIndex, writeMessage, whole}
 use Rattle.writer.specs.Passes.{allWritten, plainWord}
@@ -53,6 +56,45 @@ some-size (path m k) = omega arith
 
 pub some-words : (ix : Indices) (m : Message) → 0 < length (writeMessage ix m)
 some-words ix m = omega (arith, message-length ix m, some-size m)
+
+-- the operand of a NAME is small
+
+operandOf : MessageWord → ℕ
+operandOf (Name n) = n
+operandOf (Variable v) = 0
+operandOf Enter = 0
+operandOf Exit = 0
+operandOf Open = 0
+operandOf Empty = 0
+operandOf Path = 0
+operandOf Unfit = 0
+
+either : (b : Bool) (x y : MessageWord) → operandOf x ≤ 255 → operandOf y ≤ 255 → operandOf (cond b x y) ≤ 255
+either true x y f g = f
+either false x y f g = g
+
+name-small : (o : ℕ) → operandOf (cond (nameFits o) (Name o) Unfit) ≤ 255
+unfolding nameFits operandOf
+name-small o = by-test (leb o 255) (λ t. either (nameFits o) (Name o) Unfit (leb-true o 255 t) (omega arith))
+    (λ t. by-test (leb 1 o) (λ u. rw (u, t) (omega arith)) (λ u. rw u (omega arith)))
+
+operand-small : (l : List ℕ) → operandOf (firstWord l) ≤ 255
+unfolding firstWord messageWord operandOf
+operand-small [] = omega arith
+operand-small (w ∷ l) =
+    let leaf : (b : Bool) (x : MessageWord) → operandOf x ≡ 0 → operandOf (cond b x Unfit) ≤ 255 = λ b x e. either b x Unfit (omega arith) (omega arith) in
+    let o = operand w in
+    either (eqb (kind w) 8) _ _ (name-small o)
+    (either (eqb (kind w) 9) _ _ (omega arith)
+    (either (eqb (kind w) 10) _ _ (leaf (eqb o 0) Enter refl)
+    (either (eqb (kind w) 11) _ _ (leaf (eqb o 0) Exit refl)
+    (either (eqb (kind w) 12) _ _ (leaf (eqb o 0) Open refl)
+    (either (eqb (kind w) 13) _ _ (leaf (eqb o 0) Empty refl)
+    (either (eqb (kind w) 14) _ _ (leaf (eqb o 0) Path refl) (omega arith)))))))
+
+pub first-name : (l : List ℕ) (n : ℕ) → firstWord l ≡ Name n → n ≤ 255
+unfolding operandOf
+first-name l n e = omega (arith, operand-small l, ap operandOf e)
 
 -- the messages' words, by the first word
 
