@@ -691,7 +691,7 @@ fn write_body<'a, 'b>(
         return write_word(0, out);
     }
     if fuel == 0 {
-        return 0;
+        return write_word(0, out);
     }
     let i = sets::first(left);
     let m = write_part(
