@@ -4,3 +4,4 @@ pub mod Receipts
 pub mod Words
 pub mod Items
 pub mod Parts
+pub mod Answers
