@@ -1,6 +1,6 @@
 -- What a part and a body are written with, by the kind of the part and by the first part of the body. Assumes nothing.
 use Prim.Native.Nat.{ℕ, suc, _+_, _-_, _≤_, _<_}
-use mathlib.Core.Bool.{Bool, true, false, true≢false}
+use mathlib.Core.Bool.{true, false, true≢false}
 use mathlib.Core.List.{List, [], _∷_, _++_, append-nil}
 use mathlib.Core.Path.{_≡_, refl, sym, ap, _∙_, subst}
 use native.Mathlib.Omega.{arith}
@@ -13,18 +13,15 @@ use Rattle.sets.specs.Sets.{headOr, tail}
 use Rattle.scripts.specs.Tree.{ambient, action, receipt, output, close, part, kindNumber, tops, sum, parts, mapHeads, PlainHead, Plain}
 use Rattle.scripts.specs.Represents.{Held}
 use Rattle.bindings.specs.Resolve.{resolve}
-use Rattle.bindings.specs.Measures.{capped, size, itemsSize, cappedItems}
+use Rattle.bindings.specs.Measures.{capped, cappedItems}
 use Rattle.bindings.proofs.Resolving.{message-word}
 use Rattle.bindings.proofs.Counting.{capped-sum}
 use Rattle.closures.specs.Closure.{ClosureHead, Closure, Bindings, itemsLeft, unfoldHead, unfolded}
 use Rattle.closures.specs.Represents.{headOf}
-use Rattle.closures.proofs.Heads.{by-kind, head-ambient, head-action, head-receipt}
+use Rattle.closures.proofs.Heads.{by-kind, head-action, head-receipt}
 use Rattle.closures.proofs.Search.{no-cons}
 use Rattle.writer.specs.Write.{Indices, writeMessage, whole, writeHead, within, writeInside, write}
-use Rattle.writer.specs.Buffer.{Wrote}
-use Rattle.writer.specs.Bodies.{hasBody, writeLabel, writePart, Counts, Writes}
-use Rattle.writer.proofs.Lending.{wrote-as, wrote-more, lent, joined}
-use Rattle.writer.proofs.Words.{message-length, items-length}
+use Rattle.writer.specs.Bodies.{hasBody, writeLabel, writePart, CountsPart, Counts}
 
 -- ---- a part, by its kind
 
@@ -82,6 +79,11 @@ part-body ix i σ (action a) b t = refl
 part-body ix i σ (receipt v) b t = refl
 part-body ix i σ (output m) b t = absurd (true≢false (sym t))
 
+pub counts-inside : (ix : Indices) (i : ℕ) (σ : Bindings) (h : ClosureHead) (b : Plain) (front inside t : ℕ) → hasBody h ≡ true → front ≡ capped (length (writeHead ix (unfoldHead σ h)))
+    → inside ≡ capped (length (write (within (unfoldHead σ h) i ix) (i + length (writeHead ix (unfoldHead σ h))) b)) → t ≡ capped (front + inside) → t ≡ capped (length (writePart ix i (unfoldHead σ h) b))
+counts-inside ix i σ h b front inside t body ef ei et =
+    capped-sum (length (writeHead ix (unfoldHead σ h))) _ (sym (ap length (part-body ix i σ h b body)) ∙ length-append (writeHead ix (unfoldHead σ h)) _) ef ei et
+
 pub part-only : (ix : Indices) (i : ℕ) (σ : Bindings) (h : ClosureHead) (b : Plain) → hasBody h ≡ false → writeHead ix (unfoldHead σ h) ≡ writePart ix i (unfoldHead σ h) b
 unfolding hasBody writePart writeInside unfoldHead
 part-only ix i σ (ambient m) b t = absurd (true≢false t)
@@ -119,10 +121,6 @@ unfolding sum
 no-parts fuel z ix i σ close m = sym (write-close ix i σ)
 no-parts fuel z ix i σ (part k h b r) m = absurd (let y : ⊥ = omega arith in y)
 
-three : (a b c n x y z s t : ℕ) → x ≡ capped a → y ≡ capped b → z ≡ capped c → s ≡ capped (x + y) → t ≡ capped (s + z) → n ≡ a + c + b → t ≡ capped n
-unfolding capped
-three a b c n x y z s t ex ey ez es et en = omega arith
-
 module _ (σ : Bindings) (k : ℕ → List ℕ) (w : ℕ → ClosureHead) (left : List ℕ) (fuel j : ℕ) (l : List ℕ) (first : left ≡ j ∷ l) where
   -- the words of the first part, and of those beside it
   abbrev one : Indices → ℕ → Closure → List ℕ
@@ -147,23 +145,8 @@ module _ (σ : Bindings) (k : ℕ → List ℕ) (w : ℕ → ClosureHead) (left 
       subst Q words (f b r c (h .2) (ap tail (sym first ∙ e)) (h .3) (omega arith))
 
   -- the words of the body, counted
-  pub counts-body : (head rest around inside t : ℕ) → ((ix : Indices) → head ≡ capped (length (writeHead ix (unfoldHead σ (w j))))) → Counts σ k w l (fuel - 1) rest → around ≡ capped (head + rest)
-      → hasBody (w j) ≡ true → Counts σ k w (k j) (fuel - 1) inside → t ≡ capped (around + inside) → Counts σ k w left fuel t
-  counts-body head rest around inside t eh er ea body ei et ix i =
+  pub counts-more : (one′ rest t : ℕ) → CountsPart σ k w (k j) (w j) (fuel - 1) one′ → Counts σ k w l (fuel - 1) rest → t ≡ capped (one′ + rest) → Counts σ k w left fuel t
+  counts-more one′ rest t eo er et ix i =
       by-first (λ ws. t ≡ capped (length ws)) ix i (λ b r tb hb tr hr m.
-      let front = writeHead ix (unfoldHead σ (w j)) in
-      let inner = write (within (unfoldHead σ (w j)) i ix) (i + length front) (unfolded σ b) in
       let behind = write ix (i + length (one ix i b)) (unfolded σ r) in
-      three (length front) (length behind) (length inner) (length (both ix i b r)) head rest inside around t
-      (eh ix) (er ix _ r tr hr (omega arith)) (ei _ _ b tb hb (omega arith)) ea et
-      (length-append (one ix i b) behind ∙ ap (λ (n : ℕ). n + length behind) (sym (ap length (part-body ix i σ (w j) (unfolded σ b) body)) ∙ length-append front inner)))
-
-  pub counts-only : (head rest around : ℕ) → ((ix : Indices) → head ≡ capped (length (writeHead ix (unfoldHead σ (w j))))) → Counts σ k w l (fuel - 1) rest → around ≡ capped (head + rest)
-      → hasBody (w j) ≡ false → Counts σ k w left fuel around
-  counts-only head rest around eh er ea body ix i =
-      by-first (λ ws. around ≡ capped (length ws)) ix i (λ b r tb hb tr hr m.
-      let front = writeHead ix (unfoldHead σ (w j)) in
-      let behind = write ix (i + length (one ix i b)) (unfolded σ r) in
-      capped-sum (length front) (length behind)
-      (length-append (one ix i b) behind ∙ ap (λ (n : ℕ). n + length behind) (sym (ap length (part-only ix i σ (w j) (unfolded σ b) body))))
-      (eh ix) (er ix _ r tr hr (omega arith)) ea)
+      capped-sum (length (one ix i b)) (length behind) (length-append (one ix i b) behind) (eo ix i b tb hb (omega arith)) (er ix _ r tr hr (omega arith)) et)

@@ -10,7 +10,7 @@ use lib.ListN.{length, drop, getD, length-append}
 use lib.Seq.{drop-drop}
 use borrow.Author.Tests.{leb-true}
 use Rattle.messages.specs.Words.{word, kind, operand, nameFits}
-use Rattle.messages.specs.Message.{Message, name, variable, enter, exit, opens, empty, path, items}
+use Rattle.messages.specs.Message.{Message, name, variable, enter, exit, opens, empty, path}
 use Rattle.messages.specs.ReadMessage.{messageWord}
 use Rattle.messages.specs.Spelling.{top, push, spelled, messageAt}
 use Rattle.messages.specs.declared.MessageWord.{MessageWord}
@@ -18,9 +18,9 @@ use Rattle.messages.specs.declared.MessageWord.the-variants.{Name, Variable, En
 use Rattle.bindings.specs.Resolve.{resolve, bindingsIn}
 use Rattle.bindings.specs.Measures.{size, itemsSize}
 use Rattle.bindings.specs.Passes.{firstWord, firsts, shapeOf, arityOf, boundAt}
-use Rattle.bindings.proofs.Resolving.{by-test, resolve-name, resolve-enter, resolve-exit, resolve-opens, resolve-empty, resolve-path, given}
-use Rattle.bindings.proofs.Passing.{firsts-first, message-first, Free, Bound, bound, bound-variable, given-place}
-use Rattle.writer.specs.Write.{Indices, newIndex, writeMessage, whole}
+use Rattle.bindings.proofs.Resolving.{by-test, resolve-name, resolve-enter, resolve-exit, resolve-opens, resolve-empty, resolve-path}
+use Rattle.bindings.proofs.Passing.{firsts-first, Free, bound, bound-variable, given-place}
+use Rattle.writer.specs.Write.{Indices, writeMessage, whole}
 use Rattle.writer.specs.Passes.{allWritten, plainWord}
 
 -- how many words a message is written with, and an action's items

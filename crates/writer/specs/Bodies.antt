@@ -2,10 +2,9 @@
 -- Assumes nothing: these are definitions.
 use Prim.Native.Nat.{ℕ, _+_, _≤_, _<_}
 use mathlib.Core.Bool.{Bool, true, false}
-use mathlib.Core.List.{List, [], _∷_, _++_}
+use mathlib.Core.List.{List, [], _++_}
 use mathlib.Core.Path.{_≡_}
 use lib.ListN.{length, getD}
-use Rattle.messages.specs.Message.{Message}
 use Rattle.scripts.specs.Tree.{Head, ambient, action, receipt, output, tops, parts, PlainHead, Plain}
 use Rattle.scripts.specs.Represents.{Held}
 use Rattle.bindings.specs.Measures.{capped}
@@ -41,7 +40,12 @@ abbrev pub Counts : Bindings → (bodies : ℕ → List ℕ) (heads : ℕ → Cl
 Counts σ bodies heads left fuel r =
     (ix : Indices) (i : ℕ) (b : Closure) → left ≡ tops b → Held bodies heads b → parts b ≤ fuel → r ≡ capped (length (write ix i (unfolded σ b)))
 
--- the words of every such closure are written, the first of which has index i
+-- r is the number of words of the part that has that head, whatever closure stands in it whose top parts are `inside`
+abbrev pub CountsPart : Bindings → (bodies : ℕ → List ℕ) (heads : ℕ → ClosureHead) (inside : List ℕ) (head : ClosureHead) (fuel r : ℕ) → Type 0
+CountsPart σ bodies heads inside h fuel r =
+    (ix : Indices) (i : ℕ) (b : Closure) → inside ≡ tops b → Held bodies heads b → parts b ≤ fuel → r ≡ capped (length (writePart ix i (unfoldHead σ h) (unfolded σ b)))
+
+-- the words are written, the first of which has index i, of every closure whose top parts are `left`, if it has at most `fuel` parts
 abbrev pub Writes : Indices → Bindings → (bodies : ℕ → List ℕ) (heads : ℕ → ClosureHead) (left : List ℕ) (i fuel : ℕ) (before after : List ℕ) (r : ℕ) → Type 0
 Writes ix σ bodies heads left i fuel before after r =
     (b : Closure) → left ≡ tops b → Held bodies heads b → parts b ≤ fuel → Wrote (write ix i (unfolded σ b)) before after r

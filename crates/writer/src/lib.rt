@@ -18,7 +18,7 @@ use messages::MessageWord;
 ghost use mathlib.Core.Path.{_≡_};
 ghost use mathlib.Core.List.{List, [], _∷_};
 ghost use Prim.Native.Nat.{ℕ, _+_, _-_, _≤_, _<_, _^_};
-ghost use lib.ListN.{length, drop, getD};
+ghost use lib.ListN.{length, drop};
 ghost use Rattle.sets.specs.Sets.{members};
 ghost use Rattle.messages.specs.Words.{word};
 ghost use Rattle.messages.specs.Message.{items};
@@ -35,13 +35,13 @@ ghost use Rattle.writer.specs.Write.{Indices, newIndex, writeMessage, wh
 ghost use Rattle.writer.specs.Buffer.{Wrote, answered, buffered};
 ghost use Rattle.writer.specs.Around.{indicesIn, Indexed, indicesOf, Right};
 ghost use Rattle.writer.specs.Passes.{allWritten, plainWord, link, strung};
-ghost use Rattle.writer.specs.Bodies.{hasBody, writeLabel, Scripted, Counts, Writes, WritesPart};
+ghost use Rattle.writer.specs.Bodies.{hasBody, writeLabel, Scripted, CountsPart, Counts, Writes, WritesPart};
 
 // The receipts around what is written, innermost first, from first on: their variables and their new indices.
-pub struct Around {
-    pub variables: [u32; 64],
-    pub indices: [u32; 64],
-    pub first: usize,
+struct Around {
+    variables: [u32; 64],
+    indices: [u32; 64],
+    first: usize,
 }
 
 // What the writer of a tree answers: the number of words written, or that they do not fit.
@@ -388,6 +388,61 @@ fn has_body(kind: u8) -> bool
     }
 }
 
+// The number of words that the part i is written with, at most 2^32 - 1.
+fn count_part<'a>(
+    script: &'a [u32],
+    kids: &'a [u64; 65],
+    kinds: &'a [u8; 64],
+    starts: &'a [u32; 64],
+    offsets: &'a [u32; 64],
+    variables: &'a [u32],
+    places: &'a [u32],
+    counts: &'a [u32],
+    sizes: &'a [u32],
+    bulks: &'a [u32],
+    i: usize,
+    fuel: usize,
+) -> u32
+    requires { ⌜ Cached (now script) (now variables) (now places) (now counts) (now sizes) (now bulks) × Scripted (now starts) (now offsets) × (i < 64) ⌝ }
+    ensures { λ r. ⌜ CountsPart (bindingsIn (now (script .entry)) (now (variables .entry)) (now (places .entry))) (bodyIn (now (kids .entry))) (heads (now (script .entry)) (now (kinds .entry)) (now (starts .entry)) (now (offsets .entry))) (bodyIn (now (kids .entry)) i) (heads (now (script .entry)) (now (kinds .entry)) (now (starts .entry)) (now (offsets .entry)) i) fuel r ⌝ }
+{
+    let kind = kinds[i];
+    let start = starts[i];
+    let offset = offsets[i];
+    let head = count_head(
+        script,
+        kind,
+        start,
+        offset,
+        variables,
+        places,
+        counts,
+        sizes,
+        bulks,
+    );
+    if has_body(kind) {
+        let inside = kids[i];
+        return sum(
+            head,
+            count_body(
+                script,
+                kids,
+                kinds,
+                starts,
+                offsets,
+                variables,
+                places,
+                counts,
+                sizes,
+                bulks,
+                inside,
+                fuel,
+            ),
+        );
+    }
+    head
+}
+
 // The number of words that the body is written with whose parts are left, at most 2^32 - 1.
 fn count_body<'a>(
     script: &'a [u32],
@@ -413,22 +468,7 @@ fn count_body<'a>(
         return 1;
     }
     let i = sets::first(left);
-    let kind = kinds[i];
-    let start = starts[i];
-    let offset = offsets[i];
-    let head = count_head(
-        script,
-        kind,
-        start,
-        offset,
-        variables,
-        places,
-        counts,
-        sizes,
-        bulks,
-    );
-    let others = sets::rest(left);
-    let rest = count_body(
+    let part = count_part(
         script,
         kids,
         kinds,
@@ -439,13 +479,13 @@ fn count_body<'a>(
         counts,
         sizes,
         bulks,
-        others,
+        i,
         fuel - 1,
     );
-    let around = sum(head, rest);
-    if has_body(kind) {
-        let inside = kids[i];
-        let within = count_body(
+    let others = sets::rest(left);
+    sum(
+        part,
+        count_body(
             script,
             kids,
             kinds,
@@ -456,12 +496,10 @@ fn count_body<'a>(
             counts,
             sizes,
             bulks,
-            inside,
+            others,
             fuel - 1,
-        );
-        return sum(around, within);
-    }
-    around
+        ),
+    )
 }
 
 // The number of words that the tree is written with, at most 2^32 - 1.

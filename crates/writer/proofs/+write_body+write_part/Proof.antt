@@ -5,7 +5,7 @@ use mathlib.Core.List.{List, _∷_}
 use mathlib.Core.Path.{_≡_, sym, ap, _∙_}
 use native.Mathlib.Omega.{arith}
 use borrow.Author.Needs.{needs}
-use lib.ListN.{length, getD}
+use lib.ListN.{getD}
 use Rattle.messages.specs.Words.{word}
 use Rattle.sets.specs.Sets.{members, tail}
 use Rattle.sets.proofs.Members.{first-is, first-below, not-none, members-empty}
@@ -13,7 +13,7 @@ use Rattle.scripts.specs.Represents.{bodyIn}
 use Rattle.bindings.specs.Resolve.{bindingsIn}
 use Rattle.closures.specs.Closure.{ClosureHead, Bindings, unfoldHead, unfolded}
 use Rattle.closures.specs.Represents.{heads}
-use Rattle.writer.specs.Write.{Indices, writeHead, within, write}
+use Rattle.writer.specs.Write.{Indices, within, write}
 use Rattle.writer.specs.Buffer.{Wrote}
 use Rattle.writer.specs.Around.{indicesOf}
 use Rattle.writer.proofs.Lending.{joined, lent-length, joined-length, wrote-as, wrote-more, wrote-full}

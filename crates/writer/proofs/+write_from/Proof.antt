@@ -1,10 +1,10 @@
 -- `write_from` meets its contract: a variable with a binding is the message of that binding, any other word stands for itself.
 -- The measure falls with the bindings, and then with the words and messages that are left. Assumes nothing.
-use Prim.Native.Nat.{ℕ, _+_, _-_, _*_, _<_, _≤_}
-use mathlib.Core.Path.{_≡_, sym, ap, _∙_}
+use Prim.Native.Nat.{ℕ, _+_, _-_, _*_, _<_}
+use mathlib.Core.Path.{sym, ap, _∙_}
 use native.Mathlib.Omega.{arith}
 use borrow.Author.Needs.{needs}
-use lib.ListN.{length, drop, getD, length-drop}
+use lib.ListN.{length, getD, length-drop}
 use Rattle.messages.specs.Spelling.{spelled}
 use Rattle.bindings.specs.Resolve.{bindingsIn}
 use Rattle.bindings.specs.Passes.{firstWord}

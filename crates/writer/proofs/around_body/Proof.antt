@@ -1,5 +1,5 @@
 -- `around_body` meets its contract: a receipt is put in front, with the index of its word. Assumes nothing.
-use mathlib.Core.Path.{_≡_, _∙_}
+use mathlib.Core.Path.{_≡_}
 use native.Mathlib.Omega.{arith}
 use lib.ListN.{length}
 use Rattle.bindings.proofs.Counting.{drop-set}

@@ -1,6 +1,6 @@
 -- `variable_word` meets its contract: the index that is kept with the receipt. Assumes nothing.
 use Prim.Native.Nat.{ℕ, _+_}
-use mathlib.Core.Path.{_≡_, ap}
+use mathlib.Core.Path.{ap}
 use native.Mathlib.Omega.{arith}
 use Rattle.writer.proofs.Receipts.{index-found, index-none}
 use borrow.Author.Needs.{needs}

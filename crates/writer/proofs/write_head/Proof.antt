@@ -1,5 +1,5 @@
 -- `write_head` meets its contract: the part's word, and its message behind it. Assumes nothing.
-use mathlib.Core.Path.{sym, ap, _∙_}
+use mathlib.Core.Path.{_∙_}
 use native.Mathlib.Omega.{arith}
 use Rattle.bindings.specs.Resolve.{bindingsIn}
 use Rattle.closures.specs.Represents.{headOf}

@@ -1,10 +1,10 @@
 -- `write_items` meets its contract: no items are one EMPTY, several are strung. Assumes nothing.
 use Prim.Native.Nat.{_-_}
-use mathlib.Core.Path.{sym, ap, _∙_}
+use mathlib.Core.Path.{ap}
 use native.Mathlib.Omega.{arith}
 use lib.ListN.{length, drop, length-drop}
 use Rattle.messages.specs.Words.{word}
-use Rattle.messages.specs.Message.{Message, items}
+use Rattle.messages.specs.Message.{items}
 use Rattle.messages.specs.Spelling.{messageAt}
 use Rattle.bindings.specs.Resolve.{resolve, bindingsIn}
 use Rattle.bindings.proofs.Passing.{one-message}

@@ -1,5 +1,4 @@
 -- `write_label` meets its contract, kind by kind. Assumes nothing.
-use mathlib.Core.Path.{sym, ap, _∙_}
 use native.Mathlib.Omega.{arith}
 use Rattle.bindings.specs.Resolve.{bindingsIn}
 use Rattle.writer.specs.Around.{indicesIn}

@@ -1,8 +1,7 @@
 -- `write_tree` meets its contract: the words are counted first, and written only where they fit. Assumes nothing.
 use mathlib.Core.List.{[]}
-use mathlib.Core.Path.{sym, ap, _∙_}
+use mathlib.Core.Path.{sym}
 use native.Mathlib.Omega.{arith}
-use lib.ListN.{length, take}
 use lib.Seq.{length-take-le}
 use Rattle.bindings.specs.Resolve.{bindingsIn}
 use Rattle.closures.specs.Closure.{unfolded}
