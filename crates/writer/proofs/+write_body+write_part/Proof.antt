@@ -105,26 +105,6 @@ module _ (t : ℕ) where
   low : (c : First) → c .first .result < 64
   low c = first-below (start c .args .left) (c .first .result) (tail (left (start c))) (split c)
 
-  write-body-mul-write-body : write-body-lts.Need-mul-write-body (write-body-claims t) (write-body-at t) write-body.Post
-  write-body-mul-write-body c =
-      omega (arith, (c .before .before .before .write-part .ensures .0), (c .before .before .before .write-part .kept .1 .1 .1 .1 .1 .1 .1 .1 .1 .1 .1 .1 .0), c .before .before .before .before .before .before .before .before .before .before .before .before .before .before .good .1 .1 .1 .1 .1 .1 .1 .1 .1 .1 .1 .1 .0)
-
-  write-body-sub-write-body-2 : write-body-lts.Need-sub-write-body-2 (write-body-claims t) (write-body-at t) write-body.Post
-  write-body-sub-write-body-2 c =
-      omega (arith, (c .before .before .before .write-part .ensures .0), (c .before .before .before .write-part .kept .1 .1 .1 .1 .1 .1 .1 .1 .1 .1 .1 .1 .0))
-
-  write-body-part-write-body-start : write-body-lts.Need-part-write-body-start (write-body-claims t) (write-body-at t) write-body.Post
-  write-body-part-write-body-start c =
-      omega (arith, (c .before .before .before .write-part .ensures .0), (c .before .before .before .write-part .kept .1 .1 .1 .1 .1 .1 .1 .1 .1 .1 .1 .1 .0))
-
-  write-body-part-write-body-end : write-body-lts.Need-part-write-body-end (write-body-claims t) (write-body-at t) write-body.Post
-  write-body-part-write-body-end c =
-      omega arith
-
-  write-body-add-result : write-body-lts.Need-add-result (write-body-claims t) (write-body-at t) write-body.Post
-  write-body-add-result c =
-      omega (arith, (c .before .before .before .before .before .before .before .write-part .ensures .0), (c .before .before .before .before .before .before .before .write-part .kept .1 .1 .1 .1 .1 .1 .1 .1 .1 .1 .1 .1 .0), lent-length (c .before .before .before .before .before .before .before .write-part .result) (c .before .before .before .before .before .before .before .write-part .last .1 .1 .1 .1 .1 .1 .1 .1 .1 .1 .1 .1 .0), c .before .before .write-body .ensures .0, c .before .before .before .before .before .before .before .before .before .before .before .before .before .before .before .before .before .before .good .1 .1 .1 .1 .1 .1 .1 .1 .1 .1 .1 .1 .0)
-
   write-body-returns : write-body-lts.Need-returns (write-body-claims t) (write-body-at t) write-body.Post
   write-body-returns c =
       let s = c .before .before .before .before .before .before in
@@ -159,49 +139,49 @@ module _ (t : ℕ) where
   write-body-add-write-body : write-body-lts.Need-add-write-body (write-body-claims t) (write-body-at t) write-body.Post
   write-body-add-write-body c =
       let s = c .before .before .before .before .before .before .before .before .before .before .before .before .before .before in
-      omega (arith, s .pre .1 .4, (c .before .before .before .write-part .ensures .0))
+      omega (arith, s .pre .1 .4, c .before .before .before .write-part .ensures .0)
 
   write-body-sub-write-body : write-body-lts.Need-sub-write-body (write-body-claims t) (write-body-at t) write-body.Post
   write-body-sub-write-body c =
       omega (arith, c .before .before .before .before .before .before .if3 .left)
 
+  write-body-mul-write-body : write-body-lts.Need-mul-write-body (write-body-claims t) (write-body-at t) write-body.Post
+  write-body-mul-write-body c =
+      omega (arith, c .before .before .before .write-part .ensures .0, c .before .before .before .write-part .kept .1 .1 .1 .1 .1 .1 .1 .1 .1 .1 .1 .1 .0, c .before .before .before .before .before .before .before .before .before .before .before .before .before .before .good .1 .1 .1 .1 .1 .1 .1 .1 .1 .1 .1 .1 .0)
+
+  write-body-sub-write-body-2 : write-body-lts.Need-sub-write-body-2 (write-body-claims t) (write-body-at t) write-body.Post
+  write-body-sub-write-body-2 c =
+      omega (arith, c .before .before .before .write-part .ensures .0, c .before .before .before .write-part .kept .1 .1 .1 .1 .1 .1 .1 .1 .1 .1 .1 .1 .0)
+
+  write-body-part-write-body-start : write-body-lts.Need-part-write-body-start (write-body-claims t) (write-body-at t) write-body.Post
+  write-body-part-write-body-start c =
+      omega (arith, c .before .before .before .write-part .ensures .0, c .before .before .before .write-part .kept .1 .1 .1 .1 .1 .1 .1 .1 .1 .1 .1 .1 .0)
+
+  write-body-part-write-body-end : write-body-lts.Need-part-write-body-end (write-body-claims t) (write-body-at t) write-body.Post
+  write-body-part-write-body-end c =
+      omega arith
+
   write-body-write-body-requires : write-body-lts.Need-write-body-requires (write-body-claims t) (write-body-at t) write-body.Post
   write-body-write-body-requires c κs =
       let s = c .before .before .before .before .before .before .before .before .before .before .before .before .before .before .before in
-      (omega (arith, s .pre .0, c .before .before .before .before .before .before .before .if3 .left), (s .pre .1 .0, s .pre .1 .1, s .pre .1 .2, omega (arith, s .pre .1 .3), omega (arith, s .pre .1 .4, lent-length (c .before .before .before .before .write-part .result) (c .before .before .before .before .write-part .last .1 .1 .1 .1 .1 .1 .1 .1 .1 .1 .1 .1 .0), (c .before .before .before .before .write-part .ensures .0), (c .before .before .before .before .write-part .kept .1 .1 .1 .1 .1 .1 .1 .1 .1 .1 .1 .1 .0))))
+      (omega (arith, s .pre .0, c .before .before .before .before .before .before .before .if3 .left), (s .pre .1 .0, s .pre .1 .1, s .pre .1 .2, omega (arith, s .pre .1 .3), omega (arith, s .pre .1 .4, lent-length (c .before .before .before .before .write-part .result) (c .before .before .before .before .write-part .last .1 .1 .1 .1 .1 .1 .1 .1 .1 .1 .1 .1 .0), c .before .before .before .before .write-part .ensures .0, c .before .before .before .before .write-part .kept .1 .1 .1 .1 .1 .1 .1 .1 .1 .1 .1 .1 .0)))
+
+  write-body-add-result : write-body-lts.Need-add-result (write-body-claims t) (write-body-at t) write-body.Post
+  write-body-add-result c =
+      omega (arith, c .before .before .before .before .before .before .before .write-part .ensures .0, c .before .before .before .before .before .before .before .write-part .kept .1 .1 .1 .1 .1 .1 .1 .1 .1 .1 .1 .1 .0, lent-length (c .before .before .before .before .before .before .before .write-part .result) (c .before .before .before .before .before .before .before .write-part .last .1 .1 .1 .1 .1 .1 .1 .1 .1 .1 .1 .1 .0), c .before .before .write-body .ensures .0, c .before .before .before .before .before .before .before .before .before .before .before .before .before .before .before .before .before .before .good .1 .1 .1 .1 .1 .1 .1 .1 .1 .1 .1 .1 .0)
 
   write-body-same-length-3 : write-body-lts.Need-same-length-3 (write-body-claims t) (write-body-at t) write-body.Post
   write-body-same-length-3 c =
-      joined-length (c .before .before .before .before .before .before .before .write-part .result) (c .before .before .before .before .before .before .before .write-part .last .1 .1 .1 .1 .1 .1 .1 .1 .1 .1 .1 .1 .0) (c .before .before .write-body .last .1 .1 .1 .1 .1 .1 .1 .1 .1 .1 .1 .1 .0) (omega (arith, (c .before .before .before .before .before .before .before .write-part .ensures .0), (c .before .before .before .before .before .before .before .write-part .kept .1 .1 .1 .1 .1 .1 .1 .1 .1 .1 .1 .1 .0))) (c .before .before .write-body .kept .1 .1 .1 .1 .1 .1 .1 .1 .1 .1 .1 .1 .0) ∙ (c .before .before .before .before .before .before .before .write-part .kept .1 .1 .1 .1 .1 .1 .1 .1 .1 .1 .1 .1 .0)
+      joined-length (c .before .before .before .before .before .before .before .write-part .result) (c .before .before .before .before .before .before .before .write-part .last .1 .1 .1 .1 .1 .1 .1 .1 .1 .1 .1 .1 .0) (c .before .before .write-body .last .1 .1 .1 .1 .1 .1 .1 .1 .1 .1 .1 .1 .0) (omega (arith, c .before .before .before .before .before .before .before .write-part .ensures .0, c .before .before .before .before .before .before .before .write-part .kept .1 .1 .1 .1 .1 .1 .1 .1 .1 .1 .1 .1 .0)) (c .before .before .write-body .kept .1 .1 .1 .1 .1 .1 .1 .1 .1 .1 .1 .1 .0) ∙ c .before .before .before .before .before .before .before .write-part .kept .1 .1 .1 .1 .1 .1 .1 .1 .1 .1 .1 .1 .0
 
   write-body-returns-4 : write-body-lts.Need-returns-4 (write-body-claims t) (write-body-at t) write-body.Post
   write-body-returns-4 c =
       let s = c .before .before .before .before .before .before .before .before .before .before .before .before .before .before .before .before .before .before in (
-        omega (arith, (c .before .before .before .before .before .before .before .write-part .ensures .0), (c .before .before .before .before .before .before .before .write-part .kept .1 .1 .1 .1 .1 .1 .1 .1 .1 .1 .1 .1 .0), lent-length (c .before .before .before .before .before .before .before .write-part .result) (c .before .before .before .before .before .before .before .write-part .last .1 .1 .1 .1 .1 .1 .1 .1 .1 .1 .1 .1 .0), c .before .before .write-body .ensures .0),
+        omega (arith, c .before .before .before .before .before .before .before .write-part .ensures .0, c .before .before .before .before .before .before .before .write-part .kept .1 .1 .1 .1 .1 .1 .1 .1 .1 .1 .1 .1 .0, lent-length (c .before .before .before .before .before .before .before .write-part .result) (c .before .before .before .before .before .before .before .write-part .last .1 .1 .1 .1 .1 .1 .1 .1 .1 .1 .1 .1 .0), c .before .before .write-body .ensures .0),
         by-first (body-σ s) (k s) (body-w s) (left s) (s .args .fuel) (c .before .before .before .before .before .before .before .before .before .first .result) (tail (left s)) (split (c .before .before .before .before .before .before .before .before .before)) (λ ws. Wrote ws (s .args .out .now) (joined (c .before .before .before .before .before .before .before .write-part .result) (c .before .before .before .before .before .before .before .write-part .last .1 .1 .1 .1 .1 .1 .1 .1 .1 .1 .1 .1 .0) (c .before .before .write-body .last .1 .1 .1 .1 .1 .1 .1 .1 .1 .1 .1 .1 .0)) (c .before .before .write-body .result + (c .before .before .before .before .before .before .before .write-part .result))) (body-ix s) (s .args .index)
             (λ b r tb hb tr hr f. wrote-more (c .before .before .before .before .before .before .before .write-part .ensures .1 b tb hb (omega (arith, f)))
             (λ z. wrote-as (ap (λ (n : ℕ). write (body-ix s) (s .args .index + n) (unfolded (body-σ s) r)) z) (c .before .before .write-body .ensures .1 r (c .before .before .before .before .rest .ensures ∙ tr) hr (omega (arith, f))))),
       )
-
-  write-part-mul-write-body : write-part-lts.Need-mul-write-body (write-part-claims t) (write-part-at t) write-part.Post
-  write-part-mul-write-body c =
-      omega (arith, (c .before .before .before .before .before .before .write-head .ensures .0), (c .before .before .before .before .before .before .write-head .kept .1 .1 .1 .1 .1 .1 .1 .1 .0), c .before .before .before .before .before .before .before .before .before .before .before .before .before .before .before .before .good .1 .1 .1 .1 .1 .1 .1 .1 .1 .1 .1 .1 .0)
-
-  write-part-sub-write-body : write-part-lts.Need-sub-write-body (write-part-claims t) (write-part-at t) write-part.Post
-  write-part-sub-write-body c =
-      omega (arith, (c .before .before .before .before .before .before .write-head .ensures .0), (c .before .before .before .before .before .before .write-head .kept .1 .1 .1 .1 .1 .1 .1 .1 .0))
-
-  write-part-part-write-body-start : write-part-lts.Need-part-write-body-start (write-part-claims t) (write-part-at t) write-part.Post
-  write-part-part-write-body-start c =
-      omega (arith, (c .before .before .before .before .before .before .write-head .ensures .0), (c .before .before .before .before .before .before .write-head .kept .1 .1 .1 .1 .1 .1 .1 .1 .0))
-
-  write-part-part-write-body-end : write-part-lts.Need-part-write-body-end (write-part-claims t) (write-part-at t) write-part.Post
-  write-part-part-write-body-end c =
-      omega arith
-
-  write-part-add-result : write-part-lts.Need-add-result (write-part-claims t) (write-part-at t) write-part.Post
-  write-part-add-result c =
-      omega (arith, (c .before .before .before .before .before .before .before .before .before .before .write-head .ensures .0), (c .before .before .before .before .before .before .before .before .before .before .write-head .kept .1 .1 .1 .1 .1 .1 .1 .1 .0), lent-length (c .before .before .before .before .before .before .before .before .before .before .write-head .result) (c .before .before .before .before .before .before .before .before .before .before .write-head .last .1 .1 .1 .1 .1 .1 .1 .1 .0), c .before .before .write-body .ensures .0, c .before .before .before .before .before .before .before .before .before .before .before .before .before .before .before .before .before .before .before .before .good .1 .1 .1 .1 .1 .1 .1 .1 .1 .1 .1 .1 .0)
 
   write-part-element-copy-out-kind : write-part-lts.Need-element-copy-out-kind (write-part-claims t) (write-part-at t) write-part.Post
   write-part-element-copy-out-kind c =
@@ -248,21 +228,41 @@ module _ (t : ℕ) where
   write-part-add-write-body : write-part-lts.Need-add-write-body (write-part-claims t) (write-part-at t) write-part.Post
   write-part-add-write-body c =
       let s = c .before .before .before .before .before .before .before .before .before .before .before .before .before .before .before .before in
-      omega (arith, s .pre .1 .6, (c .before .before .before .before .before .before .write-head .ensures .0))
+      omega (arith, s .pre .1 .6, c .before .before .before .before .before .before .write-head .ensures .0)
+
+  write-part-mul-write-body : write-part-lts.Need-mul-write-body (write-part-claims t) (write-part-at t) write-part.Post
+  write-part-mul-write-body c =
+      omega (arith, c .before .before .before .before .before .before .write-head .ensures .0, c .before .before .before .before .before .before .write-head .kept .1 .1 .1 .1 .1 .1 .1 .1 .0, c .before .before .before .before .before .before .before .before .before .before .before .before .before .before .before .before .good .1 .1 .1 .1 .1 .1 .1 .1 .1 .1 .1 .1 .0)
+
+  write-part-sub-write-body : write-part-lts.Need-sub-write-body (write-part-claims t) (write-part-at t) write-part.Post
+  write-part-sub-write-body c =
+      omega (arith, c .before .before .before .before .before .before .write-head .ensures .0, c .before .before .before .before .before .before .write-head .kept .1 .1 .1 .1 .1 .1 .1 .1 .0)
+
+  write-part-part-write-body-start : write-part-lts.Need-part-write-body-start (write-part-claims t) (write-part-at t) write-part.Post
+  write-part-part-write-body-start c =
+      omega (arith, c .before .before .before .before .before .before .write-head .ensures .0, c .before .before .before .before .before .before .write-head .kept .1 .1 .1 .1 .1 .1 .1 .1 .0)
+
+  write-part-part-write-body-end : write-part-lts.Need-part-write-body-end (write-part-claims t) (write-part-at t) write-part.Post
+  write-part-part-write-body-end c =
+      omega arith
 
   write-part-write-body-requires : write-part-lts.Need-write-body-requires (write-part-claims t) (write-part-at t) write-part.Post
   write-part-write-body-requires c κs =
       let s = c .before .before .before .before .before .before .before .before .before .before .before .before .before .before .before .before .before in
-      (omega (arith, s .pre .0), (s .pre .1 .0, s .pre .1 .1, c .before .around-body .ensures .0, omega (arith, s .pre .1 .3, c .before .around-body .ensures .1), omega (arith, s .pre .1 .6, lent-length (c .before .before .before .before .before .before .before .write-head .result) (c .before .before .before .before .before .before .before .write-head .last .1 .1 .1 .1 .1 .1 .1 .1 .0), (c .before .before .before .before .before .before .before .write-head .ensures .0), (c .before .before .before .before .before .before .before .write-head .kept .1 .1 .1 .1 .1 .1 .1 .1 .0))))
+      (omega (arith, s .pre .0), (s .pre .1 .0, s .pre .1 .1, c .before .around-body .ensures .0, omega (arith, s .pre .1 .3, c .before .around-body .ensures .1), omega (arith, s .pre .1 .6, lent-length (c .before .before .before .before .before .before .before .write-head .result) (c .before .before .before .before .before .before .before .write-head .last .1 .1 .1 .1 .1 .1 .1 .1 .0), c .before .before .before .before .before .before .before .write-head .ensures .0, c .before .before .before .before .before .before .before .write-head .kept .1 .1 .1 .1 .1 .1 .1 .1 .0)))
+
+  write-part-add-result : write-part-lts.Need-add-result (write-part-claims t) (write-part-at t) write-part.Post
+  write-part-add-result c =
+      omega (arith, c .before .before .before .before .before .before .before .before .before .before .write-head .ensures .0, c .before .before .before .before .before .before .before .before .before .before .write-head .kept .1 .1 .1 .1 .1 .1 .1 .1 .0, lent-length (c .before .before .before .before .before .before .before .before .before .before .write-head .result) (c .before .before .before .before .before .before .before .before .before .before .write-head .last .1 .1 .1 .1 .1 .1 .1 .1 .0), c .before .before .write-body .ensures .0, c .before .before .before .before .before .before .before .before .before .before .before .before .before .before .before .before .before .before .before .before .good .1 .1 .1 .1 .1 .1 .1 .1 .1 .1 .1 .1 .0)
 
   write-part-same-length : write-part-lts.Need-same-length (write-part-claims t) (write-part-at t) write-part.Post
   write-part-same-length c =
-      joined-length (c .before .before .before .before .before .before .before .before .before .before .write-head .result) (c .before .before .before .before .before .before .before .before .before .before .write-head .last .1 .1 .1 .1 .1 .1 .1 .1 .0) (c .before .before .write-body .last .1 .1 .1 .1 .1 .1 .1 .1 .1 .1 .1 .1 .0) (omega (arith, (c .before .before .before .before .before .before .before .before .before .before .write-head .ensures .0), (c .before .before .before .before .before .before .before .before .before .before .write-head .kept .1 .1 .1 .1 .1 .1 .1 .1 .0))) (c .before .before .write-body .kept .1 .1 .1 .1 .1 .1 .1 .1 .1 .1 .1 .1 .0) ∙ (c .before .before .before .before .before .before .before .before .before .before .write-head .kept .1 .1 .1 .1 .1 .1 .1 .1 .0)
+      joined-length (c .before .before .before .before .before .before .before .before .before .before .write-head .result) (c .before .before .before .before .before .before .before .before .before .before .write-head .last .1 .1 .1 .1 .1 .1 .1 .1 .0) (c .before .before .write-body .last .1 .1 .1 .1 .1 .1 .1 .1 .1 .1 .1 .1 .0) (omega (arith, c .before .before .before .before .before .before .before .before .before .before .write-head .ensures .0, c .before .before .before .before .before .before .before .before .before .before .write-head .kept .1 .1 .1 .1 .1 .1 .1 .1 .0)) (c .before .before .write-body .kept .1 .1 .1 .1 .1 .1 .1 .1 .1 .1 .1 .1 .0) ∙ c .before .before .before .before .before .before .before .before .before .before .write-head .kept .1 .1 .1 .1 .1 .1 .1 .1 .0
 
   write-part-returns : write-part-lts.Need-returns (write-part-claims t) (write-part-at t) write-part.Post
   write-part-returns c =
       let s = c .before .before .before .before .before .before .before .before .before .before .before .before .before .before .before .before .before .before .before .before in (
-        omega (arith, (c .before .before .before .before .before .before .before .before .before .before .write-head .ensures .0), (c .before .before .before .before .before .before .before .before .before .before .write-head .kept .1 .1 .1 .1 .1 .1 .1 .1 .0), lent-length (c .before .before .before .before .before .before .before .before .before .before .write-head .result) (c .before .before .before .before .before .before .before .before .before .before .write-head .last .1 .1 .1 .1 .1 .1 .1 .1 .0), c .before .before .write-body .ensures .0),
+        omega (arith, c .before .before .before .before .before .before .before .before .before .before .write-head .ensures .0, c .before .before .before .before .before .before .before .before .before .before .write-head .kept .1 .1 .1 .1 .1 .1 .1 .1 .0, lent-length (c .before .before .before .before .before .before .before .before .before .before .write-head .result) (c .before .before .before .before .before .before .before .before .before .before .write-head .last .1 .1 .1 .1 .1 .1 .1 .1 .0), c .before .before .write-body .ensures .0),
         λ b e h p. wrote-as (part-body (part-ix s) (s .args .index) (part-σ s) (part-w s (s .args .i)) (unfolded (part-σ s) b) (sym (c .before .before .before .before .before .before .before .has-body .ensures (s .args .script .now) _ _) ∙ c .before .before .before .before .before .before .if1 .taken))
             (wrote-more (c .before .before .before .before .before .before .before .before .before .before .write-head .ensures .1)
             (λ z. wrote-as (ap (λ (x : Indices). write x (s .args .index + c .before .before .before .before .before .before .before .before .before .before .write-head .result) (unfolded (part-σ s) b)) (c .before .before .before .before .around-body .ensures .2 (s .args .script .now) (part-σ s) (getD (s .args .offsets .now) (s .args .i) 0))

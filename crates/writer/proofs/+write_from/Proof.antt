@@ -73,12 +73,45 @@ module _ (t : ℕ) where
   write-from-sub-write-from c =
       omega (arith, c .before .before .before .before .before .before .before .before .before .before .before .if1 .left)
 
+  write-from-mul-write-from : write-from-lts.Need-mul-write-from (write-from-claims t) (write-from-at t) write-from.Post
+  write-from-mul-write-from c =
+      omega (arith, c .before .before .before .write-from .ensures .0, c .before .before .before .write-from .kept .1 .1 .1 .1 .1 .1 .1 .0, c .before .before .before .before .before .before .before .before .before .before .before .before .before .before .before .before .before .before .before .good .1 .1 .1 .1 .1 .1 .1 .0)
+
+  write-from-sub-write-from-2 : write-from-lts.Need-sub-write-from-2 (write-from-claims t) (write-from-at t) write-from.Post
+  write-from-sub-write-from-2 c =
+      omega (arith, c .before .before .before .write-from .ensures .0, c .before .before .before .write-from .kept .1 .1 .1 .1 .1 .1 .1 .0)
+
+  write-from-part-write-from-start : write-from-lts.Need-part-write-from-start (write-from-claims t) (write-from-at t) write-from.Post
+  write-from-part-write-from-start c =
+      omega (arith, c .before .before .before .write-from .ensures .0, c .before .before .before .write-from .kept .1 .1 .1 .1 .1 .1 .1 .0)
+
+  write-from-part-write-from-end : write-from-lts.Need-part-write-from-end (write-from-claims t) (write-from-at t) write-from.Post
+  write-from-part-write-from-end c =
+      omega arith
+
   write-from-write-from-requires-2 : write-from-lts.Need-write-from-requires-2 (write-from-claims t) (write-from-at t) write-from.Post
   write-from-write-from-requires-2 c κs =
       let s = c .before .before .before .before .before .before .before .before .before .before .before .before .before .before .before .before .before .before .before .before in
       let l = ap length (c .before .tail3 .ensures) in
       let d = length-drop 1 (s .args .words .now) in
       (rank-less _ _ _ _ (s .pre .0) (omega (arith, l, d, c .before .before .before .before .before .before .before .before .before .before .before .before .if1 .left)), (omega (arith, l, d, s .pre .1 .0), s .pre .1 .1, s .pre .1 .2))
+
+  write-from-add-result : write-from-lts.Need-add-result (write-from-claims t) (write-from-at t) write-from.Post
+  write-from-add-result c =
+      omega (arith, c .before .before .before .before .before .before .before .write-from .ensures .0, c .before .before .before .before .before .before .before .write-from .kept .1 .1 .1 .1 .1 .1 .1 .0, lent-length (c .before .before .before .before .before .before .before .write-from .result) (c .before .before .before .before .before .before .before .write-from .last .1 .1 .1 .1 .1 .1 .1 .0), c .before .before .write-from2 .ensures .0, c .before .before .before .before .before .before .before .before .before .before .before .before .before .before .before .before .before .before .before .before .before .before .before .good .1 .1 .1 .1 .1 .1 .1 .0)
+
+  write-from-same-length : write-from-lts.Need-same-length (write-from-claims t) (write-from-at t) write-from.Post
+  write-from-same-length c =
+      joined-length (c .before .before .before .before .before .before .before .write-from .result) (c .before .before .before .before .before .before .before .write-from .last .1 .1 .1 .1 .1 .1 .1 .0) (c .before .before .write-from2 .last .1 .1 .1 .1 .1 .1 .1 .0) (omega (arith, c .before .before .before .before .before .before .before .write-from .ensures .0, c .before .before .before .before .before .before .before .write-from .kept .1 .1 .1 .1 .1 .1 .1 .0)) (c .before .before .write-from2 .kept .1 .1 .1 .1 .1 .1 .1 .0) ∙ c .before .before .before .before .before .before .before .write-from .kept .1 .1 .1 .1 .1 .1 .1 .0
+
+  write-from-returns-2 : write-from-lts.Need-returns-2 (write-from-claims t) (write-from-at t) write-from.Post
+  write-from-returns-2 c =
+      let s = c .before .before .before .before .before .before .before .before .before .before .before .before .before .before .before .before .before .before .before .before .before .before .before in
+      let ix = indicesIn (s .args .receipts .now) (s .args .indices .now) in (
+        omega (arith, c .before .before .before .before .before .before .before .write-from .ensures .0, c .before .before .before .before .before .before .before .write-from .kept .1 .1 .1 .1 .1 .1 .1 .0, lent-length (c .before .before .before .before .before .before .before .write-from .result) (c .before .before .before .before .before .before .before .write-from .last .1 .1 .1 .1 .1 .1 .1 .0), c .before .before .write-from2 .ensures .0),
+        wrote-as (written-bound ix (s .args .script .now) (s .args .variables .now) (s .args .places .now) (s .args .words .now) (s .args .pending) (c .before .before .before .before .before .before .before .before .before .before .before .before .before .bound .result) (omega (arith, c .before .before .before .before .before .before .before .before .before .before .before .before .before .before .before .if1 .left)) (s .pre .1 .1) (rw (c .before .before .before .before .before .before .before .before .before .before .before .before .before .before .first-word .ensures) at (c .before .before .before .before .before .before .before .before .before .before .before .before .before .bound .ensures)) (c .before .before .before .before .before .before .before .before .before .before .before .before .if2 .taken))
+            (wrote-more (rw (c .before .before .before .before .before .before .before .before .before .before .before .given .ensures, c .before .before .before .before .before .before .before .before .before .before .tail .ensures, c .before .before .before .before .before .before .before .before .before .tail2 .ensures) at (c .before .before .before .before .before .before .before .write-from .ensures .1)) (λ e. rw (c .before .before .before .before .tail3 .ensures) at (c .before .before .write-from2 .ensures .1))),
+      )
 
   write-from-plain-word-requires : write-from-lts.Need-plain-word-requires (write-from-claims t) (write-from-at t) write-from.Post
   write-from-plain-word-requires c κs =
@@ -94,6 +127,22 @@ module _ (t : ℕ) where
       let r = room (s .args .words .now) (s .args .pending) (c .before .arity .result) 0 (omega (arith, c .before .before .before .before .before .before .before .before .before .before .if1 .left)) (rw (← c .before .before .before .before .before .before .before .before .before .first-word .ensures, ← c .before .arity .ensures) (omega arith)) in
       omega (arith, r .0, s .pre .1 .0)
 
+  write-from-mul-write-from-2 : write-from-lts.Need-mul-write-from-2 (write-from-claims t) (write-from-at t) write-from.Post
+  write-from-mul-write-from-2 c =
+      omega (arith, c .before .before .before .before .write-word .ensures .0, c .before .before .before .before .write-word .kept .1 .0, c .before .before .before .before .before .before .before .before .before .before .before .before .before .before .before .before .before .before .good .1 .1 .1 .1 .1 .1 .1 .0)
+
+  write-from-sub-write-from-4 : write-from-lts.Need-sub-write-from-4 (write-from-claims t) (write-from-at t) write-from.Post
+  write-from-sub-write-from-4 c =
+      omega (arith, c .before .before .before .before .write-word .ensures .0, c .before .before .before .before .write-word .kept .1 .0)
+
+  write-from-part-write-from-start-2 : write-from-lts.Need-part-write-from-start-2 (write-from-claims t) (write-from-at t) write-from.Post
+  write-from-part-write-from-start-2 c =
+      omega (arith, c .before .before .before .before .write-word .ensures .0, c .before .before .before .before .write-word .kept .1 .0)
+
+  write-from-part-write-from-end-2 : write-from-lts.Need-part-write-from-end-2 (write-from-claims t) (write-from-at t) write-from.Post
+  write-from-part-write-from-end-2 c =
+      omega arith
+
   write-from-write-from-requires-3 : write-from-lts.Need-write-from-requires-3 (write-from-claims t) (write-from-at t) write-from.Post
   write-from-write-from-requires-3 c κs =
       let s = c .before .before .before .before .before .before .before .before .before .before .before .before .before .before .before .before .before .before .before in
@@ -101,14 +150,13 @@ module _ (t : ℕ) where
       let r = room (s .args .words .now) (s .args .pending) (c .before .before .arity .result) 0 (omega (arith, c .before .before .before .before .before .before .before .before .before .before .before .if1 .left)) (rw (← c .before .before .before .before .before .before .before .before .before .before .first-word .ensures, ← c .before .before .arity .ensures) (omega arith)) in
       (rank-less _ _ _ _ (s .pre .0) (omega (arith, l, r .1)), (omega (arith, l, r .0, s .pre .1 .0), s .pre .1 .1, s .pre .1 .2))
 
-  write-from-returns-2 : write-from-lts.Need-returns-2 (write-from-claims t) (write-from-at t) write-from.Post
-  write-from-returns-2 c =
-      let s = c .before .before .before .before .before .before .before .before .before .before .before .before .before .before .before .before .before .before .before .before .before .before .before in
-      let ix = indicesIn (s .args .receipts .now) (s .args .indices .now) in (
-        omega (arith, (c .before .before .before .before .before .before .before .write-from .ensures .0), (c .before .before .before .before .before .before .before .write-from .kept .1 .1 .1 .1 .1 .1 .1 .0), lent-length (c .before .before .before .before .before .before .before .write-from .result) (c .before .before .before .before .before .before .before .write-from .last .1 .1 .1 .1 .1 .1 .1 .0), c .before .before .write-from2 .ensures .0),
-        wrote-as (written-bound ix (s .args .script .now) (s .args .variables .now) (s .args .places .now) (s .args .words .now) (s .args .pending) (c .before .before .before .before .before .before .before .before .before .before .before .before .before .bound .result) (omega (arith, c .before .before .before .before .before .before .before .before .before .before .before .before .before .before .before .if1 .left)) (s .pre .1 .1) (rw (c .before .before .before .before .before .before .before .before .before .before .before .before .before .before .first-word .ensures) at (c .before .before .before .before .before .before .before .before .before .before .before .before .before .bound .ensures)) (c .before .before .before .before .before .before .before .before .before .before .before .before .if2 .taken))
-            (wrote-more (rw (c .before .before .before .before .before .before .before .before .before .before .before .given .ensures, c .before .before .before .before .before .before .before .before .before .before .tail .ensures, c .before .before .before .before .before .before .before .before .before .tail2 .ensures) at (c .before .before .before .before .before .before .before .write-from .ensures .1)) (λ e. rw (c .before .before .before .before .tail3 .ensures) at (c .before .before .write-from2 .ensures .1))),
-      )
+  write-from-add-result-2 : write-from-lts.Need-add-result-2 (write-from-claims t) (write-from-at t) write-from.Post
+  write-from-add-result-2 c =
+      omega (arith, c .before .before .before .before .before .before .before .before .write-word .ensures .0, c .before .before .before .before .before .before .before .before .write-word .kept .1 .0, lent-length (c .before .before .before .before .before .before .before .before .write-word .result) (c .before .before .before .before .before .before .before .before .write-word .last .1 .0), c .before .before .write-from3 .ensures .0, c .before .before .before .before .before .before .before .before .before .before .before .before .before .before .before .before .before .before .before .before .before .before .good .1 .1 .1 .1 .1 .1 .1 .0)
+
+  write-from-same-length-2 : write-from-lts.Need-same-length-2 (write-from-claims t) (write-from-at t) write-from.Post
+  write-from-same-length-2 c =
+      joined-length (c .before .before .before .before .before .before .before .before .write-word .result) (c .before .before .before .before .before .before .before .before .write-word .last .1 .0) (c .before .before .write-from3 .last .1 .1 .1 .1 .1 .1 .1 .0) (omega (arith, c .before .before .before .before .before .before .before .before .write-word .ensures .0, c .before .before .before .before .before .before .before .before .write-word .kept .1 .0)) (c .before .before .write-from3 .kept .1 .1 .1 .1 .1 .1 .1 .0) ∙ c .before .before .before .before .before .before .before .before .write-word .kept .1 .0
 
   write-from-returns-3 : write-from-lts.Need-returns-3 (write-from-claims t) (write-from-at t) write-from.Post
   write-from-returns-3 c =
@@ -116,58 +164,10 @@ module _ (t : ℕ) where
       let ix = indicesIn (s .args .receipts .now) (s .args .indices .now) in
       let σ = bindingsIn (s .args .script .now) (s .args .variables .now) (s .args .places .now) in
       let free = unbound-free (s .args .script .now) (s .args .variables .now) (s .args .places .now) (firstWord (s .args .words .now)) (omega (arith, (rw (c .before .before .before .before .before .before .before .before .before .before .before .before .before .first-word .ensures) at (c .before .before .before .before .before .before .before .before .before .before .before .before .bound .ensures)), c .before .before .before .before .before .before .before .before .before .before .before .if2 .left)) in (
-        omega (arith, (c .before .before .before .before .before .before .before .before .write-word .ensures .0), (c .before .before .before .before .before .before .before .before .write-word .kept .1 .0), lent-length (c .before .before .before .before .before .before .before .before .write-word .result) (c .before .before .before .before .before .before .before .before .write-word .last .1 .0), c .before .before .write-from3 .ensures .0),
+        omega (arith, c .before .before .before .before .before .before .before .before .write-word .ensures .0, c .before .before .before .before .before .before .before .before .write-word .kept .1 .0, lent-length (c .before .before .before .before .before .before .before .before .write-word .result) (c .before .before .before .before .before .before .before .before .write-word .last .1 .0), c .before .before .write-from3 .ensures .0),
         wrote-as (written-first ix σ (s .args .words .now) (s .args .pending) (omega (arith, c .before .before .before .before .before .before .before .before .before .before .before .before .before .before .if1 .left)) free)
             (wrote-more (rw (c .before .before .before .before .before .before .before .before .before .before .plain-word .ensures, c .before .before .before .before .before .before .before .before .before .before .before .before .before .first-word .ensures) at (c .before .before .before .before .before .before .before .before .write-word .ensures .1)) (λ e. rw (c .before .before .before .before .tail4 .ensures, c .before .before .before .before .before .arity .ensures, c .before .before .before .before .before .before .before .before .before .before .before .before .before .first-word .ensures) at (c .before .before .write-from3 .ensures .1))),
       )
-
-  write-from-mul-write-from : write-from-lts.Need-mul-write-from (write-from-claims t) (write-from-at t) write-from.Post
-  write-from-mul-write-from c =
-      omega (arith, (c .before .before .before .write-from .ensures .0), (c .before .before .before .write-from .kept .1 .1 .1 .1 .1 .1 .1 .0), c .before .before .before .before .before .before .before .before .before .before .before .before .before .before .before .before .before .before .before .good .1 .1 .1 .1 .1 .1 .1 .0)
-
-  write-from-sub-write-from-2 : write-from-lts.Need-sub-write-from-2 (write-from-claims t) (write-from-at t) write-from.Post
-  write-from-sub-write-from-2 c =
-      omega (arith, (c .before .before .before .write-from .ensures .0), (c .before .before .before .write-from .kept .1 .1 .1 .1 .1 .1 .1 .0))
-
-  write-from-part-write-from-start : write-from-lts.Need-part-write-from-start (write-from-claims t) (write-from-at t) write-from.Post
-  write-from-part-write-from-start c =
-      omega (arith, (c .before .before .before .write-from .ensures .0), (c .before .before .before .write-from .kept .1 .1 .1 .1 .1 .1 .1 .0))
-
-  write-from-part-write-from-end : write-from-lts.Need-part-write-from-end (write-from-claims t) (write-from-at t) write-from.Post
-  write-from-part-write-from-end c =
-      omega arith
-
-  write-from-add-result : write-from-lts.Need-add-result (write-from-claims t) (write-from-at t) write-from.Post
-  write-from-add-result c =
-      omega (arith, (c .before .before .before .before .before .before .before .write-from .ensures .0), (c .before .before .before .before .before .before .before .write-from .kept .1 .1 .1 .1 .1 .1 .1 .0), lent-length (c .before .before .before .before .before .before .before .write-from .result) (c .before .before .before .before .before .before .before .write-from .last .1 .1 .1 .1 .1 .1 .1 .0), c .before .before .write-from2 .ensures .0, c .before .before .before .before .before .before .before .before .before .before .before .before .before .before .before .before .before .before .before .before .before .before .before .good .1 .1 .1 .1 .1 .1 .1 .0)
-
-  write-from-same-length : write-from-lts.Need-same-length (write-from-claims t) (write-from-at t) write-from.Post
-  write-from-same-length c =
-      joined-length (c .before .before .before .before .before .before .before .write-from .result) (c .before .before .before .before .before .before .before .write-from .last .1 .1 .1 .1 .1 .1 .1 .0) (c .before .before .write-from2 .last .1 .1 .1 .1 .1 .1 .1 .0) (omega (arith, (c .before .before .before .before .before .before .before .write-from .ensures .0), (c .before .before .before .before .before .before .before .write-from .kept .1 .1 .1 .1 .1 .1 .1 .0))) (c .before .before .write-from2 .kept .1 .1 .1 .1 .1 .1 .1 .0) ∙ (c .before .before .before .before .before .before .before .write-from .kept .1 .1 .1 .1 .1 .1 .1 .0)
-
-  write-from-mul-write-from-2 : write-from-lts.Need-mul-write-from-2 (write-from-claims t) (write-from-at t) write-from.Post
-  write-from-mul-write-from-2 c =
-      omega (arith, (c .before .before .before .before .write-word .ensures .0), (c .before .before .before .before .write-word .kept .1 .0), c .before .before .before .before .before .before .before .before .before .before .before .before .before .before .before .before .before .before .good .1 .1 .1 .1 .1 .1 .1 .0)
-
-  write-from-sub-write-from-4 : write-from-lts.Need-sub-write-from-4 (write-from-claims t) (write-from-at t) write-from.Post
-  write-from-sub-write-from-4 c =
-      omega (arith, (c .before .before .before .before .write-word .ensures .0), (c .before .before .before .before .write-word .kept .1 .0))
-
-  write-from-part-write-from-start-2 : write-from-lts.Need-part-write-from-start-2 (write-from-claims t) (write-from-at t) write-from.Post
-  write-from-part-write-from-start-2 c =
-      omega (arith, (c .before .before .before .before .write-word .ensures .0), (c .before .before .before .before .write-word .kept .1 .0))
-
-  write-from-part-write-from-end-2 : write-from-lts.Need-part-write-from-end-2 (write-from-claims t) (write-from-at t) write-from.Post
-  write-from-part-write-from-end-2 c =
-      omega arith
-
-  write-from-add-result-2 : write-from-lts.Need-add-result-2 (write-from-claims t) (write-from-at t) write-from.Post
-  write-from-add-result-2 c =
-      omega (arith, (c .before .before .before .before .before .before .before .before .write-word .ensures .0), (c .before .before .before .before .before .before .before .before .write-word .kept .1 .0), lent-length (c .before .before .before .before .before .before .before .before .write-word .result) (c .before .before .before .before .before .before .before .before .write-word .last .1 .0), c .before .before .write-from3 .ensures .0, c .before .before .before .before .before .before .before .before .before .before .before .before .before .before .before .before .before .before .before .before .before .before .good .1 .1 .1 .1 .1 .1 .1 .0)
-
-  write-from-same-length-2 : write-from-lts.Need-same-length-2 (write-from-claims t) (write-from-at t) write-from.Post
-  write-from-same-length-2 c =
-      joined-length (c .before .before .before .before .before .before .before .before .write-word .result) (c .before .before .before .before .before .before .before .before .write-word .last .1 .0) (c .before .before .write-from3 .last .1 .1 .1 .1 .1 .1 .1 .0) (omega (arith, (c .before .before .before .before .before .before .before .before .write-word .ensures .0), (c .before .before .before .before .before .before .before .before .write-word .kept .1 .0))) (c .before .before .write-from3 .kept .1 .1 .1 .1 .1 .1 .1 .0) ∙ (c .before .before .before .before .before .before .before .before .write-word .kept .1 .0)
 
 pub +write-from-spec : {M : Type 1} → statement M
 +write-from-spec = close μ-write-from λ t. write-from-lts.spec (write-from-claims t)

@@ -62,26 +62,6 @@ abbrev write-rest-claims : ℕ → write-rest-lts.Claims
 write-rest-claims t = (own-reads.Asked, own-reads.Learnt, after-own-reads.Asked, after-own-reads.Learnt, tail-reads.Asked, tail-reads.Learnt, write-rest-below t, write-rest.Post, write-own-below t, write-own.Post, less-reads.Asked, less-reads.Learnt)
 
 module _ (t : ℕ) where
-  write-own-mul-write-from : write-own-lts.Need-mul-write-from (write-own-claims t) (write-own-at t) write-own.Post
-  write-own-mul-write-from c =
-      omega (arith, (c .before .before .write-link .ensures .0), (c .before .before .write-link .kept .1 .0), c .before .before .before .before .before .before .before .before .before .before .before .before .before .before .before .good .1 .1 .1 .1 .1 .1 .1 .1 .1 .0)
-
-  write-own-sub-write-from : write-own-lts.Need-sub-write-from (write-own-claims t) (write-own-at t) write-own.Post
-  write-own-sub-write-from c =
-      omega (arith, (c .before .before .write-link .ensures .0), (c .before .before .write-link .kept .1 .0))
-
-  write-own-part-write-from-start : write-own-lts.Need-part-write-from-start (write-own-claims t) (write-own-at t) write-own.Post
-  write-own-part-write-from-start c =
-      omega (arith, (c .before .before .write-link .ensures .0), (c .before .before .write-link .kept .1 .0))
-
-  write-own-part-write-from-end : write-own-lts.Need-part-write-from-end (write-own-claims t) (write-own-at t) write-own.Post
-  write-own-part-write-from-end c =
-      omega arith
-
-  write-own-add-result : write-own-lts.Need-add-result (write-own-claims t) (write-own-at t) write-own.Post
-  write-own-add-result c =
-      omega (arith, (c .before .before .before .before .before .before .write-link .ensures .0), (c .before .before .before .before .before .before .write-link .kept .1 .0), lent-length (c .before .before .before .before .before .before .write-link .result) (c .before .before .before .before .before .before .write-link .last .1 .0), c .before .before .write-from .ensures .0, c .before .before .before .before .before .before .before .before .before .before .before .before .before .before .before .before .before .before .before .good .1 .1 .1 .1 .1 .1 .1 .1 .1 .0)
-
   write-own-add-older : write-own-lts.Need-add-older (write-own-claims t) (write-own-at t) write-own.Post
   write-own-add-older c =
       omega (arith, c .if1 .taken, c .before .before .before .before .before .before .before .before .before .before .before .good .1 .1 .1 .1 .0)
@@ -109,14 +89,34 @@ module _ (t : ℕ) where
       let e = one-message _ _ ∙ given-items (s .args .script .now) (s .args .variables .now) (s .args .places .now) (s .pre .1 .0 .aligned) (c .before .before .before .before .before .before .before .before .before .bound .result) (c .before .before .before .before .before .before .before .before .if1 .taken) (s .args .words .now) (rw (c .before .before .before .before .before .before .before .before .before .before .first-word .ensures) at (c .before .before .before .before .before .before .before .before .before .bound .ensures)) in
       (c .before .before .write-rest .ensures .0, wrote-as (ap (λ (l : List Message). strung ix (s .args .left) (drop (s .args .offset) l)) e) (rw (c .before .before .before .before .before .before .before .given .ensures, c .before .before .before .before .before .before .tail .ensures, c .before .before .before .before .before .tail2 .ensures) at (c .before .before .write-rest .ensures .1)))
 
+  write-own-mul-write-from : write-own-lts.Need-mul-write-from (write-own-claims t) (write-own-at t) write-own.Post
+  write-own-mul-write-from c =
+      omega (arith, c .before .before .write-link .ensures .0, c .before .before .write-link .kept .1 .0, c .before .before .before .before .before .before .before .before .before .before .before .before .before .before .before .good .1 .1 .1 .1 .1 .1 .1 .1 .1 .0)
+
+  write-own-sub-write-from : write-own-lts.Need-sub-write-from (write-own-claims t) (write-own-at t) write-own.Post
+  write-own-sub-write-from c =
+      omega (arith, c .before .before .write-link .ensures .0, c .before .before .write-link .kept .1 .0)
+
+  write-own-part-write-from-start : write-own-lts.Need-part-write-from-start (write-own-claims t) (write-own-at t) write-own.Post
+  write-own-part-write-from-start c =
+      omega (arith, c .before .before .write-link .ensures .0, c .before .before .write-link .kept .1 .0)
+
+  write-own-part-write-from-end : write-own-lts.Need-part-write-from-end (write-own-claims t) (write-own-at t) write-own.Post
+  write-own-part-write-from-end c =
+      omega arith
+
   write-own-write-from-requires : write-own-lts.Need-write-from-requires (write-own-claims t) (write-own-at t) write-own.Post
   write-own-write-from-requires c κs =
       let s = c .before .before .before .before .before .before .before .before .before .before .before .before .before .before .before .before in
       (omega (arith, s .good .1 .0), s .pre .1 .0 .aligned, s .pre .1 .1)
 
+  write-own-add-result : write-own-lts.Need-add-result (write-own-claims t) (write-own-at t) write-own.Post
+  write-own-add-result c =
+      omega (arith, c .before .before .before .before .before .before .write-link .ensures .0, c .before .before .before .before .before .before .write-link .kept .1 .0, lent-length (c .before .before .before .before .before .before .write-link .result) (c .before .before .before .before .before .before .write-link .last .1 .0), c .before .before .write-from .ensures .0, c .before .before .before .before .before .before .before .before .before .before .before .before .before .before .before .before .before .before .before .good .1 .1 .1 .1 .1 .1 .1 .1 .1 .0)
+
   write-own-same-length-2 : write-own-lts.Need-same-length-2 (write-own-claims t) (write-own-at t) write-own.Post
   write-own-same-length-2 c =
-      joined-length (c .before .before .before .before .before .before .write-link .result) (c .before .before .before .before .before .before .write-link .last .1 .0) (c .before .before .write-from .last .1 .1 .1 .1 .1 .1 .1 .0) (omega (arith, (c .before .before .before .before .before .before .write-link .ensures .0), (c .before .before .before .before .before .before .write-link .kept .1 .0))) (c .before .before .write-from .kept .1 .1 .1 .1 .1 .1 .1 .0) ∙ (c .before .before .before .before .before .before .write-link .kept .1 .0)
+      joined-length (c .before .before .before .before .before .before .write-link .result) (c .before .before .before .before .before .before .write-link .last .1 .0) (c .before .before .write-from .last .1 .1 .1 .1 .1 .1 .1 .0) (omega (arith, c .before .before .before .before .before .before .write-link .ensures .0, c .before .before .before .before .before .before .write-link .kept .1 .0)) (c .before .before .write-from .kept .1 .1 .1 .1 .1 .1 .1 .0) ∙ c .before .before .before .before .before .before .write-link .kept .1 .0
 
   write-own-returns-2 : write-own-lts.Need-returns-2 (write-own-claims t) (write-own-at t) write-own.Post
   write-own-returns-2 c =
@@ -124,30 +124,10 @@ module _ (t : ℕ) where
       let ix = indicesIn (s .args .receipts .now) (s .args .indices .now) in
       let σ = bindingsIn (s .args .script .now) (s .args .variables .now) (s .args .places .now) in
       let free = unbound-free (s .args .script .now) (s .args .variables .now) (s .args .places .now) (firstWord (s .args .words .now)) (omega (arith, (rw (c .before .before .before .before .before .before .before .before .before .before .first-word .ensures) at (c .before .before .before .before .before .before .before .before .before .bound .ensures)), c .before .before .before .before .before .before .before .before .if1 .left)) in (
-        omega (arith, (c .before .before .before .before .before .before .write-link .ensures .0), (c .before .before .before .before .before .before .write-link .kept .1 .0), lent-length (c .before .before .before .before .before .before .write-link .result) (c .before .before .before .before .before .before .write-link .last .1 .0), c .before .before .write-from .ensures .0),
+        omega (arith, c .before .before .before .before .before .before .write-link .ensures .0, c .before .before .before .before .before .before .write-link .kept .1 .0, lent-length (c .before .before .before .before .before .before .write-link .result) (c .before .before .before .before .before .before .write-link .last .1 .0), c .before .before .write-from .ensures .0),
         wrote-as (strung-single ix σ (s .args .left) _ (s .args .words .now) (single σ (s .args .words .now) (s .args .offset) free (s .pre .1 .3)))
             (wrote-more (c .before .before .before .before .before .before .write-link .ensures .1) (λ e. c .before .before .write-from .ensures .1)),
       )
-
-  write-rest-mul-write-rest : write-rest-lts.Need-mul-write-rest (write-rest-claims t) (write-rest-at t) write-rest.Post
-  write-rest-mul-write-rest c =
-      omega (arith, (c .before .before .before .before .write-own .ensures .0), (c .before .before .before .before .write-own .kept .1 .1 .1 .1 .1 .1 .1 .1 .1 .0), c .before .before .before .before .before .before .before .before .before .before .before .before .before .before .before .before .before .before .good .1 .1 .1 .1 .1 .1 .1 .1 .1 .1 .0)
-
-  write-rest-sub-write-rest : write-rest-lts.Need-sub-write-rest (write-rest-claims t) (write-rest-at t) write-rest.Post
-  write-rest-sub-write-rest c =
-      omega (arith, (c .before .before .before .before .write-own .ensures .0), (c .before .before .before .before .write-own .kept .1 .1 .1 .1 .1 .1 .1 .1 .1 .0))
-
-  write-rest-part-write-rest-start : write-rest-lts.Need-part-write-rest-start (write-rest-claims t) (write-rest-at t) write-rest.Post
-  write-rest-part-write-rest-start c =
-      omega (arith, (c .before .before .before .before .write-own .ensures .0), (c .before .before .before .before .write-own .kept .1 .1 .1 .1 .1 .1 .1 .1 .1 .0))
-
-  write-rest-part-write-rest-end : write-rest-lts.Need-part-write-rest-end (write-rest-claims t) (write-rest-at t) write-rest.Post
-  write-rest-part-write-rest-end c =
-      omega arith
-
-  write-rest-add-result : write-rest-lts.Need-add-result (write-rest-claims t) (write-rest-at t) write-rest.Post
-  write-rest-add-result c =
-      omega (arith, (c .before .before .before .before .before .before .before .before .write-own .ensures .0), (c .before .before .before .before .before .before .before .before .write-own .kept .1 .1 .1 .1 .1 .1 .1 .1 .1 .0), lent-length (c .before .before .before .before .before .before .before .before .write-own .result) (c .before .before .before .before .before .before .before .before .write-own .last .1 .1 .1 .1 .1 .1 .1 .1 .1 .0), c .before .before .write-rest2 .ensures .0, c .before .before .before .before .before .before .before .before .before .before .before .before .before .before .before .before .before .before .before .before .before .before .good .1 .1 .1 .1 .1 .1 .1 .1 .1 .1 .0)
 
   write-rest-returns : write-rest-lts.Need-returns (write-rest-claims t) (write-rest-at t) write-rest.Post
   write-rest-returns c =
@@ -190,23 +170,43 @@ module _ (t : ℕ) where
   write-rest-sub-less c =
       omega (arith, c .before .before .before .before .if2 .left)
 
+  write-rest-mul-write-rest : write-rest-lts.Need-mul-write-rest (write-rest-claims t) (write-rest-at t) write-rest.Post
+  write-rest-mul-write-rest c =
+      omega (arith, c .before .before .before .before .write-own .ensures .0, c .before .before .before .before .write-own .kept .1 .1 .1 .1 .1 .1 .1 .1 .1 .0, c .before .before .before .before .before .before .before .before .before .before .before .before .before .before .before .before .before .before .good .1 .1 .1 .1 .1 .1 .1 .1 .1 .1 .0)
+
+  write-rest-sub-write-rest : write-rest-lts.Need-sub-write-rest (write-rest-claims t) (write-rest-at t) write-rest.Post
+  write-rest-sub-write-rest c =
+      omega (arith, c .before .before .before .before .write-own .ensures .0, c .before .before .before .before .write-own .kept .1 .1 .1 .1 .1 .1 .1 .1 .1 .0)
+
+  write-rest-part-write-rest-start : write-rest-lts.Need-part-write-rest-start (write-rest-claims t) (write-rest-at t) write-rest.Post
+  write-rest-part-write-rest-start c =
+      omega (arith, c .before .before .before .before .write-own .ensures .0, c .before .before .before .before .write-own .kept .1 .1 .1 .1 .1 .1 .1 .1 .1 .0)
+
+  write-rest-part-write-rest-end : write-rest-lts.Need-part-write-rest-end (write-rest-claims t) (write-rest-at t) write-rest.Post
+  write-rest-part-write-rest-end c =
+      omega arith
+
   write-rest-write-rest-requires-2 : write-rest-lts.Need-write-rest-requires-2 (write-rest-claims t) (write-rest-at t) write-rest.Post
   write-rest-write-rest-requires-2 c κs =
       let s = c .before .before .before .before .before .before .before .before .before .before .before .before .before .before .before .before .before .before .before in
       let l = ap length (c .before .tail2 .ensures) in
       let room = c .before .before .before .before .before .before .before .before .after-own .ensures .0 in
-      (rank-less _ _ _ _ (s .pre .0) (omega (arith, l, room .1)), (omega (arith, l, room .0, s .pre .1 .0), s .pre .1 .1, s .pre .1 .2, omega (arith, s .pre .1 .3, lent-length (c .before .before .before .before .before .write-own .result) (c .before .before .before .before .before .write-own .last .1 .1 .1 .1 .1 .1 .1 .1 .1 .0), (c .before .before .before .before .before .write-own .ensures .0), (c .before .before .before .before .before .write-own .kept .1 .1 .1 .1 .1 .1 .1 .1 .1 .0))))
+      (rank-less _ _ _ _ (s .pre .0) (omega (arith, l, room .1)), (omega (arith, l, room .0, s .pre .1 .0), s .pre .1 .1, s .pre .1 .2, omega (arith, s .pre .1 .3, lent-length (c .before .before .before .before .before .write-own .result) (c .before .before .before .before .before .write-own .last .1 .1 .1 .1 .1 .1 .1 .1 .1 .0), c .before .before .before .before .before .write-own .ensures .0, c .before .before .before .before .before .write-own .kept .1 .1 .1 .1 .1 .1 .1 .1 .1 .0)))
+
+  write-rest-add-result : write-rest-lts.Need-add-result (write-rest-claims t) (write-rest-at t) write-rest.Post
+  write-rest-add-result c =
+      omega (arith, c .before .before .before .before .before .before .before .before .write-own .ensures .0, c .before .before .before .before .before .before .before .before .write-own .kept .1 .1 .1 .1 .1 .1 .1 .1 .1 .0, lent-length (c .before .before .before .before .before .before .before .before .write-own .result) (c .before .before .before .before .before .before .before .before .write-own .last .1 .1 .1 .1 .1 .1 .1 .1 .1 .0), c .before .before .write-rest2 .ensures .0, c .before .before .before .before .before .before .before .before .before .before .before .before .before .before .before .before .before .before .before .before .before .before .good .1 .1 .1 .1 .1 .1 .1 .1 .1 .1 .0)
 
   write-rest-same-length-2 : write-rest-lts.Need-same-length-2 (write-rest-claims t) (write-rest-at t) write-rest.Post
   write-rest-same-length-2 c =
-      joined-length (c .before .before .before .before .before .before .before .before .write-own .result) (c .before .before .before .before .before .before .before .before .write-own .last .1 .1 .1 .1 .1 .1 .1 .1 .1 .0) (c .before .before .write-rest2 .last .1 .1 .1 .1 .1 .1 .1 .1 .1 .1 .0) (omega (arith, (c .before .before .before .before .before .before .before .before .write-own .ensures .0), (c .before .before .before .before .before .before .before .before .write-own .kept .1 .1 .1 .1 .1 .1 .1 .1 .1 .0))) (c .before .before .write-rest2 .kept .1 .1 .1 .1 .1 .1 .1 .1 .1 .1 .0) ∙ (c .before .before .before .before .before .before .before .before .write-own .kept .1 .1 .1 .1 .1 .1 .1 .1 .1 .0)
+      joined-length (c .before .before .before .before .before .before .before .before .write-own .result) (c .before .before .before .before .before .before .before .before .write-own .last .1 .1 .1 .1 .1 .1 .1 .1 .1 .0) (c .before .before .write-rest2 .last .1 .1 .1 .1 .1 .1 .1 .1 .1 .1 .0) (omega (arith, c .before .before .before .before .before .before .before .before .write-own .ensures .0, c .before .before .before .before .before .before .before .before .write-own .kept .1 .1 .1 .1 .1 .1 .1 .1 .1 .0)) (c .before .before .write-rest2 .kept .1 .1 .1 .1 .1 .1 .1 .1 .1 .1 .0) ∙ c .before .before .before .before .before .before .before .before .write-own .kept .1 .1 .1 .1 .1 .1 .1 .1 .1 .0
 
   write-rest-returns-3 : write-rest-lts.Need-returns-3 (write-rest-claims t) (write-rest-at t) write-rest.Post
   write-rest-returns-3 c =
       let s = c .before .before .before .before .before .before .before .before .before .before .before .before .before .before .before .before .before .before .before .before .before .before in
       let ix = indicesIn (s .args .receipts .now) (s .args .indices .now) in
       let σ = bindingsIn (s .args .script .now) (s .args .variables .now) (s .args .places .now) in (
-        omega (arith, (c .before .before .before .before .before .before .before .before .write-own .ensures .0), (c .before .before .before .before .before .before .before .before .write-own .kept .1 .1 .1 .1 .1 .1 .1 .1 .1 .0), lent-length (c .before .before .before .before .before .before .before .before .write-own .result) (c .before .before .before .before .before .before .before .before .write-own .last .1 .1 .1 .1 .1 .1 .1 .1 .1 .0), c .before .before .write-rest2 .ensures .0),
+        omega (arith, c .before .before .before .before .before .before .before .before .write-own .ensures .0, c .before .before .before .before .before .before .before .before .write-own .kept .1 .1 .1 .1 .1 .1 .1 .1 .1 .0, lent-length (c .before .before .before .before .before .before .before .before .write-own .result) (c .before .before .before .before .before .before .before .before .write-own .last .1 .1 .1 .1 .1 .1 .1 .1 .1 .0), c .before .before .write-rest2 .ensures .0),
         wrote-if (λ h. strung-split ix (s .args .left) (s .args .offset) (c .before .before .before .before .before .before .before .before .before .before .before .before .own .result) (c .before .before .before .before .before .less .result) _ (ownItems σ (s .args .words .now)) (allItems σ (firsts (c .before .before .before .before .before .before .before .before .before .before .before .after-own .result .left) (spelled (drop (c .before .before .before .before .before .before .before .before .before .before .before .after-own .result .used) (s .args .words .now))))) (c .before .before .before .before .before .before .before .before .before .before .before .after-own .ensures .1 σ) (c .before .before .before .before .before .before .before .before .before .before .before .before .own .ensures (s .args .script .now) (s .args .places .now) (s .pre .1 .1)) (c .before .before .before .before .before .before .before .before .before .before .if2 .left) (c .before .before .before .before .before .less .ensures) (omega (arith, h, s .pre .1 .3)))
             (wrote-more (c .before .before .before .before .before .before .before .before .write-own .ensures .1) (λ e. rw (c .before .before .before .before .tail2 .ensures) at (c .before .before .write-rest2 .ensures .1))),
       )

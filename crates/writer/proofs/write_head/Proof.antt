@@ -12,15 +12,15 @@ use Rattle.writer.proofs.write_head.Tie as tie
 
 mul-write-label : tie.Need-mul-write-label
 mul-write-label c =
-    omega (arith, (c .before .before .before .before .before .before .write-word .ensures .0), (c .before .before .before .before .before .before .write-word .kept .1 .0), c .before .before .before .before .before .before .before .before .before .before .before .before .before .before .before .before .good .1 .1 .1 .1 .1 .1 .1 .1 .0)
+    omega (arith, c .before .before .before .before .before .before .write-word .ensures .0, c .before .before .before .before .before .before .write-word .kept .1 .0, c .before .before .before .before .before .before .before .before .before .before .before .before .before .before .before .before .good .1 .1 .1 .1 .1 .1 .1 .1 .0)
 
 sub-write-label : tie.Need-sub-write-label
 sub-write-label c =
-    omega (arith, (c .before .before .before .before .before .before .write-word .ensures .0), (c .before .before .before .before .before .before .write-word .kept .1 .0))
+    omega (arith, c .before .before .before .before .before .before .write-word .ensures .0, c .before .before .before .before .before .before .write-word .kept .1 .0)
 
 part-write-label-start : tie.Need-part-write-label-start
 part-write-label-start c =
-    omega (arith, (c .before .before .before .before .before .before .write-word .ensures .0), (c .before .before .before .before .before .before .write-word .kept .1 .0))
+    omega (arith, c .before .before .before .before .before .before .write-word .ensures .0, c .before .before .before .before .before .before .write-word .kept .1 .0)
 
 part-write-label-end : tie.Need-part-write-label-end
 part-write-label-end c =
@@ -29,15 +29,15 @@ part-write-label-end c =
 write-label-requires : tie.Need-write-label-requires
 write-label-requires c κs =
     let s = c .before .before .before .before .before .before .before .before .before .before .before .before .before .before .before .before .before in
-    (s .pre .0, rw (c .before .before .before .tail .ensures, c .before .tail2 .ensures) (s .pre .1 .indexed), s .pre .2, omega (arith, s .pre .3, lent-length (c .before .before .before .before .before .before .before .write-word .result) (c .before .before .before .before .before .before .before .write-word .last .1 .0), (c .before .before .before .before .before .before .before .write-word .ensures .0), (c .before .before .before .before .before .before .before .write-word .kept .1 .0)))
+    (s .pre .0, rw (c .before .before .before .tail .ensures, c .before .tail2 .ensures) (s .pre .1 .indexed), s .pre .2, omega (arith, s .pre .3, lent-length (c .before .before .before .before .before .before .before .write-word .result) (c .before .before .before .before .before .before .before .write-word .last .1 .0), c .before .before .before .before .before .before .before .write-word .ensures .0, c .before .before .before .before .before .before .before .write-word .kept .1 .0))
 
 add-result : tie.Need-add-result
 add-result c =
-    omega (arith, (c .before .before .before .before .before .before .before .before .before .before .write-word .ensures .0), (c .before .before .before .before .before .before .before .before .before .before .write-word .kept .1 .0), lent-length (c .before .before .before .before .before .before .before .before .before .before .write-word .result) (c .before .before .before .before .before .before .before .before .before .before .write-word .last .1 .0), c .before .before .write-label .ensures .0, c .before .before .before .before .before .before .before .before .before .before .before .before .before .before .before .before .before .before .before .before .good .1 .1 .1 .1 .1 .1 .1 .1 .0)
+    omega (arith, c .before .before .before .before .before .before .before .before .before .before .write-word .ensures .0, c .before .before .before .before .before .before .before .before .before .before .write-word .kept .1 .0, lent-length (c .before .before .before .before .before .before .before .before .before .before .write-word .result) (c .before .before .before .before .before .before .before .before .before .before .write-word .last .1 .0), c .before .before .write-label .ensures .0, c .before .before .before .before .before .before .before .before .before .before .before .before .before .before .before .before .before .before .before .before .good .1 .1 .1 .1 .1 .1 .1 .1 .0)
 
 same-length : tie.Need-same-length
 same-length c =
-    joined-length (c .before .before .before .before .before .before .before .before .before .before .write-word .result) (c .before .before .before .before .before .before .before .before .before .before .write-word .last .1 .0) (c .before .before .write-label .last .1 .1 .1 .1 .1 .1 .1 .1 .1 .0) (omega (arith, (c .before .before .before .before .before .before .before .before .before .before .write-word .ensures .0), (c .before .before .before .before .before .before .before .before .before .before .write-word .kept .1 .0))) (c .before .before .write-label .kept .1 .1 .1 .1 .1 .1 .1 .1 .1 .0) ∙ (c .before .before .before .before .before .before .before .before .before .before .write-word .kept .1 .0)
+    joined-length (c .before .before .before .before .before .before .before .before .before .before .write-word .result) (c .before .before .before .before .before .before .before .before .before .before .write-word .last .1 .0) (c .before .before .write-label .last .1 .1 .1 .1 .1 .1 .1 .1 .1 .0) (omega (arith, c .before .before .before .before .before .before .before .before .before .before .write-word .ensures .0, c .before .before .before .before .before .before .before .before .before .before .write-word .kept .1 .0)) (c .before .before .write-label .kept .1 .1 .1 .1 .1 .1 .1 .1 .1 .0) ∙ c .before .before .before .before .before .before .before .before .before .before .write-word .kept .1 .0
 
 returns : tie.Need-returns
 unfolding indicesOf
@@ -45,7 +45,7 @@ returns c =
     let s = c .before .before .before .before .before .before .before .before .before .before .before .before .before .before .before .before .before .before .before .before in
     let σ = bindingsIn (s .args .script .now) (s .args .variables .now) (s .args .places .now) in
     let h = headOf (s .args .script .now) (s .args .kind) (s .args .start) (s .args .offset) in (
-      omega (arith, (c .before .before .before .before .before .before .before .before .before .before .write-word .ensures .0), (c .before .before .before .before .before .before .before .before .before .before .write-word .kept .1 .0), lent-length (c .before .before .before .before .before .before .before .before .before .before .write-word .result) (c .before .before .before .before .before .before .before .before .before .before .write-word .last .1 .0), c .before .before .write-label .ensures .0),
+      omega (arith, c .before .before .before .before .before .before .before .before .before .before .write-word .ensures .0, c .before .before .before .before .before .before .before .before .before .before .write-word .kept .1 .0, lent-length (c .before .before .before .before .before .before .before .before .before .before .write-word .result) (c .before .before .before .before .before .before .before .before .before .before .write-word .last .1 .0), c .before .before .write-label .ensures .0),
       wrote-as (head-words (indicesOf (s .args .around)) σ h)
           (wrote-more (rw (c .before .before .before .before .before .before .before .before .before .before .before .before .head-word .ensures (s .args .script .now) (s .args .start) (s .args .offset)) at (c .before .before .before .before .before .before .before .before .before .before .write-word .ensures .1)) (λ e. rw (c .before .before .before .before .before .before .tail .ensures, c .before .before .before .before .tail2 .ensures) at (c .before .before .write-label .ensures .1))),
     )
