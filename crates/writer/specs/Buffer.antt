@@ -6,8 +6,8 @@ use mathlib.Core.List.{List, _++_}
 use mathlib.Core.Path.{_≡_}
 use lib.Dec.{leb}
 use lib.ListN.{length, drop}
-use Rattle.writer.specs.declared.Written.{Written}
-use Rattle.writer.specs.declared.Written.the-variants.{Words, TooLong}
+use Rattle.writer.specs.declared.Fitting.{Fitting}
+use Rattle.writer.specs.declared.Fitting.the-variants.{Words, Refused}
 
 -- the buffer with the words at its start: "words behind it keep their content"
 unfoldable pub over : (words buffer : List ℕ) → List ℕ
@@ -22,9 +22,10 @@ pub record Wrote (words before after : List ℕ) (r : ℕ) : Type 0 where
 unfoldable pub room : (buffer : List ℕ) → ℕ
 room buffer = min (length buffer) 268435456
 
--- question 19: "Does the tree that stands after the moves fit the output buffer"; where it does, "words (of the written tree)"
-unfoldable pub answered : (words buffer : List ℕ) → Written
-answered ws buffer = cond (leb (length ws) (room buffer)) (Words (length ws)) TooLong
+-- "19. Does the tree that stands after the moves fit the output buffer ..? 19, place 0."; where it does, "words (of the
+-- written tree)"
+unfoldable pub answered : (words buffer : List ℕ) → Fitting
+answered ws buffer = cond (leb (length ws) (room buffer)) (Words (length ws)) (Refused 19 0)
 
 -- the buffer after the call: written where the tree fits; else "the buffer isn't written"
 unfoldable pub buffered : (words buffer : List ℕ) → List ℕ

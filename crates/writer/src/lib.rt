@@ -44,10 +44,11 @@ struct Around {
     first: usize,
 }
 
-// What the writer of a tree answers: the number of words written, or that they do not fit.
-pub enum Written {
+// What the writer of a tree answers: the number of words written, or the number and place of the question that is answered
+// by no, where they do not fit.
+pub enum Fitting {
     Words(u32),
-    TooLong,
+    Refused { question: u32, place: usize },
 }
 
 // Writes one word, if there is room; says how many words it wrote.
@@ -779,7 +780,7 @@ pub fn write_tree<'a, 'b>(
     sizes: &'a [u32],
     bulks: &'a [u32],
     out: &'b mut [u32],
-) -> Written
+) -> Fitting
     requires { ⌜ Cached (now script) (now variables) (now places) (now counts) (now sizes) (now bulks) × Scripted (now starts) (now offsets) ⌝ }
     ensures { λ r. ⌜ ((b : Closure) → bodyIn (now (kids .entry)) 64 ≡ tops b → Held (bodyIn (now (kids .entry))) (heads (now (script .entry)) (now (kinds .entry)) (now (starts .entry)) (now (offsets .entry))) b → parts b ≤ 64 → (r ≡ answered (write [] 0 (unfolded (bindingsIn (now (script .entry)) (now (variables .entry)) (now (places .entry))) b)) (now (out .entry))) × (now (out .exit) ≡ buffered (write [] 0 (unfolded (bindingsIn (now (script .entry)) (now (variables .entry)) (now (places .entry))) b)) (now (out .entry)))) ⌝ }
 {
@@ -796,11 +797,17 @@ pub fn write_tree<'a, 'b>(
         bulks,
     );
     if 268435456 < n {
-        return Written::TooLong;
+        return Fitting::Refused {
+            question: 19,
+            place: 0,
+        };
     }
     let words = wide(n);
     if out.len() < words {
-        return Written::TooLong;
+        return Fitting::Refused {
+            question: 19,
+            place: 0,
+        };
     }
     let top = kids[64];
     write_body(
@@ -818,5 +825,5 @@ pub fn write_tree<'a, 'b>(
         64,
         &mut out[..words],
     );
-    Written::Words(n)
+    Fitting::Words(n)
 }

@@ -6,7 +6,7 @@ use lib.Seq.{length-take-le}
 use Rattle.bindings.specs.Resolve.{bindingsIn}
 use Rattle.closures.specs.Closure.{unfolded}
 use Rattle.writer.specs.Write.{write}
-use Rattle.writer.proofs.Answers.{over-limit, over-buffer, fitting}
+use Rattle.writer.proofs.Answers.{over-limit, over-buffer, fitted}
 use borrow.Author.Needs.{needs}
 use Rattle.writer.proofs.write_tree.Statement.{statement}
 use Rattle.writer.proofs.write_tree.Tie as tie
@@ -36,7 +36,7 @@ returns-3 : tie.Need-returns-3
 returns-3 c b e h p =
     let s = c .before .before .before .before .before .before .before .before .before .before .before .before .before .before .before .before .before in
     let q = rw (c .before .before .before .before .nothing-around .ensures .1) at (c .before .before .write-body .ensures .1 b e h p) in
-    fitting (write [] 0 (unfolded (bindingsIn (s .args .script .now) (s .args .variables .now) (s .args .places .now)) b)) (s .args .out .now) (c .before .before .before .before .before .before .before .before .before .count-words .result) (c .before .before .before .before .before .before .before .before .before .count-words .ensures [] 0 b e h p) (omega (arith, c .before .before .before .before .before .before .before .before .if1 .left)) (c .before .before .before .before .before .before .before .wide .result) (c .before .before .before .before .before .before .before .wide .ensures) (omega (arith, c .before .before .before .before .before .before .if2 .left)) _ _ q
+    fitted (write [] 0 (unfolded (bindingsIn (s .args .script .now) (s .args .variables .now) (s .args .places .now)) b)) (s .args .out .now) (c .before .before .before .before .before .before .before .before .before .count-words .result) (c .before .before .before .before .before .before .before .before .before .count-words .ensures [] 0 b e h p) (omega (arith, c .before .before .before .before .before .before .before .before .if1 .left)) (c .before .before .before .before .before .before .before .wide .result) (c .before .before .before .before .before .before .before .wide .ensures) (omega (arith, c .before .before .before .before .before .before .if2 .left)) _ _ q
 
 pub write-tree-spec : {M : Type 1} → statement M
 write-tree-spec =
