@@ -66,13 +66,13 @@ fn write_word(w: u32, out: &mut [u32]) -> usize
 // The word of VAR for the variable of a receipt: its new index.
 fn variable_word(v: u32, receipts: &[u32], indices: &[u32]) -> u32
     requires { ⌜ Indexed (now receipts) (now indices) ⌝ }
-    ensures { λ r. ⌜ r ≡ 2415919104 + newIndex (indicesIn (now (receipts .entry)) (now (indices .entry))) v ⌝ }
+    ensures { λ r. ⌜ r ≡ word 9 (newIndex (indicesIn (now (receipts .entry)) (now (indices .entry))) v) ⌝ }
 {
     let k = find(receipts, v);
     if k < receipts.len() {
-        return 2415919104 + indices[k];
+        return 0x90000000 + indices[k];
     }
-    2415919104
+    0x90000000
 }
 
 // The word that is written for a word of a message, no variable with a binding.
@@ -81,14 +81,14 @@ fn plain_word(m: MessageWord, receipts: &[u32], indices: &[u32]) -> u32
     ensures { λ r. ⌜ r ≡ plainWord (indicesIn (now (receipts .entry)) (now (indices .entry))) m ⌝ }
 {
     match m {
-        MessageWord::Name(n) => 2147483648 + n,
+        MessageWord::Name(n) => 0x80000000 + n,
         MessageWord::Variable(v) => variable_word(v, receipts, indices),
-        MessageWord::Enter => 2684354560,
-        MessageWord::Exit => 2952790016,
-        MessageWord::Open => 3221225472,
-        MessageWord::Empty => 3489660928,
-        MessageWord::Path => 3758096384,
-        MessageWord::Unfit => 3489660928,
+        MessageWord::Enter => 0xA0000000,
+        MessageWord::Exit => 0xB0000000,
+        MessageWord::Open => 0xC0000000,
+        MessageWord::Empty => 0xD0000000,
+        MessageWord::Path => 0xE0000000,
+        MessageWord::Unfit => 0xD0000000,
     }
 }
 
@@ -185,7 +185,7 @@ fn write_link(left: u32, out: &mut [u32]) -> usize
     if left <= 1 {
         return 0;
     }
-    write_word(3758096384, out)
+    write_word(0xE0000000, out)
 }
 
 // What is left of a when b is taken away, or nothing.
@@ -332,7 +332,7 @@ fn write_items(
 {
     let n = item_count(script, at, variables, places, counts);
     if n <= offset {
-        return write_word(3489660928, out);
+        return write_word(0xD0000000, out);
     }
     write_rest(
         script,
@@ -568,10 +568,10 @@ fn head_word(kind: u8) -> u32
     ensures { λ r. ⌜ ((script : List ℕ) (start offset : ℕ) → r ≡ word (kindNumber (headOf script kind start offset)) 0) ⌝ }
 {
     match kind {
-        1 => 268435456,
-        2 => 536870912,
-        3 => 805306368,
-        _ => 1073741824,
+        1 => 0x10000000,
+        2 => 0x20000000,
+        3 => 0x30000000,
+        _ => 0x40000000,
     }
 }
 

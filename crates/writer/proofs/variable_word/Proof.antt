@@ -2,6 +2,7 @@
 use Prim.Native.Nat.{ℕ, _+_}
 use mathlib.Core.Path.{ap}
 use native.Mathlib.Omega.{arith}
+use Rattle.messages.specs.Words.{word}
 use Rattle.writer.proofs.Receipts.{index-found, index-none}
 use borrow.Author.Needs.{needs}
 use Rattle.writer.proofs.variable_word.Statement.{statement}
@@ -20,10 +21,12 @@ add-result c =
     omega (arith, c .before .before .before .before .before .pre .small (c .before .before .find .result))
 
 returns : tie.Need-returns
+unfolding word
 returns c =
     ap (λ (x : ℕ). 2415919104 + x) (index-found (c .before .before .before .before .before .args .receipts .now) (c .before .before .before .before .before .args .indices .now) (c .before .before .before .before .before .args .v) (c .before .before .find .result) (c .before .before .before .before .before .pre) (c .before .before .find .ensures))
 
 returns-2 : tie.Need-returns-2
+unfolding word
 returns-2 c =
     ap (λ (x : ℕ). 2415919104 + x) (index-none (c .before .before .before .before .args .receipts .now) (c .before .before .before .before .args .indices .now) (c .before .before .before .before .args .v) (c .before .find .result) (c .before .before .before .before .pre) (c .before .find .ensures) (c .if1 .left))
 
