@@ -1,0 +1,7 @@
+-- The laws of `writer` that its own proofs and the crates above cite.
+pub mod Lending
+pub mod Receipts
+pub mod Words
+pub mod Items
+pub mod Parts
+pub mod Answers

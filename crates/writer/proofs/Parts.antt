@@ -1,0 +1,152 @@
+-- What a part and a body are written with, by the kind of the part and by the first part of the body. Assumes nothing.
+use Prim.Native.Nat.{ℕ, suc, _+_, _-_, _≤_, _<_}
+use mathlib.Core.Bool.{true, false, true≢false}
+use mathlib.Core.List.{List, [], _∷_, _++_, append-nil}
+use mathlib.Core.Path.{_≡_, refl, sym, ap, _∙_, subst}
+use native.Mathlib.Omega.{arith}
+use lib.ListN.{length, drop, length-append}
+use borrow.Author.Tests.{lt-ltb}
+use Rattle.messages.specs.Words.{word}
+use Rattle.messages.specs.Message.{items}
+use Rattle.messages.specs.Spelling.{messageAt}
+use Rattle.sets.specs.Sets.{headOr, tail}
+use Rattle.scripts.specs.Tree.{ambient, action, receipt, output, close, part, kindNumber, tops, sum, parts, mapHeads, PlainHead, Plain}
+use Rattle.scripts.specs.Represents.{Held}
+use Rattle.bindings.specs.Resolve.{resolve}
+use Rattle.bindings.specs.Measures.{capped, cappedItems}
+use Rattle.bindings.proofs.Resolving.{message-word}
+use Rattle.bindings.proofs.Counting.{capped-sum}
+use Rattle.closures.specs.Closure.{ClosureHead, Closure, Bindings, itemsLeft, unfoldHead, unfolded}
+use Rattle.closures.specs.Represents.{headOf}
+use Rattle.closures.proofs.Heads.{by-kind, head-action, head-receipt}
+use Rattle.closures.proofs.Holding.{no-cons}
+use Rattle.writer.specs.Write.{Indices, writeMessage, whole, writeHead, within, writeInside, write}
+use Rattle.writer.specs.Bodies.{hasBody, writeLabel, writePart, CountsPart, Counts}
+
+-- ---- a part, by its kind
+
+module _ (script : List ℕ) (kind start offset : ℕ) where
+  pub head-output : (kind ≡ 1 → ⊥) → (kind ≡ 2 → ⊥) → (kind ≡ 3 → ⊥) → headOf script kind start offset ≡ output (messageAt (drop start script))
+  head-output a b c = by-kind script kind start offset (λ h. h ≡ output (messageAt (drop start script))) (λ e. absurd (a e)) (λ e. absurd (b e)) (λ e. absurd (c e)) (λ x y z. refl)
+
+  module _ (ix : Indices) (σ : Bindings) where
+    pub label-action : kind ≡ 2 → writeMessage ix (whole (drop offset (items (resolve σ (messageAt (drop start script)))))) ≡ writeLabel ix (unfoldHead σ (headOf script kind start offset))
+    unfolding writeLabel unfoldHead itemsLeft
+    label-action e = sym (ap (λ (h : ClosureHead). writeLabel ix (unfoldHead σ h)) (head-action script kind start offset e))
+
+    pub label-receipt : kind ≡ 3 → writeLabel ix (unfoldHead σ (headOf script kind start offset)) ≡ []
+    unfolding writeLabel unfoldHead
+    label-receipt e = ap (λ (h : ClosureHead). writeLabel ix (unfoldHead σ h)) (head-receipt script kind start offset e)
+
+    pub label-message : (kind ≡ 2 → ⊥) → (kind ≡ 3 → ⊥) → start < 65536 → writeMessage ix (resolve σ (messageAt (drop start script))) ≡ writeLabel ix (unfoldHead σ (headOf script kind start offset))
+    unfolding writeLabel unfoldHead
+    label-message b c s = by-kind script kind start offset (λ h. writeMessage ix (resolve σ (messageAt (drop start script))) ≡ writeLabel ix (unfoldHead σ h))
+        (λ e. ap (λ m. writeMessage ix (resolve σ m)) (sym (message-word script start (lt-ltb start 65536 s))))
+        (λ e. absurd (b e)) (λ e. absurd (c e)) (λ x y z. refl)
+
+    -- the receipts around its body
+    pub within-other : (i : ℕ) → (kind ≡ 3 → ⊥) → ix ≡ within (unfoldHead σ (headOf script kind start offset)) i ix
+    unfolding within unfoldHead
+    within-other i c = by-kind script kind start offset (λ h. ix ≡ within (unfoldHead σ h) i ix) (λ e. refl) (λ e. refl) (λ e. absurd (c e)) (λ x y z. refl)
+
+    pub within-receipt : (i : ℕ) → kind ≡ 3 → (start, i) ∷ ix ≡ within (unfoldHead σ (headOf script kind start offset)) i ix
+    unfolding within unfoldHead
+    within-receipt i e = sym (ap (λ (h : ClosureHead). within (unfoldHead σ h) i ix) (head-receipt script kind start offset e))
+
+-- ---- a part, by its head
+
+pub head-words : (ix : Indices) (σ : Bindings) (h : ClosureHead) → (word (kindNumber h) 0 ∷ []) ++ writeLabel ix (unfoldHead σ h) ≡ writeHead ix (unfoldHead σ h)
+unfolding kindNumber writeLabel writeHead unfoldHead
+head-words ix σ (ambient m) = refl
+head-words ix σ (action a) = refl
+head-words ix σ (receipt v) = refl
+head-words ix σ (output m) = refl
+
+head-length : (ix : Indices) (σ : Bindings) (h : ClosureHead) → length (writeHead ix (unfoldHead σ h)) ≡ suc (length (writeLabel ix (unfoldHead σ h)))
+head-length ix σ h = sym (ap length (head-words ix σ h))
+
+-- the words in front of the body, counted
+pub counted-label : (ix : Indices) (σ : Bindings) (h : ClosureHead) (n r t : ℕ) → length (writeLabel ix (unfoldHead σ h)) ≡ n → cappedItems r ≡ cappedItems n → t ≡ capped (1 + r)
+    → t ≡ capped (length (writeHead ix (unfoldHead σ h)))
+unfolding capped cappedItems
+counted-label ix σ h n r t e p q = omega (arith, head-length ix σ h)
+
+pub part-body : (ix : Indices) (i : ℕ) (σ : Bindings) (h : ClosureHead) (b : Plain) → hasBody h ≡ true
+    → writeHead ix (unfoldHead σ h) ++ write (within (unfoldHead σ h) i ix) (i + length (writeHead ix (unfoldHead σ h))) b ≡ writePart ix i (unfoldHead σ h) b
+unfolding hasBody writePart writeInside unfoldHead
+part-body ix i σ (ambient m) b t = refl
+part-body ix i σ (action a) b t = refl
+part-body ix i σ (receipt v) b t = refl
+part-body ix i σ (output m) b t = absurd (true≢false (sym t))
+
+pub counts-inside : (ix : Indices) (i : ℕ) (σ : Bindings) (h : ClosureHead) (b : Plain) (front inside t : ℕ) → hasBody h ≡ true → front ≡ capped (length (writeHead ix (unfoldHead σ h)))
+    → inside ≡ capped (length (write (within (unfoldHead σ h) i ix) (i + length (writeHead ix (unfoldHead σ h))) b)) → t ≡ capped (front + inside) → t ≡ capped (length (writePart ix i (unfoldHead σ h) b))
+counts-inside ix i σ h b front inside t body ef ei et =
+    capped-sum (length (writeHead ix (unfoldHead σ h))) _ (sym (ap length (part-body ix i σ h b body)) ∙ length-append (writeHead ix (unfoldHead σ h)) _) ef ei et
+
+pub part-only : (ix : Indices) (i : ℕ) (σ : Bindings) (h : ClosureHead) (b : Plain) → hasBody h ≡ false → writeHead ix (unfoldHead σ h) ≡ writePart ix i (unfoldHead σ h) b
+unfolding hasBody writePart writeInside unfoldHead
+part-only ix i σ (ambient m) b t = absurd (true≢false t)
+part-only ix i σ (action a) b t = absurd (true≢false t)
+part-only ix i σ (receipt v) b t = absurd (true≢false t)
+part-only ix i σ (output m) b t = sym (append-nil (writeHead ix (output (resolve σ m))))
+
+-- ---- a body, by its first part
+
+write-part : (ix : Indices) (i k : ℕ) (h : PlainHead) (b r : Plain) → writePart ix i h b ++ write ix (i + length (writePart ix i h b)) r ≡ write ix i (part k h b r)
+unfolding writePart write
+write-part ix i k h b r = refl
+
+unfolded-part : (σ : Bindings) (k : ℕ) (h : ClosureHead) (b r : Closure) → unfolded σ (part k h b r) ≡ part k (unfoldHead σ h) (unfolded σ b) (unfolded σ r)
+unfolding unfolded mapHeads
+unfolded-part σ k h b r = refl
+
+write-close : (ix : Indices) (i : ℕ) (σ : Bindings) → write ix i (unfolded σ close) ≡ word 0 0 ∷ []
+unfolding unfolded mapHeads write
+write-close ix i σ = refl
+
+pub some-written : (ix : Indices) (i : ℕ) (b : Plain) → 0 < length (write ix i b)
+some-written ix i close = unfold write in omega arith
+some-written ix i (part k h b r) =
+    omega (arith, ap length (write-part ix i k h b r), length-append (writePart ix i h b) (write ix (i + length (writePart ix i h b)) r), some-written ix (i + length (writePart ix i h b)) r)
+
+-- a closure with no parts
+pub no-tops : (left : List ℕ) → left ≡ [] → (ix : Indices) (i : ℕ) (σ : Bindings) (b : Closure) → left ≡ tops b → word 0 0 ∷ [] ≡ write ix i (unfolded σ b)
+unfolding tops
+no-tops left z ix i σ close e = sym (write-close ix i σ)
+no-tops left z ix i σ (part k h b r) e = absurd (no-cons k (tops r) (sym e ∙ z))
+
+pub no-parts : (fuel : ℕ) → fuel ≡ 0 → (ix : Indices) (i : ℕ) (σ : Bindings) (b : Closure) → parts b ≤ fuel → word 0 0 ∷ [] ≡ write ix i (unfolded σ b)
+unfolding sum
+no-parts fuel z ix i σ close m = sym (write-close ix i σ)
+no-parts fuel z ix i σ (part k h b r) m = absurd (let y : ⊥ = omega arith in y)
+
+module _ (σ : Bindings) (k : ℕ → List ℕ) (w : ℕ → ClosureHead) (left : List ℕ) (fuel j : ℕ) (l : List ℕ) (first : left ≡ j ∷ l) where
+  -- the words of the first part, and of those beside it
+  abbrev one : Indices → ℕ → Closure → List ℕ
+  one ix i b = writePart ix i (unfoldHead σ (w j)) (unfolded σ b)
+
+  abbrev both : Indices → ℕ → Closure → Closure → List ℕ
+  both ix i b r = one ix i b ++ write ix (i + length (one ix i b)) (unfolded σ r)
+
+  pub by-first : (Q : List ℕ → Type 0) (ix : Indices) (i : ℕ)
+      → ((b r : Closure) → k j ≡ tops b → Held k w b → l ≡ tops r → Held k w r → parts b + parts r < fuel → Q (both ix i b r))
+      → (b : Closure) → left ≡ tops b → Held k w b → parts b ≤ fuel → Q (write ix i (unfolded σ b))
+  unfolding tops sum
+  by-first Q ix i f close e h m = absurd (no-cons j l (sym first ∙ e))
+  by-first Q ix i f (part n g b r) e h m =
+      let p : j ≡ n = ap (headOr 0) (sym first ∙ e) in
+      let a : w j ≡ g = ap w p ∙ h .1 in
+      let c : k j ≡ tops b = ap k p ∙ h .0 in
+      let words : both ix i b r ≡ write ix i (unfolded σ (part n g b r)) =
+      write-part ix i n (unfoldHead σ (w j)) (unfolded σ b) (unfolded σ r)
+      ∙ ap (λ (x : ClosureHead). write ix i (part n (unfoldHead σ x) (unfolded σ b) (unfolded σ r))) a
+      ∙ ap (write ix i) (sym (unfolded-part σ n g b r)) in
+      subst Q words (f b r c (h .2) (ap tail (sym first ∙ e)) (h .3) (omega arith))
+
+  -- the words of the body, counted
+  pub counts-more : (one′ rest t : ℕ) → CountsPart σ k w (k j) (w j) (fuel - 1) one′ → Counts σ k w l (fuel - 1) rest → t ≡ capped (one′ + rest) → Counts σ k w left fuel t
+  counts-more one′ rest t eo er et ix i =
+      by-first (λ ws. t ≡ capped (length ws)) ix i (λ b r tb hb tr hr m.
+      let behind = write ix (i + length (one ix i b)) (unfolded σ r) in
+      capped-sum (length (one ix i b)) (length behind) (length-append (one ix i b) behind) (eo ix i b tb hb (omega arith)) (er ix _ r tr hr (omega arith)) et)

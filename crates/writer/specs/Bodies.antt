@@ -1,0 +1,61 @@
+-- What the writers of parts and bodies go by: a part's words, and what a closure is written with that the arrays hold.
+-- Assumes nothing: these are definitions.
+use Prim.Native.Nat.{ℕ, _+_, _≤_, _<_}
+use mathlib.Core.Bool.{Bool, true, false}
+use mathlib.Core.List.{List, [], _++_}
+use mathlib.Core.Path.{_≡_}
+use lib.ListN.{length, getD}
+use Rattle.scripts.specs.Tree.{Head, ambient, action, receipt, output, tops, parts, PlainHead, Plain}
+use Rattle.scripts.specs.Represents.{Held}
+use Rattle.bindings.specs.Measures.{capped}
+use Rattle.closures.specs.Closure.{ClosureHead, Closure, Bindings, unfolded, unfoldHead}
+use Rattle.writer.specs.Write.{Indices, writeMessage, whole, writeHead, within, writeInside, write}
+use Rattle.writer.specs.Buffer.{Wrote}
+
+-- "0 CLOSE. 1 AMB: message, body. 2 ACT (action): message, body. 3 REC (receipt): body .. 4 OUT (output): message.": who has a body
+unfoldable pub hasBody : {A : Type 0} → Head A → Bool
+hasBody (ambient m) = true
+hasBody (action a) = true
+hasBody (receipt v) = true
+hasBody (output m) = false
+
+-- the words of a part's message: "actions as their items"
+unfoldable pub writeLabel : Indices → PlainHead → List ℕ
+writeLabel ix (ambient m) = writeMessage ix m
+writeLabel ix (action is) = writeMessage ix (whole is)
+writeLabel ix (receipt v) = []
+writeLabel ix (output m) = writeMessage ix m
+
+-- the words of a part, the first of which has index i
+unfoldable pub writePart : Indices → (i : ℕ) → PlainHead → Plain → List ℕ
+writePart ix i h b = writeHead ix h ++ writeInside h (write (within h i ix) (i + length (writeHead ix h)) b)
+
+-- The parts' messages stand in the script, none being a name that PLACED gave, and no action has 2^31 items spent.
+pub record Scripted (starts offsets : List ℕ) : Type 0 where
+  pub placed : (i : ℕ) → getD starts i 0 < 65536
+  pub spent : (i : ℕ) → getD offsets i 0 < 2147483648
+
+-- r is the number of words, wherever they stand, of every closure whose top parts are `left`, if it has at most `fuel` parts
+abbrev pub Counts : Bindings → (bodies : ℕ → List ℕ) (heads : ℕ → ClosureHead) (left : List ℕ) (fuel r : ℕ) → Type 0
+Counts σ bodies heads left fuel r =
+    (ix : Indices) (i : ℕ) (b : Closure) → left ≡ tops b → Held bodies heads b → parts b ≤ fuel → r ≡ capped (length (write ix i (unfolded σ b)))
+
+-- r is the number of words of the part that has that head, whatever closure stands in it whose top parts are `inside`
+abbrev pub CountsPart : Bindings → (bodies : ℕ → List ℕ) (heads : ℕ → ClosureHead) (inside : List ℕ) (head : ClosureHead) (fuel r : ℕ) → Type 0
+CountsPart σ bodies heads inside h fuel r =
+    (ix : Indices) (i : ℕ) (b : Closure) → inside ≡ tops b → Held bodies heads b → parts b ≤ fuel → r ≡ capped (length (writePart ix i (unfoldHead σ h) (unfolded σ b)))
+
+-- the words are written, the first of which has index i, of every closure whose top parts are `left`, if it has at most `fuel` parts
+abbrev pub Writes : Indices → Bindings → (bodies : ℕ → List ℕ) (heads : ℕ → ClosureHead) (left : List ℕ) (i fuel : ℕ) (before after : List ℕ) (r : ℕ) → Type 0
+Writes ix σ bodies heads left i fuel before after r =
+    (b : Closure) → left ≡ tops b → Held bodies heads b → parts b ≤ fuel → Wrote (write ix i (unfolded σ b)) before after r
+
+-- the words are written of the part that has that head, whatever closure stands in it whose top parts are `inside`
+abbrev pub WritesPart : Indices → Bindings → (bodies : ℕ → List ℕ) (heads : ℕ → ClosureHead) (inside : List ℕ) (head : ClosureHead) (i fuel : ℕ) (before after : List ℕ) (r : ℕ) → Type 0
+WritesPart ix σ bodies heads inside h i fuel before after r =
+    (b : Closure) → inside ≡ tops b → Held bodies heads b → parts b ≤ fuel → Wrote (writePart ix i (unfoldHead σ h) (unfolded σ b)) before after r
+
+-- To unfold this is to unfold every definition of this module: for a proof by computation.
+unfoldable pub computing : Unit {0}
+unfolding hasBody writeLabel writePart
+computing = tt
