@@ -73,3 +73,29 @@ module _ (at : ℕ) (from before after : List ℕ) (P : Put at from before after
   pub put-before : (i n : ℕ) → i + n ≤ at → stretch i n after ≡ stretch i n before
   put-before i n l = ext-getD 0 (stretch i n after) (stretch i n before) (length-stretch i n after ∙ sym (length-stretch i n before))
       (λ j m. let u : j < n = subst (λ (x : ℕ). j < x) (length-stretch i n after) m in getD-stretch i n j after u ∙ P .below (i + j) (omega arith) ∙ sym (getD-stretch i n j before u))
+
+pub set-before : (i n j v : ℕ) (l : List ℕ) → i + n ≤ j → stretch i n (set l j v) ≡ stretch i n l
+set-before i n j v l m = ext-getD 0 (stretch i n (set l j v)) (stretch i n l) (length-stretch i n (set l j v) ∙ sym (length-stretch i n l))
+    (λ x o.
+    let u : x < n = subst (λ (y : ℕ). x < y) (length-stretch i n (set l j v)) o in
+    getD-stretch i n x (set l j v) u ∙ getD-set-other l j (i + x) v 0 (λ e. let z : ⊥ = omega arith in z) ∙ sym (getD-stretch i n x l u))
+
+-- numbers that are small in a stretch are so in the whole
+pub small-in : (at : ℕ) (l k : List ℕ) → stretch at 64 l ≡ k → ((i : ℕ) → i < 64 → getD k i 0 < 256) → (i : ℕ) → i < 64 → getD l (at + i) 0 < 256
+small-in at l k e s i m = subst (λ (n : ℕ). n < 256) (ap (λ (x : List ℕ). getD x i 0) (sym e) ∙ getD-stretch at 64 i l m) (s i m)
+
+pub small-of : (at : ℕ) (l : List ℕ) → ((i : ℕ) → i < 64 → getD l (at + i) 0 < 256) → (i : ℕ) → i < 64 → getD (stretch at 64 l) i 0 < 256
+small-of at l s i m = subst (λ (n : ℕ). n < 256) (sym (getD-stretch at 64 i l m)) (s i m)
+
+pub from-start : (l : List ℕ) → ((i : ℕ) → i < 64 → getD l (0 + i) 0 < 256) → (i : ℕ) → i < 64 → getD l i 0 < 256
+from-start l s i m = let e : 0 + i ≡ i = omega arith in subst (λ (n : ℕ). getD l n 0 < 256) e (s i m)
+
+pub to-start : (l : List ℕ) → ((i : ℕ) → i < 64 → getD l i 0 < 256) → (i : ℕ) → i < 64 → getD l (0 + i) 0 < 256
+to-start l s i m = let e : i ≡ 0 + i = omega arith in subst (λ (n : ℕ). getD l n 0 < 256) e (s i m)
+
+-- an entry that is set to what it is
+pub set-same : (l : List ℕ) (i : ℕ) → i < length l → set l i (getD l i 0) ≡ l
+set-same l i m = ext-getD 0 (set l i (getD l i 0)) l (length-set l i (getD l i 0))
+    (λ j n. byTest (eqb j i)
+    (λ t. rw (eqb-true j i t) (getD-set-same l i (getD l i 0) 0 m))
+    (λ t. getD-set-other l i j (getD l i 0) 0 (eqb-false j i t)))
