@@ -482,7 +482,7 @@ pub fn first_state<'a>(
     kids: [u64; 65],
 ) -> State
     ensures ready { λ r. ⌜ Ready (now (script .entry)) (now (kinds .entry)) (now (starts .entry)) r × (boundIn (now (script .entry)) r ≡ []) ⌝ }
-    ensures begun { λ r. ⌜ ((count : ℕ) (b : Script) → Tabled (now (script .entry)) (record { kinds = now (kinds .entry); starts = now (starts .entry); kids = kids; count = count }) b → ((i : ℕ) → getD (now (starts .entry)) i 0 < 65536) → Represents (now (script .entry)) (now (kinds .entry)) (now (starts .entry)) (parts b) 0 r (settleUnder [] (closureOf b))) ⌝ }
+    ensures begun { λ r. ⌜ ((count : ℕ) (b : Script) → Tabled (now (script .entry)) (record { kinds = now (kinds .entry); starts = now (starts .entry); kids = kids; count = count }) b → Represents (now (script .entry)) (now (kinds .entry)) (now (starts .entry)) (parts b) 0 r (settleUnder [] (closureOf b))) ⌝ }
 {
     let begun = looked(script, kinds, starts, kids, [0; 64], none());
     settle(kinds, begun)
