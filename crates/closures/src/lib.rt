@@ -65,7 +65,7 @@ pub struct State {
 }
 
 // The name of a part of that kind and start, under the bindings.
-pub fn part_name(script: &[u32], kind: u8, start: u32, variables: &[u32], places: &[u32]) -> Named
+fn part_name(script: &[u32], kind: u8, start: u32, variables: &[u32], places: &[u32]) -> Named
     requires { ⌜ length (now places) ≡ length (now variables) ⌝ }
     ensures { λ r. ⌜ ((offset : ℕ) → r ≡ headName (under (bindingsIn (now (script .entry)) (now (variables .entry)) (now (places .entry)))) (headOf (now (script .entry)) kind start offset)) ⌝ }
 {
@@ -76,7 +76,7 @@ pub fn part_name(script: &[u32], kind: u8, start: u32, variables: &[u32], places
 }
 
 // The first item that is not spent of a part of that kind, start and offset, under the bindings.
-pub fn part_item(
+fn part_item(
     script: &[u32],
     kind: u8,
     start: u32,
