@@ -26,7 +26,7 @@ ghost use Rattle.machine.specs.Moves.{isThat, sameName, headName, firstOf};
 ghost use Rattle.closures.specs.Closure.{ClosureHead, Closure, under, settleUnder, closureOf};
 ghost use Rattle.closures.specs.Searches.{SettlesBy, LocatesBy, Located};
 ghost use Rattle.closures.specs.Represents.{headOf, heads, boundIn, Counted, Ready, Represents};
-ghost use Rattle.closures.specs.Makes.{Opens, Enters, Exits, Receives, Moves};
+ghost use Rattle.closures.specs.Makes.{Opens, Enters, Exits, Receives, Moves, Tries};
 ghost use Rattle.closures.specs.Targets.{isWithin, isBeside, isAround, TargetsOf};
 ghost use Rattle.closures.specs.Lent.{stretch, kindsIn, startsIn, stateIn, Put, Small};
 ghost use Rattle.closures.specs.Seen.{nameIn, actOf, aimOf, busyOf, isOutput, Does, kept, Seen};
@@ -998,4 +998,41 @@ pub fn borrowed<'a>(sets: &'a [u64; 131], numbers: &'a [u32; 481], top: u64) -> 
             bindings,
         },
     }
+}
+
+// ---- A move of a list.
+
+// Whether a move was made, and the state then.
+pub struct Tried {
+    pub made: bool,
+    pub state: State,
+}
+
+// The move (a, t) where the machine can make it, and the state as it was where it cannot.
+pub fn try_move<'a>(
+    script: &'a [u32],
+    kinds: &'a [u8; 64],
+    starts: &'a [u32; 64],
+    state: State,
+    a: usize,
+    t: usize,
+) -> Tried
+    requires { ⌜ (a < 64) × (t < 64) × Ready (now script) (now kinds) (now starts) state ⌝ }
+    ensures ready { λ r. ⌜ Ready (now (script .entry)) (now (kinds .entry)) (now (starts .entry)) (r .state) ⌝ }
+    ensures tried { λ r. ⌜ Tries (now (script .entry)) (now (kinds .entry)) (now (starts .entry)) state (r .state) (r .made) a t ⌝ }
+{
+    let looks = state.looks;
+    let kids = state.kids;
+    let acts = looks.acts;
+    let aims = looks.aims;
+    let places = locate(&kids, looks.named);
+    let aimed = targets(&kids, &acts, &aims, &places, a);
+    if sets::has(aimed, t) {
+        let next = make_move(script, kinds, starts, state, &places, a, t);
+        return Tried {
+            made: true,
+            state: next,
+        };
+    }
+    Tried { made: false, state }
 }
