@@ -25,6 +25,7 @@ pub mod Aiming
 pub mod Arrays
 pub mod Copying
 pub mod Placing
+pub mod Weighing
 pub mod Making
 pub mod Finishing
 pub mod Dispatch

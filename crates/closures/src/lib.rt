@@ -11,7 +11,7 @@ use messages::Named;
 ghost use mathlib.Core.Path.{_≡_};
 ghost use mathlib.Core.Bool.{Bool, true, false, cond};
 ghost use mathlib.Core.List.{List, []};
-ghost use Prim.Native.Nat.{ℕ, _+_, _≤_, _<_};
+ghost use Prim.Native.Nat.{ℕ, _+_, _*_, _-_, _≤_, _<_};
 ghost use lib.Dec.{eqb};
 ghost use lib.ListN.{length, getD, set};
 ghost use Rattle.sets.specs.Sets.{members, elem, insert};
@@ -24,7 +24,7 @@ ghost use Rattle.bindings.specs.Measures.{Kept, itemCount};
 ghost use Rattle.bindings.specs.Held.{bindingsOf};
 ghost use Rattle.machine.specs.Moves.{isThat, sameName, headName, firstOf};
 ghost use Rattle.closures.specs.Closure.{ClosureHead, Closure, under, settleUnder, closureOf};
-ghost use Rattle.closures.specs.Searches.{SettlesBy, LocatesBy, Located};
+ghost use Rattle.closures.specs.Searches.{SettlesBy, LocatesBy, Located, CountsParts};
 ghost use Rattle.closures.specs.Represents.{headOf, heads, boundIn, Counted, Ready, Represents};
 ghost use Rattle.closures.specs.Makes.{Opens, Enters, Exits, Receives, Moves, Tries};
 ghost use Rattle.closures.specs.Targets.{isWithin, isBeside, isAround, TargetsOf};
@@ -1035,4 +1035,41 @@ pub fn try_move<'a>(
         };
     }
     Tried { made: false, state }
+}
+
+// ---- The weight.
+
+// The number of the parts of left and those inside them, at any depth; 65 where there are more than 64.
+fn count_below<'a>(kids: &'a [u64; 65], left: u64, fuel: usize) -> usize
+    ensures most { λ r. ⌜ r ≤ 65 ⌝ }
+    ensures counted { λ r. ⌜ (fuel ≤ 64 → CountsParts (bodyIn (now (kids .entry))) (members left) fuel r) ⌝ }
+{
+    if left == 0 {
+        return 0;
+    }
+    if fuel == 0 {
+        return 0;
+    }
+    let i = sets::first(left);
+    let others = sets::rest(left);
+    let inside = kids[i];
+    let a = count_below(kids, inside, fuel - 1);
+    let b = count_below(kids, others, fuel - 1);
+    if a + b >= 64 {
+        return 65;
+    }
+    1 + a + b
+}
+
+// The parts in the tree plus twice the receipts made.
+pub fn weigh(state: State) -> usize
+    requires { ⌜ state .bindings .first ≤ 32 ⌝ }
+    ensures { λ r. ⌜ ((script kinds starts : List ℕ) (weight spent : ℕ) (b : Closure) → Represents script kinds starts weight spent state b → r ≡ parts b + 2 * (32 - state .bindings .first)) ⌝ }
+{
+    let kids = state.kids;
+    let bindings = state.bindings;
+    let first = bindings.first;
+    let top = kids[64];
+    let n = count_below(&kids, top, 64);
+    n + 2 * (32 - first)
 }
