@@ -5,3 +5,4 @@ pub mod Begun
 pub mod Answers
 pub mod Verdict
 pub mod ClosureRuns
+pub mod Listed

@@ -2,4 +2,5 @@
 pub mod Call
 pub mod Standing
 pub mod ClosureCall
+pub mod Running
 pub mod Examples

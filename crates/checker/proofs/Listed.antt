@@ -1,0 +1,133 @@
+-- The engine's run of a list of moves, turn by turn. Assumes nothing.
+use Prim.Native.Nat.{ℕ, zero, suc, _+_, _≤_, _<_}
+use mathlib.Core.Bool.{Bool, true, false, true≢false}
+use mathlib.Core.List.{List, [], _∷_, _++_}
+use mathlib.Core.Option.{Option, none, some}
+use mathlib.Core.Path.{_≡_, refl, sym, ap, _∙_, subst}
+use native.Mathlib.Omega.{arith}
+use lib.Dec.{ltb, eqb}
+use lib.ListN.{getD, drop, length}
+use borrow.Author.Tests.{ltb-true}
+use Rattle.messages.specs.Words.{kind, operand}
+use Rattle.machine.proofs.Options.{and-inv}
+use Rattle.machine.specs.Moves.{Moved}
+use Rattle.closures.specs.Closure.{Action, Closure, Bindings, closureMove, ClosureMachine}
+use Rattle.closures.specs.Represents.{boundIn, Represents}
+use Rattle.closures.specs.Targets.{isSome}
+use Rattle.closures.specs.Makes.{Makes, Tries}
+use Rattle.closures.specs.declared.State.{State}
+use Rattle.checker.specs.Call.{actor, target, moveFits}
+use Rattle.checker.specs.ClosureCall.{ClosureRan, halted, moved, afterMove, ifMade, closureRun}
+use Rattle.checker.specs.Running.{Ends, Runs}
+use Rattle.checker.specs.declared.Ended.{Ended}
+use Rattle.checker.specs.declared.Ended.the-variants.{Made, Halted}
+
+-- the word at an index, and those behind it
+drop-next : (l : List ℕ) (i : ℕ) → i < length l → drop i l ≡ getD l i 0 ∷ drop (suc i) l
+drop-next [] i m = absurd (let z : ⊥ = omega arith in z)
+drop-next (x ∷ l) zero m = refl
+drop-next (x ∷ l) (suc i) m = drop-next l i (omega arith)
+
+drop-word : (l : List ℕ) (i : ℕ) → i < length l → drop i l ≡ getD l i 0 ∷ drop (i + 1) l
+drop-word l i m = drop-next l i m ∙ ap (λ (j : ℕ). getD l i 0 ∷ drop j l) (let e : suc i ≡ i + 1 = omega arith in e)
+
+drop-end : (l : List ℕ) (i : ℕ) → length l ≤ i → drop i l ≡ []
+drop-end [] zero m = refl
+drop-end [] (suc i) m = refl
+drop-end (x ∷ l) zero m = absurd (let z : ⊥ = omega arith in z)
+drop-end (x ∷ l) (suc i) m = drop-end l i (omega arith)
+
+no-some : {A : Type 0} (x : Option A) → isSome x ≡ false → x ≡ none
+unfolding isSome
+no-some none e = refl
+no-some (some a) e = absurd (true≢false e)
+
+module _ (script kinds starts : List ℕ) (n : ℕ) (moves : List ℕ) (s : State) where
+  -- a machine for which the state r stands after i moves, and which goes on as the first one
+  pub record Reached (weight spent : ℕ) (b : Closure) (i : ℕ) (r : State) : Type 0 where
+    pub machine : ClosureMachine
+    pub goes : closureRun n 0 moves (record { tree = b; bindings = boundIn script s }) ≡ closureRun n i (drop i moves) machine
+    pub stands : Represents script kinds starts weight (spent + i) r (machine .tree)
+    pub bound : boundIn script r ≡ machine .bindings
+
+  -- i moves are made
+  abbrev pub Going : (i : ℕ) → State → Type 0
+  Going i r = (weight spent : ℕ) (b : Closure) → spent + length moves < 4294967295 → Represents script kinds starts weight spent s b → Reached weight spent b i r
+
+  pub going-none : Going 0 s
+  going-none weight spent b few R = record {
+    machine = record { tree = b; bindings = boundIn script s };
+    goes = refl;
+    stands = let e : spent ≡ spent + 0 = omega arith in subst (λ (k : ℕ). Represents script kinds starts weight k s b) e R;
+    bound = refl;
+  }
+
+  module _ (i : ℕ) (r : State) (G : Going i r) where
+    -- the list is made
+    pub going-ends : length moves ≤ i → i ≤ length moves → Runs script kinds starts n moves s Made r
+    unfolding closureRun
+    going-ends m l weight spent b few R =
+        let q = G weight spent b few R in
+        let e : closureRun n 0 moves (record { tree = b; bindings = boundIn script s }) ≡ moved (q .machine) = q .goes ∙ ap (λ (ws : List ℕ). closureRun n i ws (q .machine)) (drop-end moves i m) in
+        let d : spent + i ≡ spent + length moves = omega arith in
+        subst (Ends script kinds starts Made r weight (spent + length moves)) (sym e) (refl, subst (λ (k : ℕ). Represents script kinds starts weight k r (q .machine .tree)) d (q .stands), q .bound)
+
+    module _ (m : i < length moves) where
+      abbrev w : ℕ
+      w = getD moves i 0
+
+      abbrev behind : List ℕ
+      behind = drop (i + 1) moves
+
+      -- the rest of the run, from the word at i on
+      on : (M : ClosureMachine) → closureRun n i (drop i moves) M ≡ closureRun n i (w ∷ behind) M
+      on M = ap (λ (ws : List ℕ). closureRun n i ws M) (drop-word moves i m)
+
+      -- question 15
+      pub going-unfit : moveFits n w ≡ false → Runs script kinds starts n moves s (Halted 15 i) r
+      unfolding closureRun
+      going-unfit e weight spent b few R =
+          let q = G weight spent b few R in
+          let d : closureRun n i (w ∷ behind) (q .machine) ≡ halted 15 i = rw e in
+          subst (Ends script kinds starts (Halted 15 i) r weight (spent + length moves)) (sym (q .goes ∙ on (q .machine) ∙ d)) refl
+
+      module _ (fits : moveFits n w ≡ true) (t : State) (made : Bool) (T : Tries script kinds starts r t made (actor w) (target w)) where
+        -- what was tried, of the machine that is reached
+        tried : (weight spent : ℕ) (b : Closure) → spent + length moves < 4294967295 → (q : Reached weight spent b i r)
+            → (made ≡ isSome (closureMove (q .machine .bindings) (actor w) (target w) (q .machine .tree))) × (made ≡ true → Makes script kinds starts r t weight (spent + i + 1) (actor w) (target w) (q .machine .tree))
+        tried weight spent b few q =
+            let x = T weight (spent + i) (q .machine .tree) (omega arith) (q .stands) in
+            (x .0 ∙ ap (λ (σ : Bindings). isSome (closureMove σ (actor w) (target w) (q .machine .tree))) (q .bound), x .1)
+
+        -- question 16
+        pub going-stuck : made ≡ false → Runs script kinds starts n moves s (Halted 16 i) t
+        unfolding closureRun ifMade
+        going-stuck e weight spent b few R =
+            let q = G weight spent b few R in
+            let x = no-some (closureMove (q .machine .bindings) (actor w) (target w) (q .machine .tree)) (sym (tried weight spent b few q .0) ∙ e) in
+            let d : closureRun n i (w ∷ behind) (q .machine) ≡ halted 16 i = rw (fits, x) in
+            subst (Ends script kinds starts (Halted 16 i) t weight (spent + length moves)) (sym (q .goes ∙ on (q .machine) ∙ d)) refl
+
+        -- one move more
+        pub going-on : made ≡ true → Going (i + 1) t
+        unfolding closureRun ifMade
+        going-on e weight spent b few R =
+            let q = G weight spent b few R in
+            let (v, is, stands, bound) = tried weight spent b few q .1 e in
+            let is₁ : closureMove (q .machine .bindings) (actor w) (target w) (q .machine .tree) ≡ some v = ap (λ (σ : Bindings). closureMove σ (actor w) (target w) (q .machine .tree)) (sym (q .bound)) ∙ is in
+            let d : closureRun n i (w ∷ behind) (q .machine) ≡ closureRun n (suc i) behind (afterMove (q .machine) v) = rw (fits, is₁) in
+            let one : suc i ≡ i + 1 = omega arith in
+            let deep : spent + i + 1 ≡ spent + (i + 1) = omega arith in
+            record {
+              machine = afterMove (q .machine) v;
+              goes = q .goes ∙ on (q .machine) ∙ d ∙ ap (λ (j : ℕ). closureRun n j behind (afterMove (q .machine) v)) one;
+              stands = subst (λ (k : ℕ). Represents script kinds starts weight k t (v .body)) deep stands;
+              bound = bound ∙ ap (λ (σ : Bindings). v .news ++ σ) (q .bound);
+            }
+
+-- a word that fits names parts of the script, of which there are at most 64
+pub fitting : (n w : ℕ) → n ≤ 64 → moveFits n w ≡ true → (actor w < 64) × (target w < 64)
+unfolding moveFits
+fitting n w l e =
+    let x = and-inv (ltb (actor w) n) (ltb (target w) n) (and-inv (ltb (operand w) 65536) _ (and-inv (eqb (kind w) 1) _ e .1) .1) in
+    (omega (arith, ltb-true (actor w) n (x .0)), omega (arith, ltb-true (target w) n (x .1)))
