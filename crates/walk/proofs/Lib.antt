@@ -6,3 +6,4 @@ pub mod Deciding
 pub mod Related
 pub mod Closures
 pub mod Focused
+pub mod Single
