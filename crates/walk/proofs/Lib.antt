@@ -7,3 +7,4 @@ pub mod Related
 pub mod Closures
 pub mod Focused
 pub mod Single
+pub mod Divided
