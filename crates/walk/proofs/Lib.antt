@@ -5,6 +5,7 @@ pub mod Listed
 pub mod Deciding
 pub mod Related
 pub mod Closures
+pub mod Loops
 pub mod Focused
 pub mod Single
 pub mod Divided
