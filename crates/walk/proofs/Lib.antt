@@ -9,3 +9,4 @@ pub mod Loops
 pub mod Focused
 pub mod Single
 pub mod Divided
+pub mod Rooms
