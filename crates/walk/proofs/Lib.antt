@@ -10,3 +10,4 @@ pub mod Focused
 pub mod Single
 pub mod Divided
 pub mod Rooms
+pub mod Targeted
