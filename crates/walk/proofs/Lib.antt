@@ -11,3 +11,4 @@ pub mod Single
 pub mod Divided
 pub mod Rooms
 pub mod Targeted
+pub mod Order
