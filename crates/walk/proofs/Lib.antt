@@ -12,3 +12,4 @@ pub mod Divided
 pub mod Rooms
 pub mod Targeted
 pub mod Order
+pub mod Stages
