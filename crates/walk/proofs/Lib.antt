@@ -13,3 +13,4 @@ pub mod Rooms
 pub mod Targeted
 pub mod Order
 pub mod Stages
+pub mod Looking

@@ -4,3 +4,4 @@ pub mod PlainWalk
 pub mod ClosureWalk
 pub mod Visits
 pub mod Pieces
+pub mod Naming

@@ -1,0 +1,163 @@
+-- What the engine's walk finds at a word without a loop, by what it finds where it goes from there. Assumes nothing.
+use Prim.Native.Nat.{ℕ, suc, _+_, _-_, _^_, _≤_, _<_}
+use mathlib.Core.Bool.{Bool, true, false, cond}
+use mathlib.Core.List.{List, [], _∷_}
+use mathlib.Core.Option.{Option, none, some}
+use mathlib.Core.Path.{_≡_, refl, sym, ap, _∙_, subst}
+use native.Mathlib.Omega.{arith}
+use lib.Dec.{eqb}
+use lib.ListN.{getD, set, length}
+use Rattle.messages.specs.Message.{name}
+use Rattle.messages.specs.Words.{operand}
+use Rattle.messages.specs.declared.Named.the-variants.{Called}
+use Rattle.sets.specs.Sets.{members, headOr, isOne}
+use Rattle.scripts.specs.Tree.{ambient, close, part, tops, count}
+use Rattle.machine.specs.Moves.{sameName}
+use Rattle.rules.specs.Rule.{Names, Term, constant, chosen, termName, Rule, always, negation, either, void, at, placed, ruleIndex}
+use Rattle.rules.specs.ReadRule.{termOf}
+use Rattle.rules.specs.RuleTable.{termWord}
+use Rattle.rules.specs.Ruled.{Said, Ruled}
+use Rattle.rules.specs.declared.RuleTable.{RuleTable}
+use Rattle.rules.proofs.Inversion.{rule-told, constant-said, chosen-said}
+use Rattle.closures.specs.Closure.{Closure, ClosureMachine}
+use Rattle.closures.specs.Seen.{nameIn}
+use Rattle.closures.specs.Represents.{boundIn, Ready, Represents}
+use Rattle.closures.specs.declared.State.{State}
+use Rattle.walk.specs.Walk.{Count, says, turned, onNo, ifAny, look, walk}
+use Rattle.walk.specs.Walk as spec
+use Rattle.walk.specs.ClosureWalk.{only, beside, closureSpace}
+use Rattle.walk.specs.Visits.{countOf, walkedOf, settingOf, indices, Chosen, Stage, machineOf, Visits, Looks}
+use Rattle.walk.specs.Pieces.{withTop}
+use Rattle.walk.specs.Naming.{nameBy, wordName}
+use Rattle.walk.specs.declared.Counts.{Counts}
+use Rattle.walk.specs.declared.Limits.{Limits}
+use Rattle.walk.specs.declared.Walked.{Walked}
+use Rattle.walk.specs.declared.Walked.the-variants.{Yes, No, Stopped}
+use Rattle.walk.proofs.Loops.{NotNo, no-goes, no-stops}
+use Rattle.walk.proofs.Focused.{top-told, lent-told}
+use Rattle.walk.proofs.Single.{void-told, at-none, at-one}
+use Rattle.walk.proofs.Stages.{stage-rule, stage-piece, placed-new, stage-placed}
+
+-- the name that a word says is that of its term
+pub name-told : {greatest : ℕ} {e : Names} {names : List ℕ} {somes : ℕ} → Chosen greatest e names somes → {words : List ℕ} {i : ℕ} (t : Term) → Said words (indices e) i t
+    → (nameBy names t ≡ termName e t) × (nameBy names t ≤ 255 + (greatest + somes))
+unfolding nameBy termName termWord
+name-told {greatest} {e} {names} {somes} C {words} {i} (constant n) s = (refl, let z = constant-said words (indices e) i (constant n) s n refl in omega (arith, z .2))
+name-told {greatest} {e} {names} {somes} C {words} {i} (chosen k) s =
+    let z = chosen-said words (indices e) i (chosen k) s k refl in
+    let c = C .names k (z .1) in
+    (sym (c .1), omega (arith, c .2))
+
+-- a visit from there, with `left` depths left
+abbrev pub Walks : Limits → (left : ℕ) → Names → Rule → ClosureMachine → Count → spec.Walked
+Walks limits left e q m n = walk (closureSpace (limits .limit)) (settingOf limits) left (257 - left) e q m n
+
+module _ (words : List ℕ) (table : RuleTable) (script kinds starts : List ℕ) (limits : Limits) (chosen : List ℕ) (somes left : ℕ) (s : State) (index : ℕ) (c : Counts) where
+  -- what is found of the rule q
+  abbrev pub Found : Names → Closure → Rule → spec.Walked
+  Found e b q = look (closureSpace (limits .limit)) (settingOf limits) (Walks limits left) e q (machineOf script s b) (countOf c)
+
+  -- it is r
+  abbrev pub Finds : Walked → (weight spent from : ℕ) (e : Names) (b : Closure) → Rule → Type 0
+  Finds r weight spent from e b q = Stage words table script kinds starts limits chosen somes (suc left) s index weight spent from e q b → walkedOf r ≡ Found e b q
+
+module _ {words : List ℕ} {table : RuleTable} {script kinds starts : List ℕ} {limits : Limits} {chosen : List ℕ} {somes left : ℕ} {s : State} {index : ℕ} (c : Counts) where
+  pub looks-always : Looks words table script kinds starts limits chosen somes left s index c (Yes c) 0
+  unfolding look walkedOf
+  looks-always weight spent from e q b k S =
+      subst (Finds words table script kinds starts limits chosen somes left s index c (Yes c) weight spent from e b) (sym (rule-told words table (indices e) q index 0 (S .ruled) (S .stood) k)) (λ T. refl) S
+
+  pub looks-negation : (w r : Walked) → Visits words table script kinds starts limits chosen somes left s (index + 1) c w → walkedOf r ≡ turned (walkedOf w)
+      → Looks words table script kinds starts limits chosen somes left s index c r 1
+  unfolding look
+  looks-negation w r x t weight spent from e q b k S =
+      let (p, is, stood, ruled) = rule-told words table (indices e) q index 1 (S .ruled) (S .stood) k in
+      subst (Finds words table script kinds starts limits chosen somes left s index c r weight spent from e b) (sym is)
+      (λ T. t ∙ ap turned (x weight spent from e p b (stage-rule T left (omega arith) p (index + 1) ruled stood (T .later)))) S
+
+  pub looks-either-stops : (w : Walked) → Visits words table script kinds starts limits chosen somes left s (index + 1) c w → NotNo w → Looks words table script kinds starts limits chosen somes left s index c w 2
+  unfolding look
+  looks-either-stops w x h weight spent from e q b k S =
+      let (p, o, is, stood, ruled, rights, righted) = rule-told words table (indices e) q index 2 (S .ruled) (S .stood) k in
+      subst (Finds words table script kinds starts limits chosen somes left s index c w weight spent from e b) (sym is)
+      (λ T. no-stops w _ (x weight spent from e p b (stage-rule T left (omega arith) p (index + 1) ruled stood (T .later .0))) (λ n. Walks limits left e o (machineOf script s b) n) h) S
+
+  pub looks-either : (w r : Walked) (d : Counts) → Visits words table script kinds starts limits chosen somes left s (index + 1) c w → w ≡ No d
+      → Visits words table script kinds starts limits chosen somes left s (getD (table .rights) index 0) d r → Looks words table script kinds starts limits chosen somes left s index c r 2
+  unfolding look
+  looks-either w r d x t y weight spent from e q b k S =
+      let (p, o, is, stood, ruled, rights, righted) = rule-told words table (indices e) q index 2 (S .ruled) (S .stood) k in
+      subst (Finds words table script kinds starts limits chosen somes left s index c r weight spent from e b) (sym is)
+      (λ T.
+      y weight spent from e o b (stage-rule T left (omega arith) o (getD (table .rights) index 0) righted rights (T .later .1))
+      ∙ sym (no-goes w _ (x weight spent from e p b (stage-rule T left (omega arith) p (index + 1) ruled stood (T .later .0))) (λ n. Walks limits left e o (machineOf script s b) n) d t)) S
+
+  -- what the set of the top parts tells
+  module _ (kids : List ℕ) (top : ℕ) (sets : s .kids ≡ set kids 64 top) (long : length kids ≡ 65) where
+    pub looks-void : (r : Walked) → top < 2 ^ 64 → walkedOf r ≡ says (eqb top 0) (countOf c) → Looks words table script kinds starts limits chosen somes left s index c r 3
+    unfolding look
+    looks-void r small t weight spent from e q b k S =
+        subst (Finds words table script kinds starts limits chosen somes left s index c r weight spent from e b) (sym (rule-told words table (indices e) q index 3 (S .ruled) (S .stood) k))
+        (λ T. t ∙ ap (λ (u : Bool). says u (countOf c)) (sym (void-told top b small (top-told (T .stands) kids top sets long)))) S
+
+    pub looks-at-none : isOne (members top) ≡ false → Looks words table script kinds starts limits chosen somes left s index c (No c) 4
+    unfolding look ifAny walkedOf
+    looks-at-none h weight spent from e q b k S =
+        let (p, is, stood, ruled, said) = rule-told words table (indices e) q index 4 (S .ruled) (S .stood) k in
+        subst (Finds words table script kinds starts limits chosen somes left s index c (No c) weight spent from e b) (sym is)
+        (λ T. ap (λ (o : Option ClosureMachine). ifAny o (λ m. Walks limits left e p m (countOf c)) (countOf c)) (sym (at-none (T .stands) kids top sets long _ h))) S
+
+    module _ (i n : ℕ) (single : isOne (members top) ≡ true) (first : i ≡ headOr 64 (members top)) (said : n ≡ wordName chosen (getD words index 0)) where
+      pub looks-at-other : sameName (Called n) (nameIn (s .looks .named) (s .looks .names) i) ≡ false → Looks words table script kinds starts limits chosen somes left s index c (No c) 4
+      unfolding look ifAny walkedOf
+      looks-at-other h weight spent from e q b k S =
+          let (p, is, stood, ruled, term) = rule-told words table (indices e) q index 4 (S .ruled) (S .stood) k in
+          subst (Finds words table script kinds starts limits chosen somes left s index c (No c) weight spent from e b) (sym is)
+          (λ T.
+          let N : n ≡ termName e (termOf (operand (getD words index 0))) = said ∙ name-told (T .named) (termOf (operand (getD words index 0))) term .0 in
+          let A = at-one (T .stands) kids top sets long (T .ready) (let z = T .slack in omega arith) n i single first in
+          ap (λ (o : Option ClosureMachine). ifAny o (λ m. Walks limits left e p m (countOf c)) (countOf c))
+          (sym (ap (λ (x : ℕ). only (boundIn script s) x b) (sym N) ∙ A .1 .2 ∙ ap (λ (u : Bool). cond u (some (beside (boundIn script s) (A .1 .0))) none) h))) S
+
+      pub looks-at : (r : Walked) → sameName (Called n) (nameIn (s .looks .named) (s .looks .names) i) ≡ true
+          → Visits words table script kinds starts limits chosen somes left (withTop kids (getD kids i 0) s) (index + 1) c r → Looks words table script kinds starts limits chosen somes left s index c r 4
+      unfolding look ifAny
+      looks-at r h x weight spent from e q b k S =
+          let (p, is, stood, ruled, term) = rule-told words table (indices e) q index 4 (S .ruled) (S .stood) k in
+          subst (Finds words table script kinds starts limits chosen somes left s index c r weight spent from e b) (sym is)
+          (λ T.
+          let N : n ≡ termName e (termOf (operand (getD words index 0))) = said ∙ name-told (T .named) (termOf (operand (getD words index 0))) term .0 in
+          let A = at-one (T .stands) kids top sets long (T .ready) (let z = T .slack in omega arith) n i single first in
+          let inner : i ≡ 64 → ⊥ = λ z. omega (arith, A .0) in
+          let own : members (getD kids i 0) ≡ tops (A .1 .0) = sym (lent-told (T .stands) kids top sets long i inner) ∙ A .1 .1 .own in
+          x weight spent from e p (A .1 .0) (stage-piece T left (omega arith) kids top sets long (A .1 .0) (getD kids i 0) (A .1 .1 .piece) own p (index + 1) ruled stood (T .later))
+          ∙ ap (λ (o : Option ClosureMachine). ifAny o (λ m. Walks limits left e p m (countOf c)) (countOf c))
+          (sym (ap (λ (y : ℕ). only (boundIn script s) y b) (sym N) ∙ A .1 .2 ∙ ap (λ (u : Bool). cond u (some (beside (boundIn script s) (A .1 .0))) none) h))) S
+
+  -- PLACED: its part is below 64 and its name fits
+  pub looks-full : (r : Walked) → 64 ≤ limits .parts + getD (table .places) index 0 → Looks words table script kinds starts limits chosen somes left s index c r 9
+  looks-full r h weight spent from e q b k S =
+      let (p, is, stood, ruled, term, there) = rule-told words table (indices e) q index 9 (S .ruled) (S .stood) k in
+      subst (Finds words table script kinds starts limits chosen somes left s index c r weight spent from e b) (sym is)
+      (λ T. absurd (let z = placed-new T in let y : limits .parts + getD (table .places) index 0 < 64 = z .1 in let w : ⊥ = omega arith in w)) S
+
+  pub looks-long : (r : Walked) → 255 + (limits .greatest + somes) < wordName chosen (getD words index 0) → Looks words table script kinds starts limits chosen somes left s index c r 9
+  looks-long r h weight spent from e q b k S =
+      let (p, is, stood, ruled, term, there) = rule-told words table (indices e) q index 9 (S .ruled) (S .stood) k in
+      absurd (let z = name-told (S .named) (termOf (operand (getD words index 0))) term in let y : wordName chosen (getD words index 0) ≤ 255 + (limits .greatest + somes) = z .1 in let w : ⊥ = omega arith in w)
+
+  pub looks-placed : (n : ℕ) (kinds′ starts′ : List ℕ) (t : State) (r : Walked) → n ≡ wordName chosen (getD words index 0) → Ready script kinds′ starts′ t → boundIn script t ≡ boundIn script s
+      → ((weight spent : ℕ) (b : Closure) → Represents script kinds starts weight spent s b → count (limits .parts + getD (table .places) index 0) b ≡ 0 → weight < 64
+      → Represents script kinds′ starts′ (weight + 1) spent t (part (limits .parts + getD (table .places) index 0) (ambient (name n)) b close))
+      → Visits words table script kinds′ starts′ limits chosen somes left t (index + 1) c r → Looks words table script kinds starts limits chosen somes left s index c r 9
+  unfolding look
+  looks-placed n kinds′ starts′ t r said ready bound placing x weight spent from e q b k S =
+      let (p, is, stood, ruled, term, there) = rule-told words table (indices e) q index 9 (S .ruled) (S .stood) k in
+      subst (Finds words table script kinds starts limits chosen somes left s index c r weight spent from e b) (sym is)
+      (λ T.
+      let N : n ≡ termName e (termOf (operand (getD words index 0))) = said ∙ name-told (T .named) (termOf (operand (getD words index 0))) term .0 in
+      let j : ℕ = limits .parts + getD (table .places) index 0 in
+      let z = placed-new T in
+      x (weight + 1) spent (suc (getD (table .places) index 0)) e p (part j (ambient (name n)) b close)
+      (stage-placed T left (omega arith) kinds′ starts′ t n ready (placing weight spent b (T .stands) (z .2) (z .3)))
+      ∙ (λ d. Walks limits left e p (record { tree = part j (ambient (name (N d))) b close; bindings = bound d }) (countOf c))) S
