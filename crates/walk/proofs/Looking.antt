@@ -13,7 +13,8 @@ use Rattle.messages.specs.declared.Named.the-variants.{Called}
 use Rattle.sets.specs.Sets.{members, headOr, isOne}
 use Rattle.scripts.specs.Tree.{ambient, close, part, tops, count}
 use Rattle.machine.specs.Moves.{sameName}
-use Rattle.rules.specs.Rule.{Names, Term, constant, chosen, termName, Rule, always, negation, either, void, at, placed, ruleIndex}
+use Rattle.rules.specs.Rule.{Names, Term, constant, chosen, termName, Rule, always, negation, either, void, at, some-name, sometime, somewhere, placed, ruleIndex}
+use Rattle.rules.specs.Rule as rule
 use Rattle.rules.specs.ReadRule.{termOf}
 use Rattle.rules.specs.RuleTable.{termWord}
 use Rattle.rules.specs.Ruled.{Said, Ruled}
@@ -29,6 +30,7 @@ use Rattle.walk.specs.ClosureWalk.{only, beside, closureSpace}
 use Rattle.walk.specs.Visits.{countOf, walkedOf, settingOf, indices, Chosen, Stage, machineOf, Visits, Looks}
 use Rattle.walk.specs.Pieces.{withTop}
 use Rattle.walk.specs.Naming.{nameBy, wordName}
+use Rattle.walk.specs.Turns.{Walks}
 use Rattle.walk.specs.declared.Counts.{Counts}
 use Rattle.walk.specs.declared.Limits.{Limits}
 use Rattle.walk.specs.declared.Walked.{Walked}
@@ -48,10 +50,6 @@ name-told {greatest} {e} {names} {somes} C {words} {i} (chosen k) s =
     let c = C .names k (z .1) in
     (sym (c .1), omega (arith, c .2))
 
--- a visit from there, with `left` depths left
-abbrev pub Walks : Limits → (left : ℕ) → Names → Rule → ClosureMachine → Count → spec.Walked
-Walks limits left e q m n = walk (closureSpace (limits .limit)) (settingOf limits) left (257 - left) e q m n
-
 module _ (words : List ℕ) (table : RuleTable) (script kinds starts : List ℕ) (limits : Limits) (chosen : List ℕ) (somes left : ℕ) (s : State) (index : ℕ) (c : Counts) where
   -- what is found of the rule q
   abbrev pub Found : Names → Closure → Rule → spec.Walked
@@ -62,24 +60,28 @@ module _ (words : List ℕ) (table : RuleTable) (script kinds starts : List ℕ)
   Finds r weight spent from e b q = Stage words table script kinds starts limits chosen somes (suc left) s index weight spent from e q b → walkedOf r ≡ Found e b q
 
 module _ {words : List ℕ} {table : RuleTable} {script kinds starts : List ℕ} {limits : Limits} {chosen : List ℕ} {somes left : ℕ} {s : State} {index : ℕ} (c : Counts) where
+  found-of : (r : Walked) (weight spent from : ℕ) (e : Names) (b : Closure) {p q : Rule} → q ≡ p → Finds words table script kinds starts limits chosen somes left s index c r weight spent from e b p
+      → Finds words table script kinds starts limits chosen somes left s index c r weight spent from e b q
+  found-of r weight spent from e b is = subst (Finds words table script kinds starts limits chosen somes left s index c r weight spent from e b) (sym is)
+
   pub looks-always : Looks words table script kinds starts limits chosen somes left s index c (Yes c) 0
   unfolding look walkedOf
   looks-always weight spent from e q b k S =
-      subst (Finds words table script kinds starts limits chosen somes left s index c (Yes c) weight spent from e b) (sym (rule-told words table (indices e) q index 0 (S .ruled) (S .stood) k)) (λ T. refl) S
+      found-of (Yes c) weight spent from e b (rule-told words table (indices e) q index 0 (S .ruled) (S .stood) k) (λ T. refl) S
 
   pub looks-negation : (w r : Walked) → Visits words table script kinds starts limits chosen somes left s (index + 1) c w → walkedOf r ≡ turned (walkedOf w)
       → Looks words table script kinds starts limits chosen somes left s index c r 1
   unfolding look
   looks-negation w r x t weight spent from e q b k S =
       let (p, is, stood, ruled) = rule-told words table (indices e) q index 1 (S .ruled) (S .stood) k in
-      subst (Finds words table script kinds starts limits chosen somes left s index c r weight spent from e b) (sym is)
+      found-of r weight spent from e b is
       (λ T. t ∙ ap turned (x weight spent from e p b (stage-rule T left (omega arith) p (index + 1) ruled stood (T .later)))) S
 
   pub looks-either-stops : (w : Walked) → Visits words table script kinds starts limits chosen somes left s (index + 1) c w → NotNo w → Looks words table script kinds starts limits chosen somes left s index c w 2
   unfolding look
   looks-either-stops w x h weight spent from e q b k S =
       let (p, o, is, stood, ruled, rights, righted) = rule-told words table (indices e) q index 2 (S .ruled) (S .stood) k in
-      subst (Finds words table script kinds starts limits chosen somes left s index c w weight spent from e b) (sym is)
+      found-of w weight spent from e b is
       (λ T. no-stops w _ (x weight spent from e p b (stage-rule T left (omega arith) p (index + 1) ruled stood (T .later .0))) (λ n. Walks limits left e o (machineOf script s b) n) h) S
 
   pub looks-either : (w r : Walked) (d : Counts) → Visits words table script kinds starts limits chosen somes left s (index + 1) c w → w ≡ No d
@@ -87,7 +89,7 @@ module _ {words : List ℕ} {table : RuleTable} {script kinds starts : List ℕ}
   unfolding look
   looks-either w r d x t y weight spent from e q b k S =
       let (p, o, is, stood, ruled, rights, righted) = rule-told words table (indices e) q index 2 (S .ruled) (S .stood) k in
-      subst (Finds words table script kinds starts limits chosen somes left s index c r weight spent from e b) (sym is)
+      found-of r weight spent from e b is
       (λ T.
       y weight spent from e o b (stage-rule T left (omega arith) o (getD (table .rights) index 0) righted rights (T .later .1))
       ∙ sym (no-goes w _ (x weight spent from e p b (stage-rule T left (omega arith) p (index + 1) ruled stood (T .later .0))) (λ n. Walks limits left e o (machineOf script s b) n) d t)) S
@@ -97,14 +99,14 @@ module _ {words : List ℕ} {table : RuleTable} {script kinds starts : List ℕ}
     pub looks-void : (r : Walked) → top < 2 ^ 64 → walkedOf r ≡ says (eqb top 0) (countOf c) → Looks words table script kinds starts limits chosen somes left s index c r 3
     unfolding look
     looks-void r small t weight spent from e q b k S =
-        subst (Finds words table script kinds starts limits chosen somes left s index c r weight spent from e b) (sym (rule-told words table (indices e) q index 3 (S .ruled) (S .stood) k))
+        found-of r weight spent from e b (rule-told words table (indices e) q index 3 (S .ruled) (S .stood) k)
         (λ T. t ∙ ap (λ (u : Bool). says u (countOf c)) (sym (void-told top b small (top-told (T .stands) kids top sets long)))) S
 
     pub looks-at-none : isOne (members top) ≡ false → Looks words table script kinds starts limits chosen somes left s index c (No c) 4
     unfolding look ifAny walkedOf
     looks-at-none h weight spent from e q b k S =
         let (p, is, stood, ruled, said) = rule-told words table (indices e) q index 4 (S .ruled) (S .stood) k in
-        subst (Finds words table script kinds starts limits chosen somes left s index c (No c) weight spent from e b) (sym is)
+        found-of (No c) weight spent from e b is
         (λ T. ap (λ (o : Option ClosureMachine). ifAny o (λ m. Walks limits left e p m (countOf c)) (countOf c)) (sym (at-none (T .stands) kids top sets long _ h))) S
 
     module _ (i n : ℕ) (single : isOne (members top) ≡ true) (first : i ≡ headOr 64 (members top)) (said : n ≡ wordName chosen (getD words index 0)) where
@@ -112,7 +114,7 @@ module _ {words : List ℕ} {table : RuleTable} {script kinds starts : List ℕ}
       unfolding look ifAny walkedOf
       looks-at-other h weight spent from e q b k S =
           let (p, is, stood, ruled, term) = rule-told words table (indices e) q index 4 (S .ruled) (S .stood) k in
-          subst (Finds words table script kinds starts limits chosen somes left s index c (No c) weight spent from e b) (sym is)
+          found-of (No c) weight spent from e b is
           (λ T.
           let N : n ≡ termName e (termOf (operand (getD words index 0))) = said ∙ name-told (T .named) (termOf (operand (getD words index 0))) term .0 in
           let A = at-one (T .stands) kids top sets long (T .ready) (let z = T .slack in omega arith) n i single first in
@@ -124,7 +126,7 @@ module _ {words : List ℕ} {table : RuleTable} {script kinds starts : List ℕ}
       unfolding look ifAny
       looks-at r h x weight spent from e q b k S =
           let (p, is, stood, ruled, term) = rule-told words table (indices e) q index 4 (S .ruled) (S .stood) k in
-          subst (Finds words table script kinds starts limits chosen somes left s index c r weight spent from e b) (sym is)
+          found-of r weight spent from e b is
           (λ T.
           let N : n ≡ termName e (termOf (operand (getD words index 0))) = said ∙ name-told (T .named) (termOf (operand (getD words index 0))) term .0 in
           let A = at-one (T .stands) kids top sets long (T .ready) (let z = T .slack in omega arith) n i single first in
@@ -138,7 +140,7 @@ module _ {words : List ℕ} {table : RuleTable} {script kinds starts : List ℕ}
   pub looks-full : (r : Walked) → 64 ≤ limits .parts + getD (table .places) index 0 → Looks words table script kinds starts limits chosen somes left s index c r 9
   looks-full r h weight spent from e q b k S =
       let (p, is, stood, ruled, term, there) = rule-told words table (indices e) q index 9 (S .ruled) (S .stood) k in
-      subst (Finds words table script kinds starts limits chosen somes left s index c r weight spent from e b) (sym is)
+      found-of r weight spent from e b is
       (λ T. absurd (let z = placed-new T in let y : limits .parts + getD (table .places) index 0 < 64 = z .1 in let w : ⊥ = omega arith in w)) S
 
   pub looks-long : (r : Walked) → 255 + (limits .greatest + somes) < wordName chosen (getD words index 0) → Looks words table script kinds starts limits chosen somes left s index c r 9
@@ -153,7 +155,7 @@ module _ {words : List ℕ} {table : RuleTable} {script kinds starts : List ℕ}
   unfolding look
   looks-placed n kinds′ starts′ t r said ready bound placing x weight spent from e q b k S =
       let (p, is, stood, ruled, term, there) = rule-told words table (indices e) q index 9 (S .ruled) (S .stood) k in
-      subst (Finds words table script kinds starts limits chosen somes left s index c r weight spent from e b) (sym is)
+      found-of r weight spent from e b is
       (λ T.
       let N : n ≡ termName e (termOf (operand (getD words index 0))) = said ∙ name-told (T .named) (termOf (operand (getD words index 0))) term .0 in
       let j : ℕ = limits .parts + getD (table .places) index 0 in
@@ -161,3 +163,25 @@ module _ {words : List ℕ} {table : RuleTable} {script kinds starts : List ℕ}
       x (weight + 1) spent (suc (getD (table .places) index 0)) e p (part j (ambient (name n)) b close)
       (stage-placed T left (omega arith) kinds′ starts′ t n ready (placing weight spent b (T .stands) (z .2) (z .3)))
       ∙ (λ d. Walks limits left e p (record { tree = part j (ambient (name (N d))) b close; bindings = bound d }) (countOf c))) S
+
+  -- the words with a loop: what is found of their rules is found there
+  module _ (r : Walked) where
+    pub looks-beside : ((weight spent from : ℕ) (e : Names) (p q : Rule) (b : Closure) → Finds words table script kinds starts limits chosen somes left s index c r weight spent from e b (rule.beside index p q))
+        → Looks words table script kinds starts limits chosen somes left s index c r 5
+    looks-beside f weight spent from e q b k S =
+        let x = rule-told words table (indices e) q index 5 (S .ruled) (S .stood) k in found-of r weight spent from e b (x .2) (f weight spent from e (x .0) (x .1) b) S
+
+    pub looks-some : ((weight spent from : ℕ) (e : Names) (p : Rule) (b : Closure) → Finds words table script kinds starts limits chosen somes left s index c r weight spent from e b (some-name index p))
+        → Looks words table script kinds starts limits chosen somes left s index c r 6
+    looks-some f weight spent from e q b k S =
+        let x = rule-told words table (indices e) q index 6 (S .ruled) (S .stood) k in found-of r weight spent from e b (x .1) (f weight spent from e (x .0) b) S
+
+    pub looks-sometime : ((weight spent from : ℕ) (e : Names) (p : Rule) (b : Closure) → Finds words table script kinds starts limits chosen somes left s index c r weight spent from e b (sometime index p))
+        → Looks words table script kinds starts limits chosen somes left s index c r 7
+    looks-sometime f weight spent from e q b k S =
+        let x = rule-told words table (indices e) q index 7 (S .ruled) (S .stood) k in found-of r weight spent from e b (x .1) (f weight spent from e (x .0) b) S
+
+    pub looks-somewhere : ((weight spent from : ℕ) (e : Names) (p : Rule) (b : Closure) → Finds words table script kinds starts limits chosen somes left s index c r weight spent from e b (somewhere index p))
+        → Looks words table script kinds starts limits chosen somes left s index c r 8
+    looks-somewhere f weight spent from e q b k S =
+        let x = rule-told words table (indices e) q index 8 (S .ruled) (S .stood) k in found-of r weight spent from e b (x .1) (f weight spent from e (x .0) b) S

@@ -27,9 +27,10 @@ use Rattle.closures.specs.Makes.{Makes}
 use Rattle.closures.specs.declared.State.{State}
 use Rattle.walk.specs.Pieces.{withTop, Piece}
 use Rattle.walk.specs.Visits.{stateOf, indices, Chosen, Later, Stage, machineOf}
+use Rattle.walk.specs.Turns.{after}
 use Rattle.walk.specs.declared.Limits.{Limits}
 use Rattle.walk.proofs.Focused.{fewer, ready-top, focused}
-use Rattle.walk.proofs.Targeted.{Low, move-low, after, after-is}
+use Rattle.walk.proofs.Targeted.{Low, move-low, after-is}
 
 -- a state is what its own arrays hold
 pub state-whole : (s : State) → stateOf (s .kids) (getD (s .kids) 64 0) (s .offsets) (s .looks .named) (s .looks .names) (s .looks .acts) (s .looks .aims) (s .looks .busy)

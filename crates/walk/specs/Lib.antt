@@ -5,3 +5,4 @@ pub mod ClosureWalk
 pub mod Visits
 pub mod Pieces
 pub mod Naming
+pub mod Turns
