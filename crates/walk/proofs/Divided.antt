@@ -83,8 +83,8 @@ pub record Shared (top share : ℕ) : Type 0 where
   pub below : place < 2 ^ length (members top)
   pub is : members share ≡ picked (members top) place
 
-pub shared-first : (top : ℕ) → Shared top 0
-shared-first top = record { place = 0; below = pow-pos (length (members top)); is = share-first top }
+pub shared-first : (top : ℕ) → (S : Shared top 0) × (S .place ≡ 0)
+shared-first top = (record { place = 0; below = pow-pos (length (members top)); is = share-first top }, refl)
 
 pub shared-last : (top share : ℕ) → top < 2 ^ 64 → share < 2 ^ 64 → (S : Shared top share) → share ≡ top → 2 ^ length (members top) ≤ suc (S .place)
 shared-last top share h g S e = share-last top share (S .place) h g (S .is) e

@@ -13,4 +13,6 @@ pub mod Rooms
 pub mod Targeted
 pub mod Order
 pub mod Stages
+pub mod Visiting
 pub mod Looking
+pub mod ShareTurns
