@@ -16,3 +16,4 @@ pub mod Stages
 pub mod Visiting
 pub mod Looking
 pub mod ShareTurns
+pub mod NameTurns

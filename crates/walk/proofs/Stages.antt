@@ -37,18 +37,20 @@ pub state-whole : (s : State) → stateOf (s .kids) (getD (s .kids) 64 0) (s .of
     (s .bindings .variables) (s .bindings .places) (s .bindings .counts) (s .bindings .sizes) (s .bindings .bulks) (s .bindings .first) ≡ s
 state-whole s = ap (λ (l : List ℕ). record { kids = l; offsets = s .offsets; looks = s .looks; bindings = s .bindings }) (set-getD (s .kids) 64 0)
 
--- one name more is chosen
-pub chosen-more : {greatest : ℕ} {e : Names} {chosen : List ℕ} {somes : ℕ} → Chosen greatest e chosen somes → (i m : ℕ) → i < 256 → i < length chosen → m ≤ greatest + (somes + 1)
-    → Chosen greatest ((i, m) ∷ e) (set chosen i m) (somes + 1)
+-- one name more is chosen, in an array that has the others as they were
+pub chosen-more : {greatest : ℕ} {e : Names} {chosen : List ℕ} {somes : ℕ} → Chosen greatest e chosen somes → (i m : ℕ) (names : List ℕ) → i < 256 → getD names i 0 ≡ m
+    → ((j : ℕ) → (j ≡ i → ⊥) → getD names j 0 ≡ getD chosen j 0) → m ≤ greatest + (somes + 1) → Chosen greatest ((i, m) ∷ e) names (somes + 1)
 unfolding member lookup
-chosen-more {greatest} {e} {chosen} {somes} C i m small long most = record {
+chosen-more {greatest} {e} {chosen} {somes} C i m names small own others most = record {
   number = ap suc (C .number) ∙ sym (add-one somes);
   names = λ j h. byTest (eqb i j)
-      (λ t. let z : i ≡ j = eqb-true i j t in
-      let g : getD (set chosen i m) j 0 ≡ m = ap (λ (x : ℕ). getD (set chosen i m) x 0) (sym z) ∙ getD-set-same chosen i m 0 long in
+      (λ t.
+      let z : i ≡ j = eqb-true i j t in
+      let g : getD names j 0 ≡ m = ap (λ (x : ℕ). getD names x 0) (sym z) ∙ own in
       rw t (omega arith, sym g, omega arith))
-      (λ t. let d : j ≡ i → ⊥ = λ z. eqb-false i j t (sym z) in
-      let g : getD (set chosen i m) j 0 ≡ getD chosen j 0 = getD-set-other chosen i j m 0 d in
+      (λ t.
+      let d : j ≡ i → ⊥ = λ z. eqb-false i j t (sym z) in
+      let g : getD names j 0 ≡ getD chosen j 0 = others j d in
       let (low, is, few) = C .names j (rw (ne-eqb j i d) at h) in
       rw t (low, is ∙ sym g, omega arith));
 }
