@@ -17,3 +17,4 @@ pub mod Visiting
 pub mod Looking
 pub mod ShareTurns
 pub mod NameTurns
+pub mod RoomTurns
