@@ -18,3 +18,4 @@ pub mod Looking
 pub mod ShareTurns
 pub mod NameTurns
 pub mod RoomTurns
+pub mod MoveTurns
