@@ -3,7 +3,7 @@
 use Prim.Native.Nat.{ℕ, suc, _+_, _/_, _^_, _≤_, _<_}
 use mathlib.Core.Bool.{Bool, true, false, not}
 use mathlib.Core.List.{List, [], _∷_, map}
-use mathlib.Core.Path.{_≡_, refl, sym, ap, ap₂, _∙_, subst}
+use mathlib.Core.Path.{_≡_, refl, sym, ap, _∙_, subst}
 use native.Mathlib.Omega.{arith}
 use lib.ListN.{length, length-map}
 use lib.Pow.{pow-pos}
@@ -16,7 +16,7 @@ use Rattle.scripts.specs.Tree.{close, part, tops, sum}
 use Rattle.scripts.specs.Represents.{Held}
 use Rattle.closures.specs.Closure.{ClosureHead, Closure}
 use Rattle.walk.specs.ClosureWalk.{withEither, divisions}
-use Rattle.walk.specs.Pieces.{Piece, Divides}
+use Rattle.walk.specs.Pieces.{Divides}
 
 -- a top part: its number, its head and its inside
 abbrev Cell : Type 0

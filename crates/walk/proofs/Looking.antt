@@ -1,7 +1,7 @@
 -- What the engine's walk finds at a word without a loop, by what it finds where it goes from there. Assumes nothing.
 use Prim.Native.Nat.{ℕ, suc, _+_, _-_, _^_, _≤_, _<_}
 use mathlib.Core.Bool.{Bool, true, false, cond}
-use mathlib.Core.List.{List, [], _∷_}
+use mathlib.Core.List.{List}
 use mathlib.Core.Option.{Option, none, some}
 use mathlib.Core.Path.{_≡_, refl, sym, ap, _∙_, subst}
 use native.Mathlib.Omega.{arith}
@@ -13,18 +13,18 @@ use Rattle.messages.specs.declared.Named.the-variants.{Called}
 use Rattle.sets.specs.Sets.{members, headOr, isOne}
 use Rattle.scripts.specs.Tree.{ambient, close, part, tops, count}
 use Rattle.machine.specs.Moves.{sameName}
-use Rattle.rules.specs.Rule.{Names, Term, constant, chosen, termName, Rule, always, negation, either, void, at, some-name, sometime, somewhere, placed, ruleIndex}
+use Rattle.rules.specs.Rule.{Names, Term, constant, chosen, termName, Rule, at, some-name, sometime, somewhere}
 use Rattle.rules.specs.Rule as rule
 use Rattle.rules.specs.ReadRule.{termOf}
 use Rattle.rules.specs.RuleTable.{termWord}
-use Rattle.rules.specs.Ruled.{Said, Ruled}
+use Rattle.rules.specs.Ruled.{Said}
 use Rattle.rules.specs.declared.RuleTable.{RuleTable}
 use Rattle.rules.proofs.Inversion.{rule-told, constant-said, chosen-said}
 use Rattle.closures.specs.Closure.{Closure, ClosureMachine}
 use Rattle.closures.specs.Seen.{nameIn}
 use Rattle.closures.specs.Represents.{boundIn, Ready, Represents}
 use Rattle.closures.specs.declared.State.{State}
-use Rattle.walk.specs.Walk.{Count, says, turned, onNo, ifAny, look, walk}
+use Rattle.walk.specs.Walk.{says, turned, ifAny, look, walk}
 use Rattle.walk.specs.Walk as spec
 use Rattle.walk.specs.ClosureWalk.{only, beside, closureSpace}
 use Rattle.walk.specs.Visits.{countOf, walkedOf, settingOf, indices, Chosen, Stage, machineOf, Visits, Looks}
@@ -34,7 +34,7 @@ use Rattle.walk.specs.Turns.{Walks}
 use Rattle.walk.specs.declared.Counts.{Counts}
 use Rattle.walk.specs.declared.Limits.{Limits}
 use Rattle.walk.specs.declared.Walked.{Walked}
-use Rattle.walk.specs.declared.Walked.the-variants.{Yes, No, Stopped}
+use Rattle.walk.specs.declared.Walked.the-variants.{Yes, No}
 use Rattle.walk.proofs.Loops.{NotNo, no-goes, no-stops}
 use Rattle.walk.proofs.Focused.{top-told, lent-told}
 use Rattle.walk.proofs.Single.{void-told, at-none, at-one}

@@ -1,10 +1,9 @@
 -- The PLACED words of a rule that is read are numbered in their order. Assumes nothing.
-use Prim.Native.Nat.{ℕ, suc, _≤_}
-use mathlib.Core.List.{List, []}
-use mathlib.Core.Path.{_≡_, sym, subst}
+use Prim.Native.Nat.{ℕ, _≤_}
+use mathlib.Core.List.{List}
+use mathlib.Core.Path.{_≡_, subst}
 use native.Mathlib.Omega.{arith}
-use Rattle.messages.specs.Words.{kind}
-use Rattle.messages.specs.Reading.{Cursor, cursor, got, nextPart}
+use Rattle.messages.specs.Reading.{Cursor, cursor, got}
 use Rattle.messages.proofs.Readings.{Next}
 use Rattle.rules.specs.Rule.{Rule, always, negation, either, void, at, beside, some-name, sometime, somewhere, placed}
 use Rattle.rules.specs.ReadRule.{readRule, readWholeRule}

@@ -1,7 +1,7 @@
 -- SOMEWHERE: the loop over the named top parts, turn by turn. Assumes nothing.
-use Prim.Native.Nat.{ℕ, suc, _+_, _^_, _≤_, _<_}
-use mathlib.Core.List.{List, [], _∷_, map}
-use mathlib.Core.Path.{_≡_, refl, sym, ap, _∙_}
+use Prim.Native.Nat.{ℕ, suc, _+_, _^_, _<_}
+use mathlib.Core.List.{List, _∷_, map}
+use mathlib.Core.Path.{_≡_, sym, ap, _∙_}
 use native.Mathlib.Omega.{arith}
 use lib.ListN.{getD, set, length}
 use Rattle.sets.specs.Sets.{members, both, headOr, tail}
@@ -12,11 +12,11 @@ use Rattle.rules.specs.declared.RuleTable.{RuleTable}
 use Rattle.closures.specs.Closure.{Closure, ClosureMachine}
 use Rattle.closures.specs.Represents.{heads, boundIn}
 use Rattle.closures.specs.declared.State.{State}
-use Rattle.walk.specs.Walk.{Count, onNo, firstYes, look}
+use Rattle.walk.specs.Walk.{firstYes, look}
 use Rattle.walk.specs.Walk as spec
 use Rattle.walk.specs.ClosureWalk.{beside, insides}
 use Rattle.walk.specs.Visits.{countOf, walkedOf, Stage, machineOf, Visits, Looks}
-use Rattle.walk.specs.Pieces.{withTop, Room}
+use Rattle.walk.specs.Pieces.{withTop}
 use Rattle.walk.specs.Turns.{Walks}
 use Rattle.walk.specs.declared.Counts.{Counts}
 use Rattle.walk.specs.declared.Limits.{Limits}

@@ -1,7 +1,7 @@
 -- BESIDE: the loop over the shares, turn by turn. Assumes nothing.
-use Prim.Native.Nat.{ℕ, suc, _+_, _^_, _≤_, _<_}
-use mathlib.Core.List.{List, [], _∷_, map}
-use mathlib.Core.Path.{_≡_, refl, sym, ap, _∙_, subst}
+use Prim.Native.Nat.{ℕ, suc, _+_, _^_, _<_}
+use mathlib.Core.List.{List, _∷_, map}
+use mathlib.Core.Path.{_≡_, sym, ap, _∙_}
 use native.Mathlib.Omega.{arith}
 use lib.ListN.{getD, set, length}
 use Rattle.sets.specs.Sets.{members, but}
@@ -16,7 +16,7 @@ use Rattle.walk.specs.Walk.{Count, onYes, firstYes, look}
 use Rattle.walk.specs.Walk as spec
 use Rattle.walk.specs.ClosureWalk.{divisions, shares}
 use Rattle.walk.specs.Visits.{countOf, walkedOf, Stage, machineOf, Visits, Looks}
-use Rattle.walk.specs.Pieces.{withTop, Divides}
+use Rattle.walk.specs.Pieces.{withTop}
 use Rattle.walk.specs.Turns.{Walks, Splits}
 use Rattle.walk.specs.declared.Counts.{Counts}
 use Rattle.walk.specs.declared.Limits.{Limits}

@@ -1,27 +1,25 @@
 -- What holds where the engine visits a rule holds again where it visits one from there: another rule on the same state, a
 -- piece of the closure, the state after a move, the state with a part placed around it. Assumes nothing.
 use Prim.Native.Nat.{ℕ, suc, _+_, _≤_, _<_}
-use mathlib.Core.Bool.{Bool, true, false, _||_}
-use mathlib.Core.List.{List, [], _∷_, _++_}
+use mathlib.Core.List.{List, _∷_}
 use mathlib.Core.Option.{some}
-use mathlib.Core.Path.{_≡_, refl, sym, ap, _∙_}
+use mathlib.Core.Path.{_≡_, sym, ap, _∙_}
 use native.Mathlib.Omega.{arith}
 use native.Mathlib.Numerals.{add-one}
 use lib.Dec.{eqb}
 use lib.ListN.{getD, set, length}
-use lib.Seq.{getD-set-same, getD-set-other, set-getD}
-use borrow.Author.Tests.{eqb-true, eqb-false, eq-eqb, ne-eqb}
+use lib.Seq.{set-getD}
+use borrow.Author.Tests.{eqb-true, eqb-false, ne-eqb}
 use Rattle.messages.specs.Message.{name}
 use Rattle.messages.specs.Words.{member}
 use Rattle.sets.specs.Sets.{members}
 use Rattle.scripts.specs.Tree.{ambient, close, part, one, tops, sum, count}
 use Rattle.scripts.specs.Represents.{bodyIn}
-use Rattle.rules.specs.Rule.{Names, lookup, Term, Rule, some-name, placed, ruleIndex}
+use Rattle.rules.specs.Rule.{Names, lookup, Term, Rule, placed, ruleIndex}
 use Rattle.rules.specs.Ruled.{Ruled}
 use Rattle.rules.specs.declared.RuleTable.{RuleTable}
-use Rattle.machine.specs.Moves.{Moved}
 use Rattle.machine.proofs.Options.{byTest}
-use Rattle.closures.specs.Closure.{Action, ClosureHead, Closure, closureMove}
+use Rattle.closures.specs.Closure.{Closure}
 use Rattle.closures.specs.Represents.{heads, boundIn, Ready, Represents}
 use Rattle.closures.specs.Makes.{Makes}
 use Rattle.closures.specs.declared.State.{State}

@@ -7,10 +7,9 @@ use native.Mathlib.Numerals.{add-one}
 use lib.ListN.{getD, length}
 use borrow.Author.Tests.{lt-ltb, le-ltb}
 use Rattle.messages.specs.Words.{kind}
-use Rattle.rules.specs.Rule.{Names, Rule, ruleIndex}
+use Rattle.rules.specs.Rule.{ruleIndex}
 use Rattle.rules.specs.declared.RuleTable.{RuleTable}
 use Rattle.rules.proofs.Inversion.{rule-told, rule-inside}
-use Rattle.closures.specs.Closure.{Closure}
 use Rattle.closures.specs.declared.State.{State}
 use Rattle.walk.specs.Walk.{look, counted, walk}
 use Rattle.walk.specs.Walk as spec

@@ -1,7 +1,6 @@
 -- What the functions answer that the walk's loops call at each turn: for a share of BESIDE, and for an actor of SOMETIME.
 -- Assumes nothing: these are definitions.
 use Prim.Native.Nat.{ℕ, suc, _-_, _<_}
-use mathlib.Core.Bool.{Bool}
 use mathlib.Core.List.{List}
 use mathlib.Core.Option.{Option}
 use mathlib.Core.Path.{_≡_}
