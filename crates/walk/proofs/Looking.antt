@@ -12,6 +12,7 @@ use Rattle.messages.specs.Words.{operand}
 use Rattle.messages.specs.declared.Named.the-variants.{Called}
 use Rattle.sets.specs.Sets.{members, headOr, isOne}
 use Rattle.scripts.specs.Tree.{ambient, close, part, tops, count}
+use Rattle.scripts.specs.Represents.{bodyIn}
 use Rattle.machine.specs.Moves.{sameName}
 use Rattle.rules.specs.Rule.{Names, Term, constant, chosen, termName, Rule, at, some-name, sometime, somewhere}
 use Rattle.rules.specs.Rule as rule
@@ -22,13 +23,13 @@ use Rattle.rules.specs.declared.RuleTable.{RuleTable}
 use Rattle.rules.proofs.Inversion.{rule-told, constant-said, chosen-said}
 use Rattle.closures.specs.Closure.{Closure, ClosureMachine}
 use Rattle.closures.specs.Seen.{nameIn}
-use Rattle.closures.specs.Represents.{boundIn, Ready, Represents}
+use Rattle.closures.specs.Represents.{heads, boundIn, Ready, Represents}
 use Rattle.closures.specs.declared.State.{State}
 use Rattle.walk.specs.Walk.{says, turned, ifAny, look, walk}
 use Rattle.walk.specs.Walk as spec
 use Rattle.walk.specs.ClosureWalk.{only, beside, closureSpace}
 use Rattle.walk.specs.Visits.{countOf, walkedOf, settingOf, indices, Chosen, Stage, machineOf, Visits, Looks}
-use Rattle.walk.specs.Pieces.{withTop}
+use Rattle.walk.specs.Pieces.{withTop, Piece}
 use Rattle.walk.specs.Naming.{nameBy, wordName}
 use Rattle.walk.specs.Turns.{Walks}
 use Rattle.walk.specs.declared.Counts.{Counts}
@@ -58,6 +59,13 @@ module _ (words : List ℕ) (table : RuleTable) (script kinds starts : List ℕ)
   -- it is r
   abbrev pub Finds : Walked → (weight spent from : ℕ) (e : Names) (b : Closure) → Rule → Type 0
   Finds r weight spent from e b q = Stage words table script kinds starts limits chosen somes (suc left) s index weight spent from e q b → walkedOf r ≡ Found e b q
+
+-- the term of the word at an index, and whether the part i has the name n
+abbrev pub termAt : (words : List ℕ) (index : ℕ) → Term
+termAt words index = termOf (operand (getD words index 0))
+
+abbrev pub calledSo : State → (i n : ℕ) → Bool
+calledSo s i n = sameName (Called n) (nameIn (s .looks .named) (s .looks .names) i)
 
 module _ {words : List ℕ} {table : RuleTable} {script kinds starts : List ℕ} {limits : Limits} {chosen : List ℕ} {somes left : ℕ} {s : State} {index : ℕ} (c : Counts) where
   found-of : (r : Walked) (weight spent from : ℕ) (e : Names) (b : Closure) {p q : Rule} → q ≡ p → Finds words table script kinds starts limits chosen somes left s index c r weight spent from e b p
@@ -110,31 +118,40 @@ module _ {words : List ℕ} {table : RuleTable} {script kinds starts : List ℕ}
         (λ T. ap (λ (o : Option ClosureMachine). ifAny o (λ m. Walks limits left e p m (countOf c)) (countOf c)) (sym (at-none (T .stands) kids top sets long _ h))) S
 
     module _ (i n : ℕ) (single : isOne (members top) ≡ true) (first : i ≡ headOr 64 (members top)) (said : n ≡ wordName chosen (getD words index 0)) where
-      pub looks-at-other : sameName (Called n) (nameIn (s .looks .named) (s .looks .names) i) ≡ false → Looks words table script kinds starts limits chosen somes left s index c (No c) 4
-      unfolding look ifAny walkedOf
+      -- what is found goes by the name that is kept of the one top part
+      found-at : (weight spent from : ℕ) (e : Names) (p : Rule) (b : Closure) → Stage words table script kinds starts limits chosen somes (suc left) s index weight spent from e (at index (termAt words index) p) b
+          → (a : Closure) × (members (getD kids i 0) ≡ tops a) × Piece (bodyIn (s .kids)) (heads script kinds starts (s .offsets)) b a × (ifAny (cond (calledSo s i n) (some (beside (boundIn script s) a)) none) (λ m. Walks limits left e p m (countOf c)) (countOf c)
+          ≡ Found words table script kinds starts limits chosen somes left s index c e b (at index (termAt words index) p))
+      unfolding look
+      found-at weight spent from e p b S =
+          let N : n ≡ termName e (termAt words index) = said ∙ name-told (S .named) (termAt words index) (S .ruled .3) .0 in
+          let (low, (a, room, is)) = at-one (S .stands) kids top sets long (S .ready) (let z = S .slack in omega arith) n i single first in
+          let inner : i ≡ 64 → ⊥ = λ z. omega (arith, low) in (
+            a,
+            sym (lent-told (S .stands) kids top sets long i inner) ∙ room .own,
+            room .piece,
+            ap (λ (o : Option ClosureMachine). ifAny o (λ m. Walks limits left e p m (countOf c)) (countOf c)) (sym (ap (λ (x : ℕ). only (boundIn script s) x b) (sym N) ∙ is)),
+          )
+
+      pub looks-at-other : calledSo s i n ≡ false → Looks words table script kinds starts limits chosen somes left s index c (No c) 4
+      unfolding ifAny walkedOf
       looks-at-other h weight spent from e q b k S =
           let (p, is, stood, ruled, term) = rule-told words table (indices e) q index 4 (S .ruled) (S .stood) k in
           found-of (No c) weight spent from e b is
           (λ T.
-          let N : n ≡ termName e (termOf (operand (getD words index 0))) = said ∙ name-told (T .named) (termOf (operand (getD words index 0))) term .0 in
-          let A = at-one (T .stands) kids top sets long (T .ready) (let z = T .slack in omega arith) n i single first in
-          ap (λ (o : Option ClosureMachine). ifAny o (λ m. Walks limits left e p m (countOf c)) (countOf c))
-          (sym (ap (λ (x : ℕ). only (boundIn script s) x b) (sym N) ∙ A .1 .2 ∙ ap (λ (u : Bool). cond u (some (beside (boundIn script s) (A .1 .0))) none) h))) S
+          let (a, own, P, f) = found-at weight spent from e p b T in
+          ap (λ (u : Bool). ifAny (cond u (some (beside (boundIn script s) a)) none) (λ m. Walks limits left e p m (countOf c)) (countOf c)) (sym h) ∙ f) S
 
-      pub looks-at : (r : Walked) → sameName (Called n) (nameIn (s .looks .named) (s .looks .names) i) ≡ true
-          → Visits words table script kinds starts limits chosen somes left (withTop kids (getD kids i 0) s) (index + 1) c r → Looks words table script kinds starts limits chosen somes left s index c r 4
-      unfolding look ifAny
+      pub looks-at : (r : Walked) → calledSo s i n ≡ true → Visits words table script kinds starts limits chosen somes left (withTop kids (getD kids i 0) s) (index + 1) c r
+          → Looks words table script kinds starts limits chosen somes left s index c r 4
+      unfolding ifAny
       looks-at r h x weight spent from e q b k S =
           let (p, is, stood, ruled, term) = rule-told words table (indices e) q index 4 (S .ruled) (S .stood) k in
           found-of r weight spent from e b is
           (λ T.
-          let N : n ≡ termName e (termOf (operand (getD words index 0))) = said ∙ name-told (T .named) (termOf (operand (getD words index 0))) term .0 in
-          let A = at-one (T .stands) kids top sets long (T .ready) (let z = T .slack in omega arith) n i single first in
-          let inner : i ≡ 64 → ⊥ = λ z. omega (arith, A .0) in
-          let own : members (getD kids i 0) ≡ tops (A .1 .0) = sym (lent-told (T .stands) kids top sets long i inner) ∙ A .1 .1 .own in
-          x weight spent from e p (A .1 .0) (stage-piece T left (omega arith) kids top sets long (A .1 .0) (getD kids i 0) (A .1 .1 .piece) own p (index + 1) ruled stood (T .later))
-          ∙ ap (λ (o : Option ClosureMachine). ifAny o (λ m. Walks limits left e p m (countOf c)) (countOf c))
-          (sym (ap (λ (y : ℕ). only (boundIn script s) y b) (sym N) ∙ A .1 .2 ∙ ap (λ (u : Bool). cond u (some (beside (boundIn script s) (A .1 .0))) none) h))) S
+          let (a, own, P, f) = found-at weight spent from e p b T in
+          x weight spent from e p a (stage-piece T left (omega arith) kids top sets long a (getD kids i 0) P own p (index + 1) ruled stood (T .later))
+          ∙ ap (λ (u : Bool). ifAny (cond u (some (beside (boundIn script s) a)) none) (λ m. Walks limits left e p m (countOf c)) (countOf c)) (sym h) ∙ f) S
 
   -- PLACED: its part is below 64 and its name fits
   pub looks-full : (r : Walked) → 64 ≤ limits .parts + getD (table .places) index 0 → Looks words table script kinds starts limits chosen somes left s index c r 9
@@ -146,7 +163,7 @@ module _ {words : List ℕ} {table : RuleTable} {script kinds starts : List ℕ}
   pub looks-long : (r : Walked) → 255 + (limits .greatest + somes) < wordName chosen (getD words index 0) → Looks words table script kinds starts limits chosen somes left s index c r 9
   looks-long r h weight spent from e q b k S =
       let (p, is, stood, ruled, term, there) = rule-told words table (indices e) q index 9 (S .ruled) (S .stood) k in
-      absurd (let z = name-told (S .named) (termOf (operand (getD words index 0))) term in let y : wordName chosen (getD words index 0) ≤ 255 + (limits .greatest + somes) = z .1 in let w : ⊥ = omega arith in w)
+      absurd (let z = name-told (S .named) (termAt words index) term in let y : wordName chosen (getD words index 0) ≤ 255 + (limits .greatest + somes) = z .1 in let w : ⊥ = omega arith in w)
 
   pub looks-placed : (n : ℕ) (kinds′ starts′ : List ℕ) (t : State) (r : Walked) → n ≡ wordName chosen (getD words index 0) → Ready script kinds′ starts′ t → boundIn script t ≡ boundIn script s
       → ((weight spent : ℕ) (b : Closure) → Represents script kinds starts weight spent s b → count (limits .parts + getD (table .places) index 0) b ≡ 0 → weight < 64
@@ -157,7 +174,7 @@ module _ {words : List ℕ} {table : RuleTable} {script kinds starts : List ℕ}
       let (p, is, stood, ruled, term, there) = rule-told words table (indices e) q index 9 (S .ruled) (S .stood) k in
       found-of r weight spent from e b is
       (λ T.
-      let N : n ≡ termName e (termOf (operand (getD words index 0))) = said ∙ name-told (T .named) (termOf (operand (getD words index 0))) term .0 in
+      let N : n ≡ termName e (termAt words index) = said ∙ name-told (T .named) (termAt words index) term .0 in
       let j : ℕ = limits .parts + getD (table .places) index 0 in
       let z = placed-new T in
       x (weight + 1) spent (suc (getD (table .places) index 0)) e p (part j (ambient (name n)) b close)
