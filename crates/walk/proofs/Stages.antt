@@ -1,9 +1,10 @@
 -- What holds where the engine visits a rule holds again where it visits one from there: another rule on the same state, a
 -- piece of the closure, the state after a move, the state with a part placed around it. Assumes nothing.
 use Prim.Native.Nat.{ℕ, suc, _+_, _≤_, _<_}
-use mathlib.Core.List.{List, _∷_}
+use mathlib.Core.Bool.{true≢false}
+use mathlib.Core.List.{List, [], _∷_}
 use mathlib.Core.Option.{some}
-use mathlib.Core.Path.{_≡_, sym, ap, _∙_}
+use mathlib.Core.Path.{_≡_, refl, sym, ap, _∙_}
 use native.Mathlib.Omega.{arith}
 use native.Mathlib.Numerals.{add-one}
 use lib.Dec.{eqb}
@@ -11,12 +12,13 @@ use lib.ListN.{getD, set, length}
 use lib.Seq.{set-getD}
 use borrow.Author.Tests.{eqb-true, eqb-false, ne-eqb}
 use Rattle.messages.specs.Message.{name}
+use Rattle.messages.specs.Reading.{Cursor}
 use Rattle.messages.specs.Words.{member}
 use Rattle.sets.specs.Sets.{members}
 use Rattle.scripts.specs.Tree.{ambient, close, part, one, tops, sum, count}
 use Rattle.scripts.specs.Represents.{bodyIn}
 use Rattle.rules.specs.Rule.{Names, lookup, Term, Rule, placed, ruleIndex}
-use Rattle.rules.specs.Ruled.{Ruled}
+use Rattle.rules.specs.Ruled.{Ruled, Tabled}
 use Rattle.rules.specs.declared.RuleTable.{RuleTable}
 use Rattle.machine.proofs.Options.{byTest}
 use Rattle.closures.specs.Closure.{Closure}
@@ -137,3 +139,25 @@ module _ {words : List ℕ} {table : RuleTable} {script kinds starts : List ℕ}
         later = S .later .1;
         named = S .named;
       }
+
+-- the first visit: the whole rule, on a state that stands for a closure whose numbers are those of the script's parts
+pub stage-first : {words : List ℕ} {table : RuleTable} {script kinds starts : List ℕ} {weight n : ℕ} {s : State} {b : Closure} {p : Rule × Cursor} (limits : Limits) (chosen : List ℕ) → Ready script kinds starts s
+    → Represents script kinds starts weight 0 s b → Low (limits .parts) b → weight ≤ limits .parts → Tabled n words table p → limits .parts ≡ n → limits .limit ≡ limits .parts + table .count → limits .greatest ≤ 255
+    → Later 0 (p .0) → Stage words table script kinds starts limits chosen 0 256 s 0 weight 0 0 [] (p .0) b
+unfolding member
+stage-first limits chosen ready stands below light T parts limited greatest later = record {
+  ready = ready;
+  stands = stands;
+  slack = omega arith;
+  below = λ i l. below i (omega arith);
+  light = omega arith;
+  within = omega arith;
+  limited = limited;
+  few = omega (arith, T .room);
+  greatest = greatest;
+  short = T .few;
+  ruled = T .ruled;
+  stood = T .first;
+  later = later;
+  named = record { number = refl; names = λ i h. absurd (true≢false (sym h)) };
+}

@@ -1,20 +1,21 @@
 -- A visit: it stops at the depth or at the visits that are allowed, or finds what its word asks for. Assumes nothing.
 use Prim.Native.Nat.{ℕ, suc, _+_, _-_, _≤_, _<_, max}
-use mathlib.Core.List.{List}
+use mathlib.Core.List.{List, []}
 use mathlib.Core.Path.{_≡_, refl, sym, ap, _∙_}
 use native.Mathlib.Omega.{arith}
 use native.Mathlib.Numerals.{add-one}
 use lib.ListN.{getD, length}
 use borrow.Author.Tests.{lt-ltb, le-ltb}
 use Rattle.messages.specs.Words.{kind}
-use Rattle.rules.specs.Rule.{ruleIndex}
+use Rattle.rules.specs.Rule.{Rule, ruleIndex}
 use Rattle.rules.specs.declared.RuleTable.{RuleTable}
 use Rattle.rules.proofs.Inversion.{rule-told, rule-inside}
+use Rattle.closures.specs.Closure.{Closure}
 use Rattle.closures.specs.declared.State.{State}
-use Rattle.walk.specs.Walk.{look, counted, walk}
+use Rattle.walk.specs.Walk.{look, counted, walk, walkFrom}
 use Rattle.walk.specs.Walk as spec
 use Rattle.walk.specs.ClosureWalk.{closureSpace}
-use Rattle.walk.specs.Visits.{countOf, walkedOf, settingOf, indices, machineOf, Visits, Looks}
+use Rattle.walk.specs.Visits.{countOf, walkedOf, settingOf, indices, Stage, machineOf, Visits, Looks}
 use Rattle.walk.specs.declared.Counts.{Counts}
 use Rattle.walk.specs.declared.Limits.{Limits}
 use Rattle.walk.specs.declared.Walked.{Walked}
@@ -55,3 +56,10 @@ module _ {words : List ℕ} {table : RuleTable} {script kinds starts : List ℕ}
       let k : ℕ = kind (getD words index 0) - 10 in
       let is : kind (getD words index 0) ≡ suc (suc (suc (suc (suc (suc (suc (suc (suc (suc k))))))))) = omega arith in
       absurd (rule-told words table (indices e) q index (suc (suc (suc (suc (suc (suc (suc (suc (suc (suc k)))))))))) (S .ruled) (S .stood) is)
+
+-- THEOREM: a first visit that answers as asked is the whole walk.
+pub visits-whole : {words : List ℕ} {table : RuleTable} {script kinds starts : List ℕ} {limits : Limits} {chosen : List ℕ} {s : State} {weight : ℕ} {q : Rule} {b : Closure} (c : Counts) (r : Walked)
+    → c .visits ≡ 0 → c .deepest ≡ 0 → Stage words table script kinds starts limits chosen 0 256 s 0 weight 0 0 [] q b → Visits words table script kinds starts limits chosen 0 256 s 0 c r
+    → walkedOf r ≡ walkFrom (closureSpace (limits .limit)) (settingOf limits) q (machineOf script s b)
+visits-whole {script = script} {limits = limits} {s = s} {weight = weight} {q = q} {b = b} c r v d S x =
+    x weight 0 0 [] q b S ∙ (λ i. walk (closureSpace (limits .limit)) (settingOf limits) 256 1 [] q (machineOf script s b) (record { visits = v i; deepest = d i }))
