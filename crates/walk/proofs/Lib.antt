@@ -1,4 +1,5 @@
--- That the walk decides satisfaction, and what it needs; and that it is the same on closures. Assumes nothing.
+-- That the walk decides satisfaction, and what it needs; that it is the same on closures; and what a rule word asks of a
+-- closure, answered by the sets that hold it (from Loops on). Assumes nothing.
 pub mod Renaming
 pub mod Fits
 pub mod Listed

@@ -64,8 +64,8 @@ module _ {words : List ℕ} {table : RuleTable} {script kinds starts : List ℕ}
   stage-on t c spent′ ready stands slack below d names n C r i ruled stood later = record {
     ready = ready;
     stands = stands;
-    slack = slack;
-    below = below;
+    slack = omega arith;
+    below = λ j l. below j (omega arith);
     light = S .light;
     within = S .within;
     limited = S .limited;
@@ -92,8 +92,8 @@ module _ {words : List ℕ} {table : RuleTable} {script kinds starts : List ℕ}
       → (c : Closure) (m : ℕ) → Piece (bodyIn (s .kids)) (heads script kinds starts (s .offsets)) b c → members m ≡ tops c
       → (r : Rule) (i : ℕ) → Ruled words table (indices e) r → ruleIndex r ≡ i → Later from r
       → Stage words table script kinds starts limits chosen somes left (withTop kids m s) i weight spent from e r c
-  stage-piece less kids top sets long c m P tops =
-      stage-on (withTop kids m s) c spent (ready-top kids m (S .ready)) (focused (S .stands) kids top sets long c m P tops) (let z = S .slack in omega arith)
+  stage-piece less kids top sets long c m P own =
+      stage-on (withTop kids m s) c spent (ready-top kids m (S .ready)) (focused (S .stands) kids top sets long c m P own) (let z = S .slack in omega arith)
       (λ j l. omega (arith, fewer P j, S .below j l)) e chosen somes (S .named)
 
   -- the state after a move, on which SOMETIME is visited again: with one depth less, an item more may be spent
