@@ -120,7 +120,7 @@ module _ {words : List ℕ} {table : RuleTable} {script kinds starts : List ℕ}
 
     -- `aim` is what `targets` promises of the actor, and `places` what `locate` does
     module _ (small : a < limits .limit) (aim : ℕ) (places : ℕ → ℕ)
-        (aimed : (weight spent : ℕ) (b : Closure) → Represents script kinds starts weight spent s b → spent < 4294967295 → Aimed (boundIn script s) b a (members aim) places)
+        (aimed : (weight spent : ℕ) (b : Closure) → Ready script kinds starts s → Represents script kinds starts weight spent s b → spent < 4294967295 → Aimed (boundIn script s) b a (members aim) places)
         (w : Walked) (x : Follows words table script kinds starts limits chosen somes left s index now w a aim places) where
       -- the turn of the actor, and those behind it
       actor-turn : (weight spent from : ℕ) (e : Names) (q : Rule) (b : Closure) → Stage words table script kinds starts limits chosen somes (suc left) s index weight spent from e (sometime index q) b
@@ -132,7 +132,7 @@ module _ {words : List ℕ} {table : RuleTable} {script kinds starts : List ℕ}
           X .found weight spent from e q b S
           ∙ ap (λ (l : List ClosureMachine). firstYes (Again limits left index e q) l (countOf now)) (from-first (after (boundIn script s) b) (range 0 (limits .limit)) a (limits .limit) small)
           ∙ first-append (Again limits left index e q) L K (countOf now)
-          ∙ ap (λ (y : spec.Walked). onNo y (λ n. firstYes (Again limits left index e q) K n)) (sym (x weight spent from e q b S (aimed weight spent b (S .stands) (let z = S .slack in omega arith))))
+          ∙ ap (λ (y : spec.Walked). onNo y (λ n. firstYes (Again limits left index e q) K n)) (sym (x weight spent from e q b S (aimed weight spent b (S .ready) (S .stands) (let z = S .slack in omega arith))))
 
       pub moving-stops : NotNo w → Looks words table script kinds starts limits chosen somes left s index c w 7
       moving-stops h = looks-sometime c w (λ weight spent from e q b S. no-stops w (walkedOf w) refl _ h ∙ sym (actor-turn weight spent from e q b S))
