@@ -3,3 +3,6 @@ pub mod Walk
 pub mod PlainWalk
 pub mod ClosureWalk
 pub mod Visits
+pub mod Pieces
+pub mod Naming
+pub mod Turns

@@ -99,9 +99,10 @@ module _ (words : List ℕ) (table : RuleTable) (script kinds starts : List ℕ)
   Visits = (weight spent from : ℕ) (e : Names) (q : Rule) (b : Closure) → Stage words table script kinds starts limits chosen somes left s index weight spent from e q b
       → walkedOf r ≡ walk (closureSpace (limits .limit)) (settingOf limits) left (257 - left) e q (machineOf script s b) (countOf c)
 
-  -- r is what it answers behind the count of a visit to a word of that kind, with `left` depths left below it
+  -- r is what it answers behind the count of a visit to a word of that kind, with `left` depths left below it: a move made here
+  -- may spend one item, and each depth below one more
   abbrev pub Looks : (k : ℕ) → Type 0
-  Looks k = (weight spent from : ℕ) (e : Names) (q : Rule) (b : Closure) → kind (getD words index 0) ≡ k → Stage words table script kinds starts limits chosen somes left s index weight spent from e q b
+  Looks k = (weight spent from : ℕ) (e : Names) (q : Rule) (b : Closure) → kind (getD words index 0) ≡ k → Stage words table script kinds starts limits chosen somes (suc left) s index weight spent from e q b
       → walkedOf r ≡ look (closureSpace (limits .limit)) (settingOf limits) (λ e₁ q₁ m₁ n₁. walk (closureSpace (limits .limit)) (settingOf limits) left (257 - left) e₁ q₁ m₁ n₁) e q (machineOf script s b) (countOf c)
 
 -- To unfold this is to unfold every definition of this module: for a proof by computation.
