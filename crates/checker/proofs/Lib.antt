@@ -3,6 +3,7 @@ pub mod Runs
 pub mod Door
 pub mod Begun
 pub mod Answers
-pub mod Verdict
+pub mod Verdicts
 pub mod ClosureRuns
 pub mod Listed
+pub mod Ending

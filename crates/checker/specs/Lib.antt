@@ -3,4 +3,5 @@ pub mod Call
 pub mod Standing
 pub mod ClosureCall
 pub mod Running
+pub mod Answering
 pub mod Examples

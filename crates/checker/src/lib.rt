@@ -1,12 +1,41 @@
 // The call. It rests on the promises of all layers below.
+use bindings::tail;
 use closures::State;
 use closures::try_move;
+use closures::weigh;
+use writer::Fitting;
+use writer::write_tree;
 ghost use mathlib.Core.Path.{_≡_};
-ghost use Prim.Native.Nat.{_≤_, _<_};
-ghost use lib.ListN.{length};
-ghost use Rattle.closures.specs.Represents.{Ready};
-ghost use Rattle.checker.specs.Call.{actor, target, moveFits};
+ghost use mathlib.Core.Bool.{Bool, cond};
+ghost use mathlib.Core.List.{List, []};
+ghost use Prim.Native.Nat.{ℕ, _≤_, _<_};
+ghost use lib.ListN.{length, getD};
+ghost use Rattle.closures.specs.Closure.{Closure, unfolded, unfoldMachine};
+ghost use Rattle.closures.specs.Represents.{boundIn, Ready, Represents};
+ghost use Rattle.writer.specs.Bodies.{Scripted};
+ghost use Rattle.writer.specs.Buffer.{answered, buffered};
+ghost use Rattle.writer.specs.Write.{write};
+ghost use Rattle.checker.specs.Call.{actor, target, moveFits, accepted, refusal};
+ghost use Rattle.checker.specs.Call.{finish as finished};
+ghost use Rattle.checker.specs.Answering.{verdictOf, answerOf, callOf};
 ghost use Rattle.checker.specs.Running.{Runs};
+
+// Yes or no, or the question that refuses the call, and its place.
+pub enum Verdict {
+    Yes,
+    No,
+    Refused { question: u32, place: usize },
+}
+
+// What a call answers beside the buffer.
+pub struct Answer {
+    pub verdict: Verdict,
+    pub moves: usize,
+    pub visits: u32,
+    pub deepest: u32,
+    pub weight: usize,
+    pub words: u32,
+}
 
 // How a list of moves ends: all are made, or a question stops it at a place.
 pub enum Ended {
@@ -90,4 +119,93 @@ fn run_list<'a>(
         ended: Ended::Made,
         state: s,
     }
+}
+
+// The answer to a call that is refused.
+fn refused(question: u32, place: usize, moves: usize, visits: u32) -> Answer
+    ensures { λ r. ⌜ ((buffer : List ℕ) → answerOf r buffer ≡ refusal question place moves visits buffer) ⌝ }
+{
+    let verdict = Verdict::Refused { question, place };
+    Answer {
+        verdict,
+        moves,
+        visits,
+        deepest: 0,
+        weight: 0,
+        words: 0,
+    }
+}
+
+// The standing tree written into the buffer, where it fits.
+fn write_state<'a, 'b>(
+    script: &'a [u32],
+    kinds: &'a [u8; 64],
+    starts: &'a [u32; 64],
+    state: State,
+    out: &'b mut [u32],
+) -> Fitting
+    requires { ⌜ Ready (now script) (now kinds) (now starts) state × Scripted (now starts) (state .offsets) ⌝ }
+    ensures { λ r. ⌜ ((weight spent : ℕ) (b : Closure) → Represents (now (script .entry)) (now (kinds .entry)) (now (starts .entry)) weight spent state b → (r ≡ answered (write [] 0 (unfolded (boundIn (now (script .entry)) state) b)) (now (out .entry))) × (now (out .exit) ≡ buffered (write [] 0 (unfolded (boundIn (now (script .entry)) state) b)) (now (out .entry)))) ⌝ }
+{
+    let kids = state.kids;
+    let offsets = state.offsets;
+    let bindings = state.bindings;
+    let variables = bindings.variables;
+    let places = bindings.places;
+    let counts = bindings.counts;
+    let sizes = bindings.sizes;
+    let bulks = bindings.bulks;
+    let first = bindings.first;
+    write_tree(
+        script,
+        &kids,
+        kinds,
+        starts,
+        &offsets,
+        tail(&variables, first),
+        tail(&places, first),
+        tail(&counts, first),
+        tail(&sizes, first),
+        tail(&bulks, first),
+        out,
+    )
+}
+
+// Question 19, and the answer where it is yes: the tree is written, and everything counted.
+fn finish<'a, 'b>(
+    script: &'a [u32],
+    kinds: &'a [u8; 64],
+    starts: &'a [u32; 64],
+    state: State,
+    moves: usize,
+    yes: bool,
+    visits: u32,
+    deepest: u32,
+    out: &'b mut [u32],
+) -> Answer
+    requires { ⌜ Ready (now script) (now kinds) (now starts) state × Scripted (now starts) (state .offsets) ⌝ }
+    ensures { λ r. ⌜ ((list rule : List ℕ) (patience weight spent : ℕ) (b : Closure) → moves ≡ length list → Represents (now (script .entry)) (now (kinds .entry)) (now (starts .entry)) weight spent state b → answerOf r (now (out .exit)) ≡ finished (callOf (now (script .entry)) list rule patience (now (out .entry))) (unfoldMachine (record { tree = b; bindings = boundIn (now (script .entry)) state })) yes (record { visits = visits; deepest = deepest })) ⌝ }
+{
+    let fitting = write_state(script, kinds, starts, state, out);
+    match fitting {
+        Fitting::Refused { question, place } => refused(question, place, moves, visits),
+        Fitting::Words(words) => Answer {
+            verdict: said(yes),
+            moves,
+            visits,
+            deepest,
+            weight: weigh(state),
+            words,
+        },
+    }
+}
+
+// Yes or no.
+fn said(yes: bool) -> Verdict
+    ensures { λ r. ⌜ verdictOf r ≡ accepted yes ⌝ }
+{
+    if yes {
+        return Verdict::Yes;
+    }
+    Verdict::No
 }

@@ -1,0 +1,101 @@
+-- The end of a call: question 19, and what is counted and written where it is answered by yes. Assumes nothing.
+use Prim.Native.Nat.{ℕ, suc, _+_, _*_, _-_, min}
+use mathlib.Core.Bool.{Bool, true, false, cond}
+use mathlib.Core.List.{List, [], _∷_, _++_}
+use mathlib.Core.Path.{_≡_, refl, sym, ap, _∙_, subst}
+use native.Mathlib.Omega.{arith}
+use lib.Dec.{leb}
+use lib.ListN.{length, drop, length-drop}
+use Rattle.messages.specs.Message.{Message}
+use Rattle.scripts.specs.Tree.{parts}
+use Rattle.bindings.specs.Resolve.{bindingsIn}
+use Rattle.bindings.specs.Held.{bindingsOf}
+use Rattle.machine.specs.PlainMachine.{Machine, weightOf}
+use Rattle.machine.proofs.Options.{byTest}
+use Rattle.machine.proofs.Sums.{map-sum}
+use Rattle.closures.specs.Closure.{Closure, unfoldHead, unfolded, unfoldMachine}
+use Rattle.closures.specs.Represents.{boundIn, Counted}
+use Rattle.closures.specs.declared.State.{State}
+use Rattle.writer.specs.Write.{write}
+use Rattle.writer.specs.Buffer.{over, room, answered, buffered}
+use Rattle.writer.specs.declared.Fitting.{Fitting}
+use Rattle.writer.specs.declared.Fitting.the-variants.{Words, Refused}
+use Rattle.walk.specs.Walk.{Count}
+use Rattle.checker.specs.Call.{Call, accepted, refusal, written, finish}
+use Rattle.checker.specs.Call as plain
+use Rattle.checker.specs.Answering.{verdictOf, answerOf}
+use Rattle.checker.specs.declared.Answer.{Answer}
+
+-- ---- the writer's answer taken apart
+
+abbrev questionOf : Fitting → ℕ
+questionOf (Words n) = 0
+questionOf (Refused q p) = suc q
+
+abbrev placeOf : Fitting → ℕ
+placeOf (Words n) = 0
+placeOf (Refused q p) = p
+
+abbrev wordsOf : Fitting → ℕ
+wordsOf (Words n) = n
+wordsOf (Refused q p) = 0
+
+module _ (c : Call) (m : Machine) (a : Bool) (n : Count) (r : Answer) (after : List ℕ) where
+  -- what the call's end comes to, u saying whether the tree fits
+  abbrev ended : Bool → plain.Answer
+  ended u =
+      cond u
+      (record {
+        verdict = accepted a;
+        moves = length (c .moves);
+        visits = n .visits;
+        deepest = n .deepest;
+        weight = weightOf m;
+        words = length (written m);
+        buffer = written m ++ drop (length (written m)) (c .buffer);
+      })
+      (refusal 19 0 (length (c .moves)) (n .visits) (c .buffer))
+
+  unfit : (u : Bool) (q p k : ℕ) → k ≡ length (c .moves) → Refused q p ≡ cond u (Words (length (written m))) (Refused 19 0) → after ≡ cond u (over (written m) (c .buffer)) (c .buffer)
+      → ((b : List ℕ) → answerOf r b ≡ refusal q p k (n .visits) b) → answerOf r after ≡ ended u
+  unfit true q p k em e w d = absurd (let z : suc q ≡ 0 = ap questionOf e in let o : ⊥ = omega arith in o)
+  unfit false q p k em e w d =
+      let y : suc q ≡ 20 = ap questionOf e in
+      let q19 : q ≡ 19 = omega arith in
+      let p0 : p ≡ 0 = ap placeOf e in
+      d after ∙ (λ i. refusal (q19 i) (p0 i) (em i) (n .visits) (w i))
+
+  fit : (u : Bool) (k : ℕ) → Words k ≡ cond u (Words (length (written m))) (Refused 19 0) → after ≡ cond u (over (written m) (c .buffer)) (c .buffer)
+      → verdictOf (r .verdict) ≡ accepted a → r .moves ≡ length (c .moves) → r .visits ≡ n .visits → r .deepest ≡ n .deepest → r .weight ≡ weightOf m → r .words ≡ k → answerOf r after ≡ ended u
+  unfolding over answerOf
+  fit true k e w ev em es ed ew ek =
+      let k0 : k ≡ length (written m) = ap wordsOf e in
+      λ i. record { verdict = ev i; moves = em i; visits = es i; deepest = ed i; weight = ew i; words = (ek ∙ k0) i; buffer = w i }
+  fit false k e w ev em es ed ew ek = absurd (let z : 0 ≡ 20 = ap questionOf e in let o : ⊥ = omega arith in o)
+
+  module _ (wrote : after ≡ buffered (written m) (c .buffer)) where
+    pub ends-refused : (q p k : ℕ) → k ≡ length (c .moves) → Refused q p ≡ answered (written m) (c .buffer) → ((b : List ℕ) → answerOf r b ≡ refusal q p k (n .visits) b) → answerOf r after ≡ finish c m a n
+    unfolding finish answered buffered room
+    ends-refused q p k em e d = unfit (leb (length (written m)) (min (length (c .buffer)) 268435456)) q p k em e wrote d
+
+    pub ends-words : (k : ℕ) → Words k ≡ answered (written m) (c .buffer) → verdictOf (r .verdict) ≡ accepted a → r .moves ≡ length (c .moves) → r .visits ≡ n .visits → r .deepest ≡ n .deepest
+        → r .weight ≡ weightOf m → r .words ≡ k → answerOf r after ≡ finish c m a n
+    unfolding finish answered buffered room
+    ends-words k e ev em es ed ew ek = fit (leb (length (written m)) (min (length (c .buffer)) 268435456)) k e wrote ev em es ed ew ek
+
+-- ---- the weight
+
+as-many : (script vs ps : List ℕ) → length ps ≡ length vs → length (bindingsIn script vs ps) ≡ length vs
+unfolding bindingsIn
+as-many script [] ps e = refl
+as-many script (v ∷ vs) [] e = absurd (let o : ⊥ = omega arith in o)
+as-many script (v ∷ vs) (p ∷ ps) e = ap suc (as-many script vs ps (omega arith))
+
+-- the receipts made are the bindings that are held
+pub weighs-so : (script : List ℕ) (s : State) (b : Closure) → length (s .bindings .variables) ≡ 32 → Counted script (s .bindings) → (w : ℕ) → w ≡ parts b + 2 * (32 - s .bindings .first)
+    → w ≡ weightOf (unfoldMachine (record { tree = b; bindings = boundIn script s }))
+unfolding weightOf unfoldMachine unfolded bindingsOf
+weighs-so script s b long counted w e =
+    let many : length (boundIn script s) ≡ 32 - s .bindings .first
+    = as-many script (drop (s .bindings .first) (s .bindings .variables)) (drop (s .bindings .first) (s .bindings .places)) (counted .cached .counted .aligned) ∙ length-drop (s .bindings .first) (s .bindings .variables) ∙ ap (λ (k : ℕ). k - s .bindings .first) long in
+    e ∙ (λ i. sym (map-sum (λ j h. 1) (unfoldHead (boundIn script s)) b) i + 2 * sym many i)

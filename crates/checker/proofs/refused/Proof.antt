@@ -1,0 +1,15 @@
+-- `refused` meets its contract. Assumes nothing.
+use mathlib.Core.Path.{refl}
+use Rattle.checker.specs.Call.{refusal}
+use Rattle.checker.specs.Answering.{verdictOf, answerOf}
+use Rattle.checker.proofs.refused.Statement.{statement}
+use Rattle.checker.proofs.refused.Tie as tie
+use Rattle.checker.proofs.refused.Reads as reads
+use Rattle.checker.proofs.refused.Lts as lts
+
+returns : tie.Need-returns
+unfolding refusal verdictOf answerOf
+returns c b = refl
+
+pub refused-spec : {M : Type 1} → statement M
+refused-spec = tie.close (tie.spec returns)

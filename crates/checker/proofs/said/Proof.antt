@@ -1,0 +1,19 @@
+-- `said` meets its contract. Assumes nothing.
+use mathlib.Core.Path.{_≡_, sym, ap}
+use Rattle.checker.specs.Call.{accepted}
+use Rattle.checker.specs.Answering.{verdictOf}
+use Rattle.checker.proofs.said.Statement.{statement}
+use Rattle.checker.proofs.said.Tie as tie
+use Rattle.checker.proofs.said.Reads as reads
+use Rattle.checker.proofs.said.Lts as lts
+
+returns : tie.Need-returns
+unfolding verdictOf
+returns c = ap accepted (sym (c .if1 .taken))
+
+returns-2 : tie.Need-returns-2
+unfolding verdictOf
+returns-2 c = ap accepted (sym (c .if1 .left))
+
+pub said-spec : {M : Type 1} → statement M
+said-spec = tie.close (tie.spec returns returns-2)

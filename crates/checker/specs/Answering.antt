@@ -1,0 +1,36 @@
+-- The engine's answers by document 01's numbers, and the call as a definition is fed it. Assumes nothing: these are
+-- definitions.
+use Prim.Native.Nat.{ℕ}
+use mathlib.Core.Bool.{true, false}
+use mathlib.Core.List.{List}
+use Rattle.checker.specs.Call.{Call}
+use Rattle.checker.specs.Call as plain
+use Rattle.checker.specs.declared.Verdict.{Verdict}
+use Rattle.checker.specs.declared.Verdict.the-variants.{Yes, No, Refused}
+use Rattle.checker.specs.declared.Answer.{Answer}
+
+unfoldable pub verdictOf : Verdict → plain.Verdict
+verdictOf Yes = plain.accepted true
+verdictOf No = plain.accepted false
+verdictOf (Refused q i) = plain.refused q i
+
+-- the answer, with the buffer as it is at exit
+unfoldable pub answerOf : Answer → (buffer : List ℕ) → plain.Answer
+answerOf a b = record {
+  verdict = verdictOf (a .verdict);
+  moves = a .moves;
+  visits = a .visits;
+  deepest = a .deepest;
+  weight = a .weight;
+  words = a .words;
+  buffer = b;
+}
+
+-- what a call is lent
+abbrev pub callOf : (script moves rule : List ℕ) (patience : ℕ) (buffer : List ℕ) → Call
+callOf script moves rule patience buffer = record { script = script; moves = moves; rule = rule; patience = patience; buffer = buffer }
+
+-- To unfold this is to unfold every definition of this module: for a proof by computation.
+unfoldable pub computing : Unit {0}
+unfolding verdictOf answerOf
+computing = tt
