@@ -11,9 +11,9 @@ use Rattle.messages.specs.declared.Named.the-variants.{Called}
 use Rattle.scripts.specs.Tree.{Head, one, sum, count, put, PlainHead, Plain}
 use Rattle.machine.specs.Bodies.{find, drop, alter}
 use Rattle.machine.specs.Moves.{Moved, headName, spentHead, spend, moveHere}
-use Rattle.machine.specs.PlainMachine.{rest, substituteHead, substituteBody, plain, move}
+use Rattle.machine.specs.PlainMachine.{rest, substituteBody, plain, move}
 use Rattle.machine.proofs.Inversion.{Opened, Received, Entered, Exited, Here, by-open, by-receive, by-enter, by-exit, here-inv, Makes, now, inner, outer, plain-name, plain-enter, plain-exit, plain-open, move-inv}
-use Rattle.machine.proofs.Sums.{find-drop, apart, find-sum, drop-sum, alter-sum, map-sum, entered-target, received-target, spend-sum, made-sum}
+use Rattle.machine.proofs.Sums.{find-drop, apart, find-sum, drop-sum, alter-sum, entered-target, received-target, spend-sum, made-sum}
 use Rattle.calculus.specs.Calculus.{Process, _∣_, ambient, action, input, output, _≅_, Refl, Symm, Trans, Par, Amb, ParComm, ParAssoc, prefix, piece, process, _⟶_, RedIn, RedOut, RedOpen, RedIO, RedPar, RedAmb, RedCong}
 use Rattle.calculus.proofs.Congruences.{par-both, par-swap}
 use Rattle.calculus.proofs.Processes.{Distinct, Once, own-count, count-shrinks, put-process, merge-process, alter-process, alter-merge, find-process, settle-process, binds, bindings, own-binds, substitute-process}

@@ -1,8 +1,7 @@
 -- The answer taken apart: a call that is accepted has read its script and its rule and made its moves, and its walk said so.
 -- Assumes nothing.
 use Prim.Native.Nat.{ℕ, _+_, min}
-use mathlib.Core.Bool.{Bool, true, false, cond, _&&_}
-use mathlib.Core.List.{List, []}
+use mathlib.Core.Bool.{Bool, _&&_}
 use mathlib.Core.Path.{_≡_, refl, sym, ap, _∙_}
 use native.Mathlib.Omega.{arith}
 use lib.Dec.{leb}
@@ -16,7 +15,7 @@ use Rattle.rules.specs.Rule.{Rule}
 use Rattle.rules.specs.ReadRule.{readWholeRule}
 use Rattle.walk.specs.Walk.{Count, Walked, stopped, says, walkFrom}
 use Rattle.walk.specs.PlainWalk.{plainSpace}
-use Rattle.checker.specs.Call.{Call, Answer, Verdict, accepted, refused, refusal, Ran, halted, moved, run, begun, written, finish, walked, setting, ruleRun, ruleRead, scriptRead, answer}
+use Rattle.checker.specs.Call.{Call, accepted, refused, refusal, Ran, halted, moved, run, begun, written, finish, walked, setting, ruleRun, ruleRead, scriptRead, answer}
 use Rattle.checker.specs.Standing.{Standing}
 use Rattle.checker.proofs.Runs.{moved-is}
 

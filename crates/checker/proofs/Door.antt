@@ -1,28 +1,27 @@
 -- The script and the rule as read: their part numbers and their names are below what the call hands to the walk.
 -- Assumes nothing.
-use Prim.Native.Nat.{ℕ, _+_, _-_, _≤_, _<_, max}
-use mathlib.Core.Bool.{Bool, true, false, cond, _&&_, _||_, true≢false, false≢true}
-use mathlib.Core.List.{List, [], _∷_}
-use mathlib.Core.Path.{_≡_, refl, sym, ap, _∙_, subst}
-use mathlib.Core.Logic.{_⊎_, inl, inr}
+use Prim.Native.Nat.{ℕ, _-_, _≤_, _<_, max}
+use mathlib.Core.Bool.{true, _||_}
+use mathlib.Core.List.{List, _∷_}
+use mathlib.Core.Path.{_≡_, refl, _∙_, subst}
 use native.Mathlib.Omega.{arith}
-use lib.Dec.{leb, ltb, eqb}
+use lib.Dec.{leb, eqb}
 use borrow.Author.Tests.{eqb-true, eq-eqb, leb-false, lt-ltb}
 use Rattle.messages.specs.Words.{operand, kind, nameFits}
 use Rattle.messages.specs.Reading.{Cursor, cursor, got, nextPart}
-use Rattle.messages.specs.Message.{Message, name, items}
+use Rattle.messages.specs.Message.{Message, name}
 use Rattle.messages.specs.ReadMessage.{ifZero, messageKind, messageWord}
 use Rattle.messages.specs.declared.MessageWord.{MessageWord}
 use Rattle.messages.specs.declared.MessageWord.the-variants.{Name, Variable, Enter, Exit, Open, Empty, Path, Unfit}
 use Rattle.messages.proofs.Readings.{Next}
 use Rattle.messages.proofs.Cases as message
-use Rattle.scripts.specs.Tree.{Head, ambient, action, receipt, output, Body, close, part, mapHeads, settle, bare, sum, parts}
+use Rattle.scripts.specs.Tree.{Head, ambient, action, receipt, output, close, part, settle, bare, parts}
 use Rattle.scripts.specs.Script.{Written, Script, readScript, holdHead, hold, started}
 use Rattle.scripts.specs.Measures.{greatestName}
 use Rattle.scripts.proofs.Cases as body
 use Rattle.machine.proofs.Options.{byTest}
 use Rattle.machine.proofs.Everywhere.{Everywhere, map-everywhere, more-everywhere, settle-everywhere}
-use Rattle.rules.specs.Rule.{Term, constant, chosen, Rule, always, negation, either, void, at, beside, some-name, sometime, somewhere, placed, ruleName, greatestRuleName}
+use Rattle.rules.specs.Rule.{Rule, negation, either, at, beside, some-name, sometime, somewhere, ruleName, greatestRuleName}
 use Rattle.rules.specs.ReadRule.{isChosen, termOf, readWholeRule}
 use Rattle.rules.proofs.Cases as rule
 use Rattle.walk.proofs.Fits.{MessageAll, HeadAll, Fit, Fits, TermAll, RuleAll, items-all, rule-more}

@@ -2,21 +2,18 @@
 use Prim.Native.Nat.{ℕ, suc, _+_, _*_, _-_, min}
 use mathlib.Core.Bool.{Bool, true, false, cond}
 use mathlib.Core.List.{List, [], _∷_, _++_}
-use mathlib.Core.Path.{_≡_, refl, sym, ap, _∙_, subst}
+use mathlib.Core.Path.{_≡_, refl, sym, ap, _∙_}
 use native.Mathlib.Omega.{arith}
 use lib.Dec.{leb}
 use lib.ListN.{length, drop, length-drop}
-use Rattle.messages.specs.Message.{Message}
 use Rattle.scripts.specs.Tree.{parts}
 use Rattle.bindings.specs.Resolve.{bindingsIn}
 use Rattle.bindings.specs.Held.{bindingsOf}
 use Rattle.machine.specs.PlainMachine.{Machine, weightOf}
-use Rattle.machine.proofs.Options.{byTest}
 use Rattle.machine.proofs.Sums.{map-sum}
 use Rattle.closures.specs.Closure.{Closure, unfoldHead, unfolded, unfoldMachine}
 use Rattle.closures.specs.Represents.{boundIn, Counted}
 use Rattle.closures.specs.declared.State.{State}
-use Rattle.writer.specs.Write.{write}
 use Rattle.writer.specs.Buffer.{over, room, answered, buffered}
 use Rattle.writer.specs.declared.Fitting.{Fitting}
 use Rattle.writer.specs.declared.Fitting.the-variants.{Words, Refused}

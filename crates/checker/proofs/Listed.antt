@@ -10,14 +10,13 @@ use lib.ListN.{getD, drop, length}
 use borrow.Author.Tests.{ltb-true}
 use Rattle.messages.specs.Words.{kind, operand}
 use Rattle.machine.proofs.Options.{and-inv}
-use Rattle.machine.specs.Moves.{Moved}
-use Rattle.closures.specs.Closure.{Action, Closure, Bindings, closureMove, ClosureMachine}
+use Rattle.closures.specs.Closure.{Closure, Bindings, closureMove, ClosureMachine}
 use Rattle.closures.specs.Represents.{boundIn, Represents}
 use Rattle.closures.specs.Targets.{isSome}
 use Rattle.closures.specs.Makes.{Makes, Tries}
 use Rattle.closures.specs.declared.State.{State}
 use Rattle.checker.specs.Call.{actor, target, moveFits}
-use Rattle.checker.specs.ClosureCall.{ClosureRan, halted, moved, afterMove, ifMade, closureRun}
+use Rattle.checker.specs.ClosureCall.{halted, moved, afterMove, ifMade, closureRun}
 use Rattle.checker.specs.Running.{Ends, Runs}
 use Rattle.checker.specs.declared.Ended.{Ended}
 use Rattle.checker.specs.declared.Ended.the-variants.{Made, Halted}

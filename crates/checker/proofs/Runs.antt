@@ -1,21 +1,19 @@
 -- Lists of moves: what every move keeps, a list keeps; and the weight. Assumes nothing.
-use Prim.Native.Nat.{ℕ, zero, suc, _+_, _*_, _≤_}
-use mathlib.Core.Bool.{Bool, true, false, cond}
+use Prim.Native.Nat.{ℕ, suc, _+_, _*_, _≤_}
 use mathlib.Core.List.{List, [], _∷_}
 use mathlib.Core.Option.{Option, none, some}
-use mathlib.Core.Path.{_≡_, refl, sym, ap, _∙_, subst}
+use mathlib.Core.Path.{_≡_, refl, subst}
 use native.Mathlib.Omega.{arith}
-use lib.ListN.{length, take}
+use lib.ListN.{take}
 use Rattle.messages.specs.Message.{Message}
-use Rattle.messages.specs.Reading.{Cursor, got}
-use Rattle.scripts.specs.Tree.{Plain, sum, parts, mapHeads, settle, bare}
-use Rattle.scripts.specs.Script.{Written, Script, readScript, holdHead, hold, started}
+use Rattle.scripts.specs.Tree.{parts, settle, bare}
+use Rattle.scripts.specs.Script.{Written, Script, holdHead, hold, started}
 use Rattle.machine.specs.Moves.{Moved}
 use Rattle.machine.specs.PlainMachine.{move, Machine, weightOf}
 use Rattle.machine.proofs.Options.{byTest}
 use Rattle.machine.proofs.Sums.{map-sum, settle-sum, weight}
-use Rattle.checker.specs.Call.{Call, Ran, halted, moved, actor, target, moveFits, afterMove, ifMade, run, begun}
-use Rattle.checker.specs.Standing.{After, WeightHolds}
+use Rattle.checker.specs.Call.{Call, halted, moved, actor, target, moveFits, afterMove, ifMade, run, begun}
+use Rattle.checker.specs.Standing.{WeightHolds}
 
 pub halted≢moved : {B : Type 0} {q i : ℕ} {m : Machine} → halted q i ≡ moved m → B
 halted≢moved e = let z : _≡_ {A = ℕ} 0 1 = cc in absurd (let w : ⊥ = omega arith in w)

@@ -1,31 +1,25 @@
 -- Demand 2: the call's yes and no are right, by satisfaction on trees and by the paper's own relation. No premise is left.
 -- Assumes nothing.
 use Prim.Native.Nat.{ℕ, _+_, _≤_, _<_}
-use mathlib.Core.Bool.{Bool, true, false, false≢true}
-use mathlib.Core.List.{List, []}
-use mathlib.Core.Path.{_≡_, refl, sym, ap, _∙_, subst}
+use mathlib.Core.Bool.{Bool, true, false}
+use mathlib.Core.List.{[]}
+use mathlib.Core.Path.{_≡_, subst}
 use mathlib.Core.Logic.{_↔_}
-use mathlib.Core.Option.{some}
 use native.Mathlib.Omega.{arith}
-use lib.ListN.{length}
-use Rattle.messages.specs.Reading.{Cursor}
-use Rattle.scripts.specs.Script.{Script, started}
 use Rattle.scripts.specs.Measures.{greatestName}
-use Rattle.machine.specs.PlainMachine.{Machine}
-use Rattle.rules.specs.Rule.{Rule, greatestRuleName}
 use Rattle.calculus.specs.Satisfaction.{Sat}
-use Rattle.calculus.specs.Calculus.{Satisfies, process}
+use Rattle.calculus.specs.Calculus.{process}
 use Rattle.calculus.proofs.Kept.{Good, good-move}
 use Rattle.calculus.proofs.Agreement.{agree}
-use Rattle.walk.specs.Walk.{Count, says}
+use Rattle.walk.specs.Walk.{says}
 use Rattle.walk.proofs.Fits.{Fits, fits-more, rule-more, move-fits}
 use Rattle.walk.proofs.Deciding.{Known, walk-yes, walk-no}
-use Rattle.checker.specs.Call.{Call, Answer, accepted, answer, setting, begun}
+use Rattle.checker.specs.Call.{Call, accepted, answer, setting, begun}
 use Rattle.checker.specs.Standing.{Standing, Meets, Holds}
 use Rattle.checker.proofs.Runs.{run-keeps}
 use Rattle.checker.proofs.Door.{script-fits, rule-fits}
 use Rattle.checker.proofs.Begun.{script-good, rule-places}
-use Rattle.checker.proofs.Answers.{Says, answer-inv, Same, same}
+use Rattle.checker.proofs.Answers.{Says, answer-inv, same}
 
 -- The premises of the walk's theorem hold of every call.
 known : (c : Call) (s : Standing c) → Known (s .script .1 .number + s .rule .1 .number) (setting c (s .script .1 .number)) [] (s .rule .0) (s .machine .tree)

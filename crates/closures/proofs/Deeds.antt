@@ -1,5 +1,5 @@
 -- What a part does first, by its kind and first item, is what its head does. Assumes nothing.
-use Prim.Native.Nat.{ℕ, zero, suc, _+_, _≤_, _<_}
+use Prim.Native.Nat.{ℕ, zero, suc, _+_, _<_}
 use mathlib.Core.Bool.{Bool, true, false, not, _&&_, _||_, cond}
 use mathlib.Core.List.{List, [], _∷_}
 use mathlib.Core.Path.{_≡_, refl, sym, ap, _∙_, subst}
@@ -12,11 +12,10 @@ use Rattle.messages.specs.Message.{Message, name, variable, enter, exit, opens,
 use Rattle.messages.specs.Spelling.{messageAt}
 use Rattle.messages.specs.declared.Named.{Named}
 use Rattle.messages.specs.declared.First.{First}
-use Rattle.messages.specs.declared.First.the-variants.{Nothing, Enter, Exit, Open, Other}
 use Rattle.sets.specs.Sets.{members, elem, insert, remove}
 use Rattle.sets.proofs.Lists.{elem-insert, elem-remove}
 use Rattle.bindings.specs.Resolve.{resolve}
-use Rattle.scripts.specs.Tree.{Head, ambient, action, receipt, output}
+use Rattle.scripts.specs.Tree.{ambient, action, receipt, output}
 use Rattle.machine.specs.Moves.{sameName, firstOf, headName}
 use Rattle.machine.proofs.Options.{byTest}
 use Rattle.closures.specs.Closure.{Action, ClosureHead, Bindings, itemsLeft, under, allSpent}

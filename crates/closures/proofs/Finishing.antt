@@ -1,27 +1,26 @@
 -- The moves as the engine makes them: the sets are changed, the actor's item is spent or its variable bound, and the state
 -- is settled. Assumes nothing.
-use Prim.Native.Nat.{ℕ, _+_, _*_, _-_, _≤_, _<_}
-use mathlib.Core.Bool.{Bool, true, false, not, _&&_, true≢false}
+use Prim.Native.Nat.{ℕ, _+_, _-_, _<_}
+use mathlib.Core.Bool.{true, false, not, true≢false}
 use mathlib.Core.List.{List, [], _∷_, _++_}
 use mathlib.Core.Path.{_≡_, refl, sym, ap, _∙_, subst}
 use native.Mathlib.Omega.{arith}
 use lib.Dec.{eqb, ltb}
 use lib.ListN.{getD, set, length, drop}
-use borrow.Author.Tests.{eqb-true, ltb-true}
-use Rattle.messages.specs.Message.{Message}
+use borrow.Author.Tests.{ltb-true}
 use Rattle.messages.specs.Spelling.{messageAt}
 use Rattle.messages.specs.declared.Named.{Named}
 use Rattle.messages.specs.declared.Named.the-variants.{Nameless}
 use Rattle.messages.specs.declared.First.{First}
 use Rattle.messages.specs.declared.First.the-variants.{Nothing}
 use Rattle.sets.specs.Sets.{members, elem, insert, remove, join}
-use Rattle.scripts.specs.Tree.{receipt, output, tops, parts}
+use Rattle.scripts.specs.Tree.{receipt, output, parts}
 use Rattle.scripts.specs.Represents.{bodyIn}
 use Rattle.bindings.specs.Held.{bindingsOf}
 use Rattle.bindings.specs.declared.Bindings as arrays
-use Rattle.machine.specs.Moves.{sameName, toEnter, toExit, toOpen, firstOf, headName, variableOf, messageOf, moveHere}
+use Rattle.machine.specs.Moves.{sameName, toEnter, toExit, toOpen, firstOf, headName, variableOf, messageOf}
 use Rattle.machine.proofs.Inversion.{here-inv}
-use Rattle.machine.proofs.Options.{byTest, and-inv}
+use Rattle.machine.proofs.Options.{and-inv}
 use Rattle.closures.specs.Closure.{ClosureHead, Closure, Bindings, under, settleUnder}
 use Rattle.closures.specs.Represents.{headOf, heads, boundIn, Ready, Represents}
 use Rattle.closures.specs.Searches.{place, Stands}

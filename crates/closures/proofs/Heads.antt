@@ -1,12 +1,12 @@
 -- What the part table and an offset hold of a head, kind by kind. Assumes nothing.
-use Prim.Native.Nat.{ℕ, suc, _+_, _≤_, _<_, min}
-use mathlib.Core.Bool.{Bool, true, false, cond}
+use Prim.Native.Nat.{ℕ, suc, _+_, _≤_, _<_}
+use mathlib.Core.Bool.{true, false}
 use mathlib.Core.List.{List}
 use mathlib.Core.Path.{_≡_, refl, sym, ap, _∙_}
 use native.Mathlib.Omega.{arith}
 use lib.Dec.{eqb, leb}
 use lib.ListN.{length, drop}
-use borrow.Author.Tests.{eqb-true, eqb-false, eq-eqb, ne-eqb, leb-true, leb-false, le-leb, lt-leb}
+use borrow.Author.Tests.{eqb-true, eqb-false, leb-true, leb-false, le-leb, lt-leb}
 use Rattle.messages.specs.Message.{Message, items, nameOf, firstItem}
 use Rattle.messages.specs.Spelling.{messageAt}
 use Rattle.messages.specs.declared.Named.the-variants.{Nameless}
@@ -16,7 +16,7 @@ use Rattle.bindings.specs.Resolve.{resolve, messageOf}
 use Rattle.bindings.specs.Measures.{capped}
 use Rattle.machine.specs.Moves.{headName, firstOf, spentHead}
 use Rattle.machine.proofs.Options.{byTest}
-use Rattle.closures.specs.Closure.{Action, ClosureHead, Bindings, itemsLeft, under, allSpent}
+use Rattle.closures.specs.Closure.{ClosureHead, Bindings, itemsLeft, under, allSpent}
 use Rattle.closures.specs.Represents.{headOf}
 
 -- a count that stops at 2^32 - 1 is compared as the count itself

@@ -1,6 +1,6 @@
 -- Tables of the parts, filled part by part: sets by a test, names, and what each part does first. Assumes nothing.
 use Prim.Native.Nat.{ℕ, _+_, _≤_, _<_}
-use mathlib.Core.Bool.{Bool, true, false, not, _&&_, _||_, cond}
+use mathlib.Core.Bool.{Bool, true, false, not, _&&_, cond}
 use mathlib.Core.List.{List, []}
 use mathlib.Core.Path.{_≡_, refl, sym, ap, _∙_, subst}
 use native.Mathlib.Omega.{arith}
@@ -13,7 +13,7 @@ use Rattle.messages.specs.declared.Named.the-variants.{Called, Nameless}
 use Rattle.sets.specs.Sets.{members, elem, insert, both}
 use Rattle.sets.proofs.Lists.{elem-insert}
 use Rattle.sets.proofs.Members.{elem-keep}
-use Rattle.machine.specs.Moves.{isThat, sameName}
+use Rattle.machine.specs.Moves.{isThat}
 use Rattle.machine.proofs.Options.{byTest}
 use Rattle.closures.specs.Seen.{nameIn}
 

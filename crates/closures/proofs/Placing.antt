@@ -1,25 +1,24 @@
 -- The state with its top parts in the body of one new ambient, whose start stands for its name. Assumes nothing.
 use Prim.Native.Nat.{ℕ, _+_, _*_, _-_, _≤_, _<_}
-use mathlib.Core.Bool.{Bool, true, false, cond}
 use mathlib.Core.List.{List, [], _∷_}
 use mathlib.Core.Path.{_≡_, refl, sym, ap, _∙_, subst}
 use native.Mathlib.Omega.{arith}
-use lib.Dec.{eqb, ltb}
+use lib.Dec.{eqb}
 use lib.ListN.{getD, set, length}
 use lib.Seq.{getD-set-same, getD-set-other, lt-length-set}
-use borrow.Author.Tests.{eqb-true, eqb-false, ne-eqb, le-ltb}
-use Rattle.messages.specs.Message.{Message, name}
+use borrow.Author.Tests.{eqb-true, ne-eqb, le-ltb}
+use Rattle.messages.specs.Message.{name}
 use Rattle.sets.specs.Sets.{members}
 use Rattle.scripts.specs.Tree.{ambient, close, part, one, tops, sum, parts, count}
-use Rattle.scripts.specs.Represents.{Held, bodyIn}
+use Rattle.scripts.specs.Represents.{bodyIn}
 use Rattle.bindings.specs.Resolve.{messageOf}
 use Rattle.bindings.specs.declared.Bindings as arrays
 use Rattle.machine.proofs.Options.{byTest}
-use Rattle.closures.specs.Closure.{ClosureHead, Closure}
+use Rattle.closures.specs.Closure.{Closure}
 use Rattle.closures.specs.Represents.{headOf, heads, Represents}
 use Rattle.closures.specs.declared.State.{State}
 use Rattle.closures.proofs.Heads.{head-ambient}
-use Rattle.closures.proofs.Holding.{self, differ, frame}
+use Rattle.closures.proofs.Holding.{differ, frame}
 
 -- a start from 65536 on is a name
 given : (script : List ℕ) (n : ℕ) → messageOf script (65536 + n) ≡ name n

@@ -1,16 +1,16 @@
 -- A state that is settled, and the first state of a script, stand for the closures that the definitions make.
 -- Assumes nothing.
-use Prim.Native.Nat.{ℕ, _+_, _*_, _-_, _≤_, _<_}
-use mathlib.Core.List.{List, []}
+use Prim.Native.Nat.{ℕ, _-_, _≤_, _<_}
+use mathlib.Core.List.{List}
 use mathlib.Core.Path.{_≡_, refl, sym, ap, _∙_, subst}
 use native.Mathlib.Omega.{arith}
 use lib.Dec.{eqb, ltb}
-use lib.ListN.{getD, set, length, drop, replicate, getD-replicate, List·getD-eq-default}
+use lib.ListN.{getD, set, length, replicate, getD-replicate, List·getD-eq-default}
 use lib.Seq.{getD-set-same, getD-set-other}
 use borrow.Author.Tests.{lt-ltb, ltb-true, ltb-false}
 use Rattle.messages.specs.Message.{Message}
 use Rattle.sets.specs.Sets.{members}
-use Rattle.scripts.specs.Tree.{Head, Body, close, part, one, tops, sum, parts, count, mapHeads}
+use Rattle.scripts.specs.Tree.{Head, close, part, one, parts, count, mapHeads}
 use Rattle.scripts.specs.Script.{Written, Script}
 use Rattle.scripts.specs.Represents.{Held, bodyIn, headAt, headIn, written, Tabled}
 use Rattle.scripts.proofs.Numbers.{numbered-range}
@@ -26,8 +26,8 @@ use Rattle.bindings.specs.Held.{bindingsOf}
 use Rattle.closures.specs.Seen.{Seen}
 use Rattle.closures.specs.declared.Looks.{Looks}
 use Rattle.closures.specs.declared.State.{State}
-use Rattle.closures.proofs.Holding.{total, differ, frame}
-use Rattle.closures.proofs.Heads.{by-kind, kind-ambient}
+use Rattle.closures.proofs.Holding.{differ, frame}
+use Rattle.closures.proofs.Heads.{kind-ambient}
 use Rattle.closures.proofs.Settling.{settled-count}
 
 -- the state after its parts are settled from the top

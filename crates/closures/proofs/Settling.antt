@@ -1,6 +1,6 @@
 -- A body that is settled part by part: what the sets hold then. Assumes nothing.
-use Prim.Native.Nat.{ℕ, suc, _+_, _-_, _^_, _≤_, _<_}
-use mathlib.Core.Bool.{Bool, true, false, _&&_, _||_, cond, true≢false}
+use Prim.Native.Nat.{ℕ, suc, _-_, _^_, _≤_, _<_}
+use mathlib.Core.Bool.{Bool, true, false, _&&_, _||_, true≢false}
 use mathlib.Core.List.{List, [], _∷_}
 use mathlib.Core.Path.{_≡_, refl, sym, ap, ap₂, _∙_, subst}
 use native.Mathlib.Omega.{arith}
@@ -8,7 +8,7 @@ use lib.Dec.{eqb}
 use borrow.Author.Tests.{eqb-true, eq-eqb}
 use Rattle.sets.specs.Sets.{members, elem, insert, join, both, keep, headOr, tail, Rising, Below}
 use Rattle.sets.proofs.Members.{insert-front, elem-keep, members-empty, members-same, members-below}
-use Rattle.scripts.specs.Tree.{Head, ambient, action, receipt, output, close, part, one, isAmbient, tops, sum, parts, count, put, merge, settleBy}
+use Rattle.scripts.specs.Tree.{ambient, action, receipt, output, close, part, one, isAmbient, tops, sum, parts, count, settleBy}
 use Rattle.scripts.specs.Represents.{Held}
 use Rattle.machine.proofs.Options.{byTest}
 use Rattle.machine.proofs.Sums.{settle-sum}

@@ -1,7 +1,7 @@
 -- What a move that is made says: which parts were found where, which names they had, and the tree that stands after it.
 -- Over any view; then what names and first items are in the plain machine. Assumes nothing.
 use Prim.Native.Nat.{ℕ}
-use mathlib.Core.Bool.{true, false, not, _&&_, cond, false≢true}
+use mathlib.Core.Bool.{true, false, not, false≢true}
 use mathlib.Core.List.{List, [], _∷_}
 use mathlib.Core.Path.{_≡_, refl, sym, ap, _∙_, subst, subst₂}
 use mathlib.Core.Logic.{inl, inr}
@@ -13,8 +13,8 @@ use Rattle.messages.specs.Message.{Message, name, variable, enter, exit, opens,
 use Rattle.messages.specs.declared.Named.{Named}
 use Rattle.messages.specs.declared.Named.the-variants.{Called, Nameless}
 use Rattle.scripts.specs.Tree.{Head, ambient, action, receipt, output, Body, close, part, put, merge, Plain, settle}
-use Rattle.machine.specs.Bodies.{orElse, check, find, drop, alter, holder}
-use Rattle.machine.specs.Moves.{View, isNamed, isThat, sameName, toEnter, toExit, toOpen, Moved, variableOf, messageOf, quiet, onward, headName, firstOf, spend, enterMove, exitMove, openMove, receiveMove, moveHere, inside, anywhere}
+use Rattle.machine.specs.Bodies.{find, drop, alter}
+use Rattle.machine.specs.Moves.{View, isNamed, isThat, sameName, toEnter, toExit, toOpen, Moved, variableOf, messageOf, quiet, headName, firstOf, spend, enterMove, exitMove, openMove, receiveMove, moveHere, inside, anywhere}
 use Rattle.machine.specs.PlainMachine.{plain, settledBy, move}
 use Rattle.messages.specs.declared.First.{First}
 use Rattle.messages.specs.declared.First.the-variants.{Nothing, Enter, Exit, Open, Other}

@@ -4,7 +4,7 @@ use mathlib.Core.Bool.{true}
 use mathlib.Core.List.{List}
 use mathlib.Core.Path.{_≡_, refl, sym, ap, _∙_}
 use Rattle.messages.specs.Words.{member}
-use Rattle.messages.specs.Reading.{Cursor, Reading, got, _>>=_}
+use Rattle.messages.specs.Reading.{Cursor, got, _>>=_}
 use Rattle.messages.specs.Message.{Message, name, variable, enter, exit, opens, empty, path}
 use Rattle.messages.specs.ReadMessage.{messageWord, bound, messageFrom, readMessage}
 use Rattle.messages.specs.declared.MessageWord.{MessageWord}

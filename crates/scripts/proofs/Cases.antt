@@ -5,12 +5,12 @@ use mathlib.Core.Path.{_≡_}
 use mathlib.Core.Bool.{_&&_}
 use lib.Dec.{leb}
 use lib.ListN.{length}
-use Rattle.messages.specs.Reading.{Cursor, cursor, Reading, got, _>>=_, ask, nextWord, nextPart, isEmpty}
+use Rattle.messages.specs.Reading.{Cursor, cursor, got, ask, nextWord, nextPart, isEmpty}
 use Rattle.messages.specs.Message.{Message}
 use Rattle.messages.specs.ReadMessage.{readMessage}
 use Rattle.messages.proofs.Readings.{refuse≢got, bind-all, got-all, Next, next}
 use Rattle.scripts.specs.Tree.{Head, ambient, action, receipt, output, close, part}
-use Rattle.scripts.specs.Script.{Written, Script, partWord, fits, guardedFrom, partFrom, readBody, readScript}
+use Rattle.scripts.specs.Script.{Written, Script, partWord, fits, partFrom, readBody, readScript}
 use Rattle.scripts.specs.declared.PartWord.{PartWord}
 use Rattle.scripts.specs.declared.PartWord.the-variants.{Close, Ambient, Action, Receipt, Output, No}
 use Rattle.scripts.proofs.Laws.{or-close-all}

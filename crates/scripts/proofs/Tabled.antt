@@ -1,22 +1,22 @@
 -- The part table holds the tree that the words are read as. First the table alone, by the numbers of the parts; then
 -- what reading gives: the parts are numbered in word order, and their messages are those that the words spell.
 -- Assumes nothing.
-use Prim.Native.Nat.{ℕ, zero, suc, _+_, _-_, _≤_, _<_}
+use Prim.Native.Nat.{ℕ, _+_, _-_, _≤_, _<_}
 use mathlib.Core.Bool.{Bool, true, false, _&&_, true≢false}
 use mathlib.Core.List.{List, [], _∷_, _++_, append-assoc, append-nil}
 use mathlib.Core.Path.{_≡_, refl, sym, ap, ap₂, _∙_, subst}
 use mathlib.Core.Logic.{_⊎_, inl, inr, ⊎-elim}
 use native.Mathlib.Omega.{arith}
-use lib.ListN.{length, getD, set, drop, replicate, length-set, length-replicate, getD-replicate, List·getD-eq-default}
+use lib.ListN.{length, getD, set, replicate, length-set, length-replicate, getD-replicate, List·getD-eq-default}
 use lib.Seq.{getD-set-same, getD-set-other}
 use lib.Dec.{leb, ltb, eqb}
 use borrow.Author.Tests.{ne-eqb, eqb-true, eqb-false, lt-ltb, le-ltb, ltb-true, ltb-false, leb-true}
-use Rattle.sets.specs.Sets.{members, insert, mask, Rising, Below}
+use Rattle.sets.specs.Sets.{members, insert, mask, Below}
 use Rattle.sets.proofs.Members.{members-rising, members-below, members-empty}
 use Rattle.sets.proofs.Lists.{members-mask, insert-rising}
-use Rattle.messages.specs.Reading.{Cursor, cursor, Reading, got, _>>=_, ask, isEmpty}
+use Rattle.messages.specs.Reading.{Cursor, cursor, got, ask, isEmpty}
 use Rattle.messages.proofs.Readings.{bind-all, got-all, ask-inv}
-use Rattle.scripts.specs.Tree.{Head, ambient, action, receipt, output, Body, close, part, tops, sum, parts, mapHeads, kindNumber}
+use Rattle.scripts.specs.Tree.{Body, close, part, tops, sum, parts, mapHeads, kindNumber}
 use Rattle.scripts.specs.Script.{Written, Script, readBody, readScript}
 use Rattle.scripts.specs.Table.{vacant, entered, startOf, tabulate, scanned}
 use Rattle.scripts.specs.Represents.{Numbered, Held, bodyIn, headAt, headIn, written, Placed, Low, Tabled}

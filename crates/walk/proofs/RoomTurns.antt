@@ -13,7 +13,6 @@ use Rattle.closures.specs.Closure.{Closure, ClosureMachine}
 use Rattle.closures.specs.Represents.{heads, boundIn}
 use Rattle.closures.specs.declared.State.{State}
 use Rattle.walk.specs.Walk.{firstYes, look}
-use Rattle.walk.specs.Walk as spec
 use Rattle.walk.specs.ClosureWalk.{beside, insides}
 use Rattle.walk.specs.Visits.{countOf, walkedOf, Stage, machineOf, Visits, Looks}
 use Rattle.walk.specs.Pieces.{withTop}

@@ -4,15 +4,10 @@ use Rattle.messages.specs.Words.{operand}
 use borrow.Author.Needs.{needs}
 use Rattle.checker.proofs.actor_of.Statement.{statement}
 use Rattle.checker.proofs.actor_of.Tie as tie
-use Rattle.checker.proofs.actor_of.Reads as reads
-use Rattle.checker.proofs.actor_of.Lts as lts
-
-cast-result : tie.Need-cast-result
-cast-result c = search needs
 
 returns : tie.Need-returns
 unfolding operand
 returns c = refl
 
 pub actor-of-spec : {M : Type 1} → statement M
-actor-of-spec = tie.close (tie.spec cast-result returns)
+actor-of-spec = tie.close (tie.spec (λ c. search needs) returns)

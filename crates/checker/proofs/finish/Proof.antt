@@ -1,10 +1,8 @@
 -- `finish` meets its contract: the writer says whether the tree fits. Assumes nothing.
-use Prim.Native.Nat.{ℕ}
-use mathlib.Core.Path.{_≡_, refl, sym, ap, _∙_}
+use mathlib.Core.Path.{_≡_, refl, sym, _∙_}
 use lib.ListN.{length}
-use Rattle.closures.specs.Closure.{unfolded, unfoldMachine}
+use Rattle.closures.specs.Closure.{unfoldMachine}
 use Rattle.closures.specs.Represents.{boundIn}
-use Rattle.checker.specs.Call.{refusal}
 use Rattle.checker.specs.Answering.{callOf}
 use Rattle.checker.proofs.Ending.{ends-refused, ends-words, weighs-so}
 use borrow.Author.Needs.{needs}
@@ -28,32 +26,14 @@ long s = search (s .good .1 .1 .1 .0 .1 .1 .1 .1 .1 .0, s .good .1 .1 .1 .0 .1 .
 write-state-requires : tie.Need-write-state-requires
 write-state-requires c κs = c .before .before .before .pre
 
-enum-known-fitting : tie.Need-enum-known-fitting
-enum-known-fitting c = search needs
-
-refused-requires : tie.Need-refused-requires
-refused-requires c κs = search needs
-
-enum-known-fitting-2 : tie.Need-enum-known-fitting-2
-enum-known-fitting-2 c = search needs
-
-said-requires : tie.Need-said-requires
-said-requires c κs = search needs
-
 weigh-requires : tie.Need-weigh-requires
 weigh-requires c κs = c .before .before .before .before .before .before .before .before .before .before .pre .0 .bound .within
-
-same-length : tie.Need-same-length
-same-length c = search needs
 
 returns : tie.Need-returns
 unfolding unfoldMachine
 returns c list rule patience weight spent b em R =
     let w = c .before .before .before .before .before .before .write-state .ensures weight spent b R in
     ends-refused (callOf (c .before .before .before .before .before .before .before .before .before .before .args .script .now) list rule patience (c .before .before .before .before .before .before .before .before .before .before .args .out .now)) (unfoldMachine (record { tree = b; bindings = boundIn (c .before .before .before .before .before .before .before .before .before .before .args .script .now) (c .before .before .before .before .before .before .before .before .before .before .args .state) })) (c .before .before .before .before .before .before .before .before .before .before .args .yes) (record { visits = c .before .before .before .before .before .before .before .before .before .before .args .visits; deepest = c .before .before .before .before .before .before .before .before .before .before .args .deepest }) (c .refused .result) _ (w .1) _ _ (c .before .before .before .before .before .before .before .before .before .before .args .moves) em (sym (c .before .before .fitting .given .1) ∙ w .0) (c .refused .ensures)
-
-same-length-2 : tie.Need-same-length-2
-same-length-2 c = search needs
 
 returns-2 : tie.Need-returns-2
 unfolding unfoldMachine
@@ -67,12 +47,12 @@ finish-spec =
     tie.close
     (tie.spec
     write-state-requires
-    enum-known-fitting
-    refused-requires
-    enum-known-fitting-2
-    said-requires
+    (λ c. search needs)
+    (λ c κs. search needs)
+    (λ c. search needs)
+    (λ c κs. search needs)
     weigh-requires
-    same-length
+    (λ c. search needs)
     returns
-    same-length-2
+    (λ c. search needs)
     returns-2)

@@ -1,6 +1,6 @@
 -- `move_fits` meets its contract: the four tests of question 15. Assumes nothing.
 use Prim.Native.Nat.{ℕ}
-use mathlib.Core.Path.{_≡_, sym, ap, _∙_}
+use mathlib.Core.Path.{sym, ap, _∙_}
 use lib.Dec.{ltb}
 use borrow.Author.Tests.{eq-eqb, ne-eqb, lt-ltb, le-ltb}
 use Rattle.messages.specs.Words.{kind, operand}
@@ -8,10 +8,6 @@ use Rattle.checker.specs.Call.{moveFits}
 use borrow.Author.Needs.{needs}
 use Rattle.checker.proofs.move_fits.Statement.{statement}
 use Rattle.checker.proofs.move_fits.Tie as tie
-use Rattle.checker.proofs.move_fits.Reads as reads
-use Rattle.checker.proofs.move_fits.Lts as lts
-use Rattle.checker.proofs.actor_of.Reads as actor-of-reads
-use Rattle.checker.proofs.target_of.Reads as target-of-reads
 
 returns : tie.Need-returns
 unfolding moveFits kind operand
@@ -21,15 +17,9 @@ returns-2 : tie.Need-returns-2
 unfolding moveFits kind operand
 returns-2 c = sym (rw (eq-eqb _ 1 (c .before .if1 .left), le-ltb _ 65536 (c .if2 .taken)))
 
-actor-of-requires : tie.Need-actor-of-requires
-actor-of-requires c κs = search needs
-
 returns-3 : tie.Need-returns-3
 unfolding moveFits kind operand
 returns-3 c = sym (rw (eq-eqb _ 1 (c .before .before .before .if1 .left), lt-ltb _ 65536 (c .before .before .if2 .left), ← c .before .actor-of .ensures, le-ltb _ (c .before .before .before .before .args .parts) (c .if3 .taken)))
-
-target-of-requires : tie.Need-target-of-requires
-target-of-requires c κs = search needs
 
 returns-4 : tie.Need-returns-4
 unfolding moveFits kind operand
@@ -37,4 +27,4 @@ returns-4 c = ap (λ (n : ℕ). ltb n (c .before .before .before .before .before
 
 pub move-fits-spec : {M : Type 1} → statement M
 move-fits-spec =
-    tie.close (tie.spec returns returns-2 actor-of-requires returns-3 target-of-requires returns-4)
+    tie.close (tie.spec returns returns-2 (λ c κs. search needs) returns-3 (λ c κs. search needs) returns-4)

@@ -4,8 +4,6 @@ use Rattle.checker.specs.Call.{refusal}
 use Rattle.checker.specs.Answering.{verdictOf, answerOf}
 use Rattle.checker.proofs.refused.Statement.{statement}
 use Rattle.checker.proofs.refused.Tie as tie
-use Rattle.checker.proofs.refused.Reads as reads
-use Rattle.checker.proofs.refused.Lts as lts
 
 returns : tie.Need-returns
 unfolding refusal verdictOf answerOf

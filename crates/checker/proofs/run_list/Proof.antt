@@ -1,21 +1,15 @@
 -- `run_list` meets its contract: i moves are made. Assumes nothing.
 use native.Mathlib.Omega.{arith}
 use Prim.Native.Nat.{ℕ, _≤_, _<_, _-_}
-use mathlib.Core.Path.{_≡_, sym, _∙_, subst}
+use mathlib.Core.Path.{sym, _∙_, subst}
 use lib.ListN.{getD, length}
 use Rattle.closures.specs.Represents.{Ready}
 use Rattle.closures.specs.Makes.{Tries}
-use Rattle.checker.specs.Call.{actor, target}
+use Rattle.checker.specs.Call.{target}
 use Rattle.checker.proofs.Listed.{Going, going-none, going-ends, going-unfit, going-stuck, going-on, fitting}
 use borrow.Author.Needs.{needs}
 use Rattle.checker.proofs.run_list.Statement.{statement}
 use Rattle.checker.proofs.run_list.Tie as tie
-use Rattle.checker.proofs.run_list.Reads as reads
-use Rattle.checker.proofs.run_list.Lts as lts
-use Rattle.checker.proofs.actor_of.Reads as actor-of-reads
-use Rattle.checker.proofs.move_fits.Reads as move-fits-reads
-use Rattle.checker.proofs.target_of.Reads as target-of-reads
-use Rattle.closures.proofs.try_move.Reads as try-move-reads
 
 abbrev Inv-loop : tie.InvT-loop
 Inv-loop script kinds starts moves parts s₀ i₀ s i = (i ≤ length moves) × Ready script kinds starts s × Going script kinds starts parts moves s₀ i s
@@ -26,21 +20,6 @@ abbrev μ-loop : tie.MeasureT-loop
 loop-holds : tie.Need-loop-holds Inv-loop μ-loop
 loop-holds c = (search needs, c .before .before .pre .2, going-none (c .before .before .args .script .now) (c .before .before .args .kinds .now) (c .before .before .args .starts .now) (c .before .before .args .parts) (c .before .before .args .moves .now) (c .before .before .args .state))
 
-mul-w : tie.Need-mul-w Inv-loop μ-loop
-mul-w c = search needs
-
-shared-slice-read-w : tie.Need-shared-slice-read-w Inv-loop μ-loop
-shared-slice-read-w c = search needs
-
-move-fits-requires : tie.Need-move-fits-requires Inv-loop μ-loop
-move-fits-requires c κs = search needs
-
-actor-of-requires : tie.Need-actor-of-requires Inv-loop μ-loop
-actor-of-requires c κs = search needs
-
-target-of-requires : tie.Need-target-of-requires Inv-loop μ-loop
-target-of-requires c κs = search needs
-
 try-move-requires : tie.Need-try-move-requires Inv-loop μ-loop
 try-move-requires c κs =
     let f = fitting (c .before .before .before .before .before .before .before .before .before .args .parts) (getD (c .before .before .before .before .before .before .before .before .before .args .moves .now) (c .before .before .before .before .before .before .loop .i) 0) (c .before .before .before .before .before .before .before .before .before .pre .0) (sym (c .before .before .before .move-fits .ensures) ∙ c .before .before .if1 .taken) in
@@ -48,9 +27,6 @@ try-move-requires c κs =
 
 add-i : tie.Need-add-i Inv-loop μ-loop
 add-i c = omega (arith, c .before .before .before .before .before .before .before .before .loop-test .taken, c .before .before .before .before .before .before .before .before .before .before .before .before .pre .1)
-
-loop-less : tie.Need-loop-less Inv-loop μ-loop
-loop-less c = search needs
 
 loop-again : tie.Need-loop-again Inv-loop μ-loop
 loop-again c = (search needs, c .before .before .try-move .ensures .0, going-on (c .before .before .before .before .before .before .before .before .before .before .before .before .args .script .now) (c .before .before .before .before .before .before .before .before .before .before .before .before .args .kinds .now) (c .before .before .before .before .before .before .before .before .before .before .before .before .args .starts .now) (c .before .before .before .before .before .before .before .before .before .before .before .before .args .parts) (c .before .before .before .before .before .before .before .before .before .before .before .before .args .moves .now) (c .before .before .before .before .before .before .before .before .before .before .before .before .args .state) (c .before .before .before .before .before .before .before .before .before .loop .i) (c .before .before .before .before .before .before .before .before .before .loop .s) (c .before .before .before .before .before .before .before .before .before .loop .inv .2) (c .before .before .before .before .before .before .before .before .loop-test .taken) (sym (c .before .before .before .before .before .before .move-fits .ensures) ∙ c .before .before .before .before .before .if1 .taken) (c .before .before .try-move .result .state) (c .before .before .try-move .result .made) (subst (λ (n : ℕ). Tries (c .before .before .before .before .before .before .before .before .before .before .before .before .args .script .now) (c .before .before .before .before .before .before .before .before .before .before .before .before .args .kinds .now) (c .before .before .before .before .before .before .before .before .before .before .before .before .args .starts .now) (c .before .before .before .before .before .before .before .before .before .loop .s) (c .before .before .try-move .result .state) (c .before .before .try-move .result .made) n (target (getD (c .before .before .before .before .before .before .before .before .before .before .before .before .args .moves .now) (c .before .before .before .before .before .before .before .before .before .loop .i) 0))) (c .before .before .before .before .actor-of .ensures) (subst (λ (n : ℕ). Tries (c .before .before .before .before .before .before .before .before .before .before .before .before .args .script .now) (c .before .before .before .before .before .before .before .before .before .before .before .before .args .kinds .now) (c .before .before .before .before .before .before .before .before .before .before .before .before .args .starts .now) (c .before .before .before .before .before .before .before .before .before .loop .s) (c .before .before .try-move .result .state) (c .before .before .try-move .result .made) (c .before .before .before .before .actor-of .result) n) (c .before .before .before .target-of .ensures) (c .before .before .try-move .ensures .1))) (c .if2 .taken))
@@ -71,14 +47,14 @@ run-list-spec =
     Inv-loop
     μ-loop
     loop-holds
-    mul-w
-    shared-slice-read-w
-    move-fits-requires
-    actor-of-requires
-    target-of-requires
+    (λ c. search needs)
+    (λ c. search needs)
+    (λ c κs. search needs)
+    (λ c κs. search needs)
+    (λ c κs. search needs)
     try-move-requires
     add-i
-    loop-less
+    (λ c. search needs)
     loop-again
     returns
     returns-2

@@ -1,11 +1,9 @@
 -- `said` meets its contract. Assumes nothing.
-use mathlib.Core.Path.{_≡_, sym, ap}
+use mathlib.Core.Path.{sym, ap}
 use Rattle.checker.specs.Call.{accepted}
 use Rattle.checker.specs.Answering.{verdictOf}
 use Rattle.checker.proofs.said.Statement.{statement}
 use Rattle.checker.proofs.said.Tie as tie
-use Rattle.checker.proofs.said.Reads as reads
-use Rattle.checker.proofs.said.Lts as lts
 
 returns : tie.Need-returns
 unfolding verdictOf

@@ -34,38 +34,20 @@ long-bulks s = search (s .good .1 .1 .1 .0 .1 .1 .1 .1 .1 .0, s .good .1 .1 .1 .
 slice-aggregate-tail : tie.Need-slice-aggregate-tail
 slice-aggregate-tail c = sym (long-variables (c .before .before .before .before .before .before .before .before .before .before .before .before .before))
 
-tail-requires : tie.Need-tail-requires
-tail-requires c κs = search needs
-
 slice-aggregate-tail-2 : tie.Need-slice-aggregate-tail-2
 slice-aggregate-tail-2 c = sym (long-places (c .before .before .before .before .before .before .before .before .before .before .before .before .before .before .before))
-
-tail-requires-2 : tie.Need-tail-requires-2
-tail-requires-2 c κs = search needs
 
 slice-aggregate-tail-3 : tie.Need-slice-aggregate-tail-3
 slice-aggregate-tail-3 c = sym (long-counts (c .before .before .before .before .before .before .before .before .before .before .before .before .before .before .before .before .before))
 
-tail-requires-3 : tie.Need-tail-requires-3
-tail-requires-3 c κs = search needs
-
 slice-aggregate-tail-4 : tie.Need-slice-aggregate-tail-4
 slice-aggregate-tail-4 c = sym (long-sizes (c .before .before .before .before .before .before .before .before .before .before .before .before .before .before .before .before .before .before .before))
-
-tail-requires-4 : tie.Need-tail-requires-4
-tail-requires-4 c κs = search needs
 
 slice-aggregate-tail-5 : tie.Need-slice-aggregate-tail-5
 slice-aggregate-tail-5 c = sym (long-bulks (c .before .before .before .before .before .before .before .before .before .before .before .before .before .before .before .before .before .before .before .before .before))
 
-tail-requires-5 : tie.Need-tail-requires-5
-tail-requires-5 c κs = search needs
-
 write-tree-requires : tie.Need-write-tree-requires
 write-tree-requires c κs = (rw (c .before .before .before .before .before .before .before .before .before .tail .ensures, c .before .before .before .before .before .before .before .tail2 .ensures, c .before .before .before .before .before .tail3 .ensures, c .before .before .before .tail4 .ensures, c .before .tail5 .ensures) (c .before .before .before .before .before .before .before .before .before .before .before .before .before .before .before .before .before .before .before .before .before .before .before .pre .0 .bound .cached), c .before .before .before .before .before .before .before .before .before .before .before .before .before .before .before .before .before .before .before .before .before .before .before .pre .1)
-
-same-length : tie.Need-same-length
-same-length c = search needs
 
 returns : tie.Need-returns
 unfolding bindingsOf
@@ -78,15 +60,15 @@ write-state-spec =
     tie.close
     (tie.spec
     slice-aggregate-tail
-    tail-requires
+    (λ c κs. search needs)
     slice-aggregate-tail-2
-    tail-requires-2
+    (λ c κs. search needs)
     slice-aggregate-tail-3
-    tail-requires-3
+    (λ c κs. search needs)
     slice-aggregate-tail-4
-    tail-requires-4
+    (λ c κs. search needs)
     slice-aggregate-tail-5
-    tail-requires-5
+    (λ c κs. search needs)
     write-tree-requires
-    same-length
+    (λ c. search needs)
     returns)

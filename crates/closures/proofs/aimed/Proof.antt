@@ -1,5 +1,5 @@
 -- `aimed` meets its contract: no part has no name. Assumes nothing.
-use mathlib.Core.Path.{_≡_, sym, ap, _∙_}
+use mathlib.Core.Path.{sym, ap, _∙_}
 use Rattle.messages.specs.declared.Named.{Named}
 use Rattle.sets.specs.Sets.{elem}
 use Rattle.sets.proofs.Members.{members-empty}
@@ -8,15 +8,6 @@ use Rattle.closures.specs.Seen.{nameIn}
 use borrow.Author.Needs.{needs}
 use Rattle.closures.proofs.aimed.Statement.{statement}
 use Rattle.closures.proofs.aimed.Tie as tie
-use Rattle.closures.proofs.aimed.Reads as reads
-use Rattle.closures.proofs.aimed.Lts as lts
-use Rattle.closures.proofs.parts_called.Reads as parts-called-reads
-
-enum-known-name : tie.Need-enum-known-name
-enum-known-name c = search needs
-
-parts-called-requires : tie.Need-parts-called-requires
-parts-called-requires c κs = search needs
 
 enum-told : tie.Need-enum-told
 enum-told c = search needs
@@ -30,4 +21,4 @@ unfolding sameName elem
 returns-2 c i m = ap (elem i) members-empty ∙ ap (λ (x : Named). sameName x (nameIn (c .before .before .args .named) (c .before .before .args .names .now) i)) (sym (c .enum-told .given .1))
 
 pub aimed-spec : {M : Type 1} → statement M
-aimed-spec = tie.close (tie.spec enum-known-name parts-called-requires enum-told returns returns-2)
+aimed-spec = tie.close (tie.spec (λ c. search needs) (λ c κs. search needs) enum-told returns returns-2)

@@ -6,28 +6,12 @@ use Rattle.closures.proofs.Aiming.{around-top, around-none, around-one}
 use borrow.Author.Needs.{needs}
 use Rattle.closures.proofs.aimed_around.Statement.{statement}
 use Rattle.closures.proofs.aimed_around.Tie as tie
-use Rattle.closures.proofs.aimed_around.Reads as reads
-use Rattle.closures.proofs.aimed_around.Lts as lts
-use Rattle.sets.proofs.intersection.Reads as intersection-reads
-use Rattle.sets.proofs.single.Reads as single-reads
 
 returns : tie.Need-returns
 returns c t = around-top (c .before .args .p) (getD (c .before .args .places .now) (c .before .args .p) 0) t (elem t (members (c .before .args .aim))) (c .if1 .taken)
 
-mul-q : tie.Need-mul-q
-mul-q c = search needs
-
-element-copy-out-q : tie.Need-element-copy-out-q
-element-copy-out-q c = search needs
-
 returns-2 : tie.Need-returns-2
 returns-2 c t = around-none (c .before .before .before .args .p) (getD (c .before .before .before .args .places .now) (c .before .before .before .args .p) 0) t (elem t (members (c .before .before .before .args .aim))) (omega (arith, c .before .before .if1 .left)) (c .if2 .taken)
-
-single-requires : tie.Need-single-requires
-single-requires c κs = search needs
-
-intersection-requires : tie.Need-intersection-requires
-intersection-requires c κs = search needs
 
 returns-3 : tie.Need-returns-3
 returns-3 c t = around-one (c .before .before .before .before .before .args .p) (getD (c .before .before .before .before .before .args .places .now) (c .before .before .before .before .before .args .p) 0) t (members (c .before .before .before .before .before .args .aim)) (members (c .before .single .result)) (members (c .intersection .result)) (omega (arith, c .before .before .before .before .if1 .left)) (omega (arith, c .before .before .if2 .left)) (c .before .single .ensures) (c .intersection .ensures)
@@ -37,9 +21,9 @@ aimed-around-spec =
     tie.close
     (tie.spec
     returns
-    mul-q
-    element-copy-out-q
+    (λ c. search needs)
+    (λ c. search needs)
     returns-2
-    single-requires
-    intersection-requires
+    (λ c κs. search needs)
+    (λ c κs. search needs)
     returns-3)

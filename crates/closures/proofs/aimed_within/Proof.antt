@@ -6,25 +6,13 @@ use Rattle.closures.proofs.Aiming.{within-none, within-both}
 use borrow.Author.Needs.{needs}
 use Rattle.closures.proofs.aimed_within.Statement.{statement}
 use Rattle.closures.proofs.aimed_within.Tie as tie
-use Rattle.closures.proofs.aimed_within.Reads as reads
-use Rattle.closures.proofs.aimed_within.Lts as lts
-use Rattle.sets.proofs.intersection.Reads as intersection-reads
 
 returns : tie.Need-returns
 returns c t = within-none (bodyIn (c .before .args .kids .now)) (c .before .args .p) 0 t (elem t (members (c .before .args .aim))) (c .if1 .taken)
-
-mul-inside : tie.Need-mul-inside
-mul-inside c = search needs
-
-element-copy-out-inside : tie.Need-element-copy-out-inside
-element-copy-out-inside c = search needs
-
-intersection-requires : tie.Need-intersection-requires
-intersection-requires c κs = search needs
 
 returns-2 : tie.Need-returns-2
 returns-2 c t = within-both (bodyIn (c .before .before .before .args .kids .now)) (c .before .before .before .args .p) 0 t (members (c .before .before .before .args .aim)) (members (c .intersection .result)) (omega (arith, c .before .before .if1 .left)) (c .intersection .ensures)
 
 pub aimed-within-spec : {M : Type 1} → statement M
 aimed-within-spec =
-    tie.close (tie.spec returns mul-inside element-copy-out-inside intersection-requires returns-2)
+    tie.close (tie.spec returns (λ c. search needs) (λ c. search needs) (λ c κs. search needs) returns-2)

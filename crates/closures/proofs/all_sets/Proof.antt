@@ -8,27 +8,9 @@ use borrow.Author.Needs.{needs}
 use borrow.Author.Needs.{needs}
 use Rattle.closures.proofs.all_sets.Statement.{statement}
 use Rattle.closures.proofs.all_sets.Tie as tie
-use Rattle.closures.proofs.all_sets.Reads as reads
-use Rattle.closures.proofs.all_sets.Lts as lts
-use Rattle.closures.proofs.put_sets.Reads as put-sets-reads
-
-slice-aggregate-put-sets : tie.Need-slice-aggregate-put-sets
-slice-aggregate-put-sets c = search needs
-
-put-sets-requires : tie.Need-put-sets-requires
-put-sets-requires c κs = search needs
-
-slice-aggregate-put-sets-2 : tie.Need-slice-aggregate-put-sets-2
-slice-aggregate-put-sets-2 c = search needs
 
 put-sets-requires-2 : tie.Need-put-sets-requires-2
 put-sets-requires-2 c κs = (c .before .before .put-sets .ensures .0, search needs)
-
-array-write-r : tie.Need-array-write-r
-array-write-r c = search needs
-
-array-write-r-2 : tie.Need-array-write-r-2
-array-write-r-2 c = search needs
 
 returns : tie.Need-returns
 returns c =
@@ -47,10 +29,10 @@ pub all-sets-spec : {M : Type 1} → statement M
 all-sets-spec =
     tie.close
     (tie.spec
-    slice-aggregate-put-sets
-    put-sets-requires
-    slice-aggregate-put-sets-2
+    (λ c. search needs)
+    (λ c κs. search needs)
+    (λ c. search needs)
     put-sets-requires-2
-    array-write-r
-    array-write-r-2
+    (λ c. search needs)
+    (λ c. search needs)
     returns)

@@ -1,10 +1,8 @@
 -- `carry` meets its contract: the sets are changed, the item is spent, the state is settled. Assumes nothing.
 use Prim.Native.Nat.{_<_}
-use mathlib.Core.Path.{_≡_, refl, sym, ap, _∙_}
+use mathlib.Core.Path.{_≡_, refl, sym}
 use native.Mathlib.Omega.{arith}
-use lib.ListN.{length, getD, set}
-use Rattle.sets.specs.Sets.{members, insert, remove, join}
-use Rattle.closures.specs.declared.State.{State}
+use lib.ListN.{length, set}
 use Rattle.closures.proofs.Settled.{ready-same}
 use Rattle.closures.proofs.Finishing.{enters, exits}
 use borrow.Author.Needs.{needs}
@@ -61,9 +59,6 @@ element-write-next-2 c = omega (arith, c .before .before .before .before .before
 spend-requires : tie.Need-spend-requires
 spend-requires c κs = let x = c .before .before .before .before .before .args in (c .before .before .before .before .before .pre .3, ready-same (x .script .now) (x .kinds .now) (x .starts .now) (x .t4) (record { kids = set (set (x .t4 .kids) (x .from) (c .before .before .without .result)) (x .into) (c .with .result); offsets = x .t4 .offsets; looks = x .t4 .looks; bindings = x .t4 .bindings }) refl refl refl (c .before .before .before .before .before .pre .4))
 
-settle-requires : tie.Need-settle-requires
-settle-requires c κs = search needs
-
 returns : tie.Need-returns
 returns c =
     let x = c .before .before .before .before .before .before .before .args in
@@ -95,5 +90,5 @@ carry-spec =
     mul-next-2
     element-write-next-2
     spend-requires
-    settle-requires
+    (λ c κs. search needs)
     returns)

@@ -1,14 +1,9 @@
 -- `carry_around` meets its contract: the part goes with the actor. Assumes nothing.
 use mathlib.Core.Bool.{true, false, true≢false}
-use mathlib.Core.Path.{_≡_, sym, _∙_}
+use mathlib.Core.Path.{sym, _∙_}
 use native.Mathlib.Omega.{arith}
-use borrow.Author.Needs.{needs}
-use borrow.Author.Needs.{needs}
 use Rattle.closures.proofs.carry_around.Statement.{statement}
 use Rattle.closures.proofs.carry_around.Tie as tie
-use Rattle.closures.proofs.carry_around.Reads as reads
-use Rattle.closures.proofs.carry_around.Lts as lts
-use Rattle.closures.proofs.carry.Reads as carry-reads
 
 mul-q : tie.Need-mul-q
 mul-q c = omega (arith, c .before .before .pre .0)

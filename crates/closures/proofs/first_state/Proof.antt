@@ -1,6 +1,6 @@
 -- `first_state` meets its contract: the table's parts with nothing spent and nothing bound, settled. Assumes nothing.
 use mathlib.Core.List.{[]}
-use mathlib.Core.Path.{_≡_, refl, sym, ap, _∙_, subst}
+use mathlib.Core.Path.{_≡_, sym, ap, _∙_, subst}
 use native.Mathlib.Omega.{arith}
 use Rattle.bindings.specs.Held.{bindingsOf}
 use Rattle.bindings.specs.declared.Bindings as arrays
@@ -12,20 +12,9 @@ use borrow.Author.Needs.{needs}
 use borrow.Author.Needs.{needs}
 use Rattle.closures.proofs.first_state.Statement.{statement}
 use Rattle.closures.proofs.first_state.Tie as tie
-use Rattle.closures.proofs.first_state.Reads as reads
-use Rattle.closures.proofs.first_state.Lts as lts
-use Rattle.bindings.proofs.none.Reads as none-reads
-use Rattle.closures.proofs.looked.Reads as looked-reads
-use Rattle.closures.proofs.settle.Reads as settle-reads
-
-none-requires : tie.Need-none-requires
-none-requires c κs = search needs
 
 looked-requires : tie.Need-looked-requires
 looked-requires c κs = c .none .ensures (c .before .before .args .script .now) .0
-
-settle-requires : tie.Need-settle-requires
-settle-requires c κs = search needs
 
 returns : tie.Need-returns
 returns c =
@@ -42,4 +31,4 @@ returns c =
     )
 
 pub first-state-spec : {M : Type 1} → statement M
-first-state-spec = tie.close (tie.spec none-requires looked-requires settle-requires returns)
+first-state-spec = tie.close (tie.spec (λ c κs. search needs) looked-requires (λ c κs. search needs) returns)

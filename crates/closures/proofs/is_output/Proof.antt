@@ -1,11 +1,9 @@
 -- `is_output` meets its contract: no other kind. Assumes nothing.
-use mathlib.Core.Path.{_≡_, sym}
+use mathlib.Core.Path.{sym}
 use native.Mathlib.Omega.{arith}
 use Rattle.closures.proofs.Deeds.{out-kind, out-test}
 use Rattle.closures.proofs.is_output.Statement.{statement}
 use Rattle.closures.proofs.is_output.Tie as tie
-use Rattle.closures.proofs.is_output.Reads as reads
-use Rattle.closures.proofs.is_output.Lts as lts
 
 returns : tie.Need-returns
 returns c s a o = sym (out-kind s (c .before .args .kind) a o (λ e. let z : ⊥ = omega (arith, c .if1 .taken) in z) (λ e. let z : ⊥ = omega (arith, c .if1 .taken) in z) (λ e. let z : ⊥ = omega (arith, c .if1 .taken) in z))

@@ -1,5 +1,5 @@
 -- `item_deed` meets its contract: one line for each kind of item. Assumes nothing.
-use mathlib.Core.Path.{_≡_, refl, ap}
+use mathlib.Core.Path.{refl, ap}
 use Rattle.sets.specs.Sets.{elem}
 use Rattle.sets.proofs.Members.{members-empty}
 use Rattle.machine.specs.Moves.{sameName}
@@ -7,33 +7,9 @@ use Rattle.closures.specs.Seen.{itemAct, itemName, isNothing, actOf, aim
 use borrow.Author.Needs.{needs}
 use Rattle.closures.proofs.item_deed.Statement.{statement}
 use Rattle.closures.proofs.item_deed.Tie as tie
-use Rattle.closures.proofs.item_deed.Reads as reads
-use Rattle.closures.proofs.item_deed.Lts as lts
-use Rattle.closures.proofs.aimed.Reads as aimed-reads
 
 enum-told : tie.Need-enum-told
 enum-told c = search needs
-
-enum-known-item : tie.Need-enum-known-item
-enum-known-item c = search needs
-
-aimed-requires : tie.Need-aimed-requires
-aimed-requires c κs = search needs
-
-enum-known-item-2 : tie.Need-enum-known-item-2
-enum-known-item-2 c = search needs
-
-aimed-requires-2 : tie.Need-aimed-requires-2
-aimed-requires-2 c κs = search needs
-
-enum-known-item-3 : tie.Need-enum-known-item-3
-enum-known-item-3 c = search needs
-
-aimed-requires-3 : tie.Need-aimed-requires-3
-aimed-requires-3 c κs = search needs
-
-enum-told-2 : tie.Need-enum-told-2
-enum-told-2 c = search needs
 
 returns : tie.Need-returns
 unfolding itemAct itemName isNothing actOf aimOf busyOf sameName elem
@@ -60,13 +36,13 @@ item-deed-spec =
     tie.close
     (tie.spec
     enum-told
-    enum-known-item
-    aimed-requires
-    enum-known-item-2
-    aimed-requires-2
-    enum-known-item-3
-    aimed-requires-3
-    enum-told-2
+    (λ c. search needs)
+    (λ c κs. search needs)
+    (λ c. search needs)
+    (λ c κs. search needs)
+    (λ c. search needs)
+    (λ c κs. search needs)
+    (λ c. search needs)
     returns
     returns-2
     returns-3

@@ -9,28 +9,6 @@ use borrow.Author.Needs.{needs}
 use borrow.Author.Needs.{needs}
 use Rattle.closures.proofs.item_under.Statement.{statement}
 use Rattle.closures.proofs.item_under.Tie as tie
-use Rattle.closures.proofs.item_under.Reads as reads
-use Rattle.closures.proofs.item_under.Lts as lts
-use Rattle.bindings.proofs.tail.Reads as tail-reads
-use Rattle.closures.proofs.part_item.Reads as part-item-reads
-
-slice-aggregate-tail : tie.Need-slice-aggregate-tail
-slice-aggregate-tail c = search needs
-
-tail-requires : tie.Need-tail-requires
-tail-requires c κs = search needs
-
-slice-aggregate-tail-2 : tie.Need-slice-aggregate-tail-2
-slice-aggregate-tail-2 c = search needs
-
-tail-requires-2 : tie.Need-tail-requires-2
-tail-requires-2 c κs = search needs
-
-slice-aggregate-tail-3 : tie.Need-slice-aggregate-tail-3
-slice-aggregate-tail-3 c = search needs
-
-tail-requires-3 : tie.Need-tail-requires-3
-tail-requires-3 c κs = search needs
 
 part-item-requires : tie.Need-part-item-requires
 part-item-requires c κs = rw (c .before .before .before .before .tail .ensures, c .before .before .tail2 .ensures, c .tail3 .ensures) (c .before .before .before .before .before .before .before .before .before .before .pre .cached .counted)
@@ -46,11 +24,11 @@ pub item-under-spec : {M : Type 1} → statement M
 item-under-spec =
     tie.close
     (tie.spec
-    slice-aggregate-tail
-    tail-requires
-    slice-aggregate-tail-2
-    tail-requires-2
-    slice-aggregate-tail-3
-    tail-requires-3
+    (λ c. search needs)
+    (λ c κs. search needs)
+    (λ c. search needs)
+    (λ c κs. search needs)
+    (λ c. search needs)
+    (λ c κs. search needs)
     part-item-requires
     returns)

@@ -9,16 +9,10 @@ use Rattle.closures.specs.Seen.{actOf, aimOf, busyOf}
 use borrow.Author.Needs.{needs}
 use Rattle.closures.proofs.kind_deed.Statement.{statement}
 use Rattle.closures.proofs.kind_deed.Tie as tie
-use Rattle.closures.proofs.kind_deed.Reads as reads
-use Rattle.closures.proofs.kind_deed.Lts as lts
-use Rattle.closures.proofs.item_deed.Reads as item-deed-reads
 
 as-it-is : (t : Bool) → t ≡ cond t true false
 as-it-is true = refl
 as-it-is false = refl
-
-item-deed-requires : tie.Need-item-deed-requires
-item-deed-requires c κs = search needs
 
 returns : tie.Need-returns
 unfolding actOf aimOf busyOf elem
@@ -33,4 +27,4 @@ unfolding actOf aimOf busyOf elem
 returns-3 c = rw (ne-eqb (c .before .before .args .kind) 2 (c .before .if1 .left), ne-eqb (c .before .before .args .kind) 3 (c .if2 .left)) (refl, λ i m. ap (elem i) members-empty, as-it-is (eqb (c .before .before .args .kind) 1))
 
 pub kind-deed-spec : {M : Type 1} → statement M
-kind-deed-spec = tie.close (tie.spec item-deed-requires returns returns-2 returns-3)
+kind-deed-spec = tie.close (tie.spec (λ c κs. search needs) returns returns-2 returns-3)

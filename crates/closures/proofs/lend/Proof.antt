@@ -23,14 +23,8 @@ Start = lts.Start (part-numbers-reads.Asked, part-numbers-reads.Learnt, with-bin
 long : (s : Start) → length (s .args .state .kids) ≡ 65
 long s = search needs
 
-part-numbers-requires : tie.Need-part-numbers-requires
-part-numbers-requires c κs = search needs
-
 with-bindings-requires : tie.Need-with-bindings-requires
 with-bindings-requires c κs = c .before .before .before .before .before .before .before .pre
-
-all-sets-requires : tie.Need-all-sets-requires
-all-sets-requires c κs = search needs
 
 returns : tie.Need-returns
 returns c =
@@ -61,4 +55,4 @@ returns c =
 
 pub lend-spec : {M : Type 1} → statement M
 lend-spec =
-    tie.close (tie.spec part-numbers-requires with-bindings-requires all-sets-requires returns)
+    tie.close (tie.spec (λ c κs. search needs) with-bindings-requires (λ c κs. search needs) returns)

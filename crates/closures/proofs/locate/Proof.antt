@@ -5,18 +5,9 @@ use Rattle.closures.proofs.Locating.{located}
 use borrow.Author.Needs.{needs}
 use Rattle.closures.proofs.locate.Statement.{statement}
 use Rattle.closures.proofs.locate.Tie as tie
-use Rattle.closures.proofs.locate.Reads as reads
-use Rattle.closures.proofs.locate.Lts as lts
-use Rattle.closures.proofs.locate_below.Reads as locate-below-reads
-
-element-copy-out-top : tie.Need-element-copy-out-top
-element-copy-out-top c = search needs
-
-locate-below-requires : tie.Need-locate-below-requires
-locate-below-requires c κs = search needs
 
 returns : tie.Need-returns
 returns c σ w b names Q few = located σ (bodyIn (c .before .before .before .args .kids .now)) w b (λ i. getD (c .locate-below .last .0) i 0) Q few (c .locate-below .ensures .1 σ w names)
 
 pub locate-spec : {M : Type 1} → statement M
-locate-spec = tie.close (tie.spec element-copy-out-top locate-below-requires returns)
+locate-spec = tie.close (tie.spec (λ c. search needs) (λ c κs. search needs) returns)

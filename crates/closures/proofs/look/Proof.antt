@@ -1,6 +1,5 @@
 -- `look` meets its contract: the names, then what each part below i does. Assumes nothing.
 use Prim.Native.Nat.{ℕ, _≤_, _<_, _-_}
-use mathlib.Core.List.{List}
 use mathlib.Core.Path.{_≡_, refl, _∙_}
 use native.Mathlib.Omega.{arith}
 use lib.ListN.{getD}
@@ -11,12 +10,6 @@ use Rattle.closures.proofs.Deeds.{Done, done-next}
 use borrow.Author.Needs.{needs}
 use Rattle.closures.proofs.look.Statement.{statement}
 use Rattle.closures.proofs.look.Tie as tie
-use Rattle.closures.proofs.look.Reads as reads
-use Rattle.closures.proofs.look.Lts as lts
-use Rattle.closures.proofs.look_at.Reads as look-at-reads
-use Rattle.closures.proofs.name_parts.Reads as name-parts-reads
-use Rattle.closures.proofs.outputs.Reads as outputs-reads
-use Rattle.closures.proofs.with_deed.Reads as with-deed-reads
 
 abbrev Inv-loop : tie.InvT-loop
 Inv-loop script kinds starts offsets variables places counts t outs l₀ i₀ l i = (i ≤ 64) × (l .named ≡ t .named) × (l .names ≡ t .names) × (((j : ℕ) → getD offsets j 0 < 4294967295) → Done (bindingsIn script variables places) (heads script kinds starts offsets) i l)
@@ -27,38 +20,11 @@ abbrev μ-loop : tie.MeasureT-loop
 name-parts-requires : tie.Need-name-parts-requires Inv-loop μ-loop
 name-parts-requires c κs = c .before .before .before .before .pre .aligned
 
-outputs-requires : tie.Need-outputs-requires Inv-loop μ-loop
-outputs-requires c κs = search needs
-
 loop-holds : tie.Need-loop-holds Inv-loop μ-loop
 loop-holds c = (search needs, refl, refl, λ low j m. absurd (let z : ⊥ = omega arith in z))
 
-element-copy-out-kind : tie.Need-element-copy-out-kind Inv-loop μ-loop
-element-copy-out-kind c = search needs
-
-mul-start : tie.Need-mul-start Inv-loop μ-loop
-mul-start c = search needs
-
-element-copy-out-start : tie.Need-element-copy-out-start Inv-loop μ-loop
-element-copy-out-start c = search needs
-
-mul-offset : tie.Need-mul-offset Inv-loop μ-loop
-mul-offset c = search needs
-
-element-copy-out-offset : tie.Need-element-copy-out-offset Inv-loop μ-loop
-element-copy-out-offset c = search needs
-
 look-at-requires : tie.Need-look-at-requires Inv-loop μ-loop
 look-at-requires c κs = c .before .before .before .before .before .before .before .before .before .before .before .before .before .before .pre
-
-with-deed-requires : tie.Need-with-deed-requires Inv-loop μ-loop
-with-deed-requires c κs = search needs
-
-add-i : tie.Need-add-i Inv-loop μ-loop
-add-i c = search needs
-
-loop-less : tie.Need-loop-less Inv-loop μ-loop
-loop-less c = search needs
 
 loop-again : tie.Need-loop-again Inv-loop μ-loop
 loop-again c = (
@@ -81,16 +47,16 @@ look-spec =
     Inv-loop
     μ-loop
     name-parts-requires
-    outputs-requires
+    (λ c κs. search needs)
     loop-holds
-    element-copy-out-kind
-    mul-start
-    element-copy-out-start
-    mul-offset
-    element-copy-out-offset
+    (λ c. search needs)
+    (λ c. search needs)
+    (λ c. search needs)
+    (λ c. search needs)
+    (λ c. search needs)
     look-at-requires
-    with-deed-requires
-    add-i
-    loop-less
+    (λ c κs. search needs)
+    (λ c. search needs)
+    (λ c. search needs)
     loop-again
     returns)

@@ -7,19 +7,9 @@ use borrow.Author.Needs.{needs}
 use borrow.Author.Needs.{needs}
 use Rattle.closures.proofs.look_at.Statement.{statement}
 use Rattle.closures.proofs.look_at.Tie as tie
-use Rattle.closures.proofs.look_at.Reads as reads
-use Rattle.closures.proofs.look_at.Lts as lts
-use Rattle.closures.proofs.kind_deed.Reads as kind-deed-reads
-use Rattle.closures.proofs.part_item.Reads as part-item-reads
-
-part-item-requires : tie.Need-part-item-requires
-part-item-requires c κs = search needs
-
-kind-deed-requires : tie.Need-kind-deed-requires
-kind-deed-requires c κs = search needs
 
 returns : tie.Need-returns
 returns c w m o n = does-is (c .before .before .before .before .before .before .args .script .now) (c .before .before .before .before .before .before .args .kind) (c .before .before .before .before .before .before .args .start) (c .before .before .before .before .before .before .args .offset) (bindingsIn (c .before .before .before .before .before .before .args .script .now) (c .before .before .before .before .before .before .args .variables .now) (c .before .before .before .before .before .before .args .places .now)) w (c .before .part-item .result) (c .kind-deed .result) (λ j. elem j (members (c .before .before .before .before .before .before .args .outs))) (nameIn (c .before .before .before .before .before .before .args .named) (c .before .before .before .before .before .before .args .names .now)) (c .before .part-item .ensures m) (c .kind-deed .ensures) o n
 
 pub look-at-spec : {M : Type 1} → statement M
-look-at-spec = tie.close (tie.spec part-item-requires kind-deed-requires returns)
+look-at-spec = tie.close (tie.spec (λ c κs. search needs) (λ c κs. search needs) returns)

@@ -11,15 +11,8 @@ use Rattle.machine.proofs.Options.{byTest}
 use Rattle.closures.specs.Represents.{heads, boundIn}
 use Rattle.closures.specs.Targets.{canExit}
 use Rattle.closures.proofs.Dispatch.{nowhere, can, to-open, to-receive, to-enter, to-exit, inside-some, enter-from, exit-to}
-use borrow.Author.Needs.{needs}
-use borrow.Author.Needs.{needs}
 use Rattle.closures.proofs.make_move.Statement.{statement}
 use Rattle.closures.proofs.make_move.Tie as tie
-use Rattle.closures.proofs.make_move.Reads as reads
-use Rattle.closures.proofs.make_move.Lts as lts
-use Rattle.closures.proofs.carry_around.Reads as carry-around-reads
-use Rattle.closures.proofs.open_part.Reads as open-part-reads
-use Rattle.closures.proofs.receive_part.Reads as receive-part-reads
 
 mul-p : tie.Need-mul-p
 mul-p c = omega (arith, c .before .pre .0)

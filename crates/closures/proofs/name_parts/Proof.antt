@@ -2,7 +2,7 @@
 use Prim.Native.Nat.{ℕ, _≤_, _-_}
 use mathlib.Core.List.{List, []}
 use native.Mathlib.Omega.{arith}
-use lib.ListN.{getD, length}
+use lib.ListN.{getD}
 use Rattle.sets.proofs.Members.{members-empty}
 use Rattle.bindings.specs.Resolve.{bindingsIn}
 use Rattle.machine.specs.Moves.{headName}
@@ -12,10 +12,6 @@ use Rattle.closures.proofs.Looking.{Filled, filled-none, filled-next, n
 use borrow.Author.Needs.{needs}
 use Rattle.closures.proofs.name_parts.Statement.{statement}
 use Rattle.closures.proofs.name_parts.Tie as tie
-use Rattle.closures.proofs.name_parts.Reads as reads
-use Rattle.closures.proofs.name_parts.Lts as lts
-use Rattle.closures.proofs.part_name.Reads as part-name-reads
-use Rattle.closures.proofs.with_name.Reads as with-name-reads
 
 abbrev Inv-loop : tie.InvT-loop
 Inv-loop script kinds starts variables places t₀ i₀ t i = (i ≤ 64) × ((offsets : List ℕ) → Filled (λ j. headName (under (bindingsIn script variables places)) (heads script kinds starts offsets j)) i (t .named) (t .names))
@@ -26,26 +22,8 @@ abbrev μ-loop : tie.MeasureT-loop
 loop-holds : tie.Need-loop-holds Inv-loop μ-loop
 loop-holds c = (search needs, λ o. filled-none _ _ _ members-empty)
 
-element-copy-out-kind : tie.Need-element-copy-out-kind Inv-loop μ-loop
-element-copy-out-kind c = search needs
-
-mul-start : tie.Need-mul-start Inv-loop μ-loop
-mul-start c = search needs
-
-element-copy-out-start : tie.Need-element-copy-out-start Inv-loop μ-loop
-element-copy-out-start c = search needs
-
-part-name-requires : tie.Need-part-name-requires Inv-loop μ-loop
-part-name-requires c κs = search needs
-
 with-name-requires : tie.Need-with-name-requires Inv-loop μ-loop
 with-name-requires c κs = (c .before .before .before .loop-test .taken, not-named (c .before .before .before .before .loop .t .named) (c .before .before .before .before .loop .t .names) (c .before .before .before .before .loop .i) (c .before .before .before .before .loop .inv .1 [] .beyond (c .before .before .before .before .loop .i) (omega arith)))
-
-add-i : tie.Need-add-i Inv-loop μ-loop
-add-i c = search needs
-
-loop-less : tie.Need-loop-less Inv-loop μ-loop
-loop-less c = search needs
 
 loop-again : tie.Need-loop-again Inv-loop μ-loop
 loop-again c = (search needs, λ o. filled-next _ (c .before .before .before .before .before .loop .i) (c .before .before .before .before .before .loop .t .named) _ (c .before .before .before .before .before .loop .t .names) _ _ (c .before .before .before .before .before .loop .inv .1 o) (c .before .part-name .ensures (getD o (c .before .before .before .before .before .loop .i) 0)) (c .with-name .ensures))
@@ -60,12 +38,12 @@ name-parts-spec =
     Inv-loop
     μ-loop
     loop-holds
-    element-copy-out-kind
-    mul-start
-    element-copy-out-start
-    part-name-requires
+    (λ c. search needs)
+    (λ c. search needs)
+    (λ c. search needs)
+    (λ c κs. search needs)
     with-name-requires
-    add-i
-    loop-less
+    (λ c. search needs)
+    (λ c. search needs)
     loop-again
     returns)

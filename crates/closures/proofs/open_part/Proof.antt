@@ -2,8 +2,7 @@
 use mathlib.Core.Path.{_≡_, refl, sym, ap, _∙_}
 use native.Mathlib.Omega.{arith}
 use lib.ListN.{length, getD, set}
-use Rattle.sets.specs.Sets.{members, insert, remove, join}
-use Rattle.closures.specs.declared.State.{State}
+use Rattle.sets.specs.Sets.{members, join}
 use Rattle.closures.proofs.Settled.{ready-same}
 use Rattle.closures.proofs.Finishing.{opens}
 use borrow.Author.Needs.{needs}
@@ -42,9 +41,6 @@ element-copy-out-inside c = omega (arith, c .before .before .pre .2)
 without-requires : tie.Need-without-requires
 without-requires c κs = c .before .before .before .pre .2
 
-union-requires : tie.Need-union-requires
-union-requires c κs = search needs
-
 mul-next : tie.Need-mul-next
 mul-next c = omega (arith, c .before .before .before .before .before .pre .0)
 
@@ -53,9 +49,6 @@ element-write-next c = omega (arith, c .before .before .before .before .before .
 
 spend-requires : tie.Need-spend-requires
 spend-requires c κs = let x = c .before .before .before .before .before .args in (c .before .before .before .before .before .pre .1, ready-same (x .script .now) (x .kinds .now) (x .starts .now) (x .t4) (record { kids = set (x .t4 .kids) (x .p) (c .union .result); offsets = x .t4 .offsets; looks = x .t4 .looks; bindings = x .t4 .bindings }) refl refl refl (c .before .before .before .before .before .pre .3))
-
-settle-requires : tie.Need-settle-requires
-settle-requires c κs = search needs
 
 returns : tie.Need-returns
 returns c =
@@ -76,9 +69,9 @@ open-part-spec =
     mul-inside
     element-copy-out-inside
     without-requires
-    union-requires
+    (λ c κs. search needs)
     mul-next
     element-write-next
     spend-requires
-    settle-requires
+    (λ c κs. search needs)
     returns)

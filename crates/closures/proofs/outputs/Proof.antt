@@ -11,10 +11,6 @@ use Rattle.closures.proofs.Looking.{Upto, upto-none, upto-next, upto-al
 use borrow.Author.Needs.{needs}
 use Rattle.closures.proofs.outputs.Statement.{statement}
 use Rattle.closures.proofs.outputs.Tie as tie
-use Rattle.closures.proofs.outputs.Reads as reads
-use Rattle.closures.proofs.outputs.Lts as lts
-use Rattle.closures.proofs.is_output.Reads as is-output-reads
-use Rattle.closures.proofs.with_if.Reads as with-if-reads
 
 abbrev Inv-loop : tie.InvT-loop
 Inv-loop kinds found₀ i₀ found i = (i ≤ 64) × ((script starts offsets : List ℕ) → Upto (λ j. isOutput (heads script kinds starts offsets j)) i (members found))
@@ -24,21 +20,6 @@ abbrev μ-loop : tie.MeasureT-loop
 
 loop-holds : tie.Need-loop-holds Inv-loop μ-loop
 loop-holds c = (search needs, λ s a o. upto-none _ _ members-empty)
-
-element-copy-out-kind : tie.Need-element-copy-out-kind Inv-loop μ-loop
-element-copy-out-kind c = search needs
-
-is-output-requires : tie.Need-is-output-requires Inv-loop μ-loop
-is-output-requires c κs = search needs
-
-with-if-requires : tie.Need-with-if-requires Inv-loop μ-loop
-with-if-requires c κs = search needs
-
-add-i : tie.Need-add-i Inv-loop μ-loop
-add-i c = search needs
-
-loop-less : tie.Need-loop-less Inv-loop μ-loop
-loop-less c = search needs
 
 loop-again : tie.Need-loop-again Inv-loop μ-loop
 loop-again c = (search needs, λ s a o. upto-next _ _ _ (c .before .before .before .before .loop .inv .1 s a o) _ _ (c .before .is-output .ensures s (getD a (c .before .before .before .before .loop .i) 0) (getD o (c .before .before .before .before .loop .i) 0)) (c .with-if .ensures))
@@ -53,10 +34,10 @@ outputs-spec =
     Inv-loop
     μ-loop
     loop-holds
-    element-copy-out-kind
-    is-output-requires
-    with-if-requires
-    add-i
-    loop-less
+    (λ c. search needs)
+    (λ c κs. search needs)
+    (λ c κs. search needs)
+    (λ c. search needs)
+    (λ c. search needs)
     loop-again
     returns)

@@ -15,12 +15,6 @@ returns c l =
 returns-2 : tie.Need-returns-2
 returns-2 c l = absurd (let z : ⊥ = omega (arith, c .if2 .taken) in z)
 
-wide-requires : tie.Need-wide-requires
-wide-requires c κs = search needs
-
-first-item-requires : tie.Need-first-item-requires
-first-item-requires c κs = search needs
-
 returns-3 : tie.Need-returns-3
 returns-3 c l =
     let d = c .before in
@@ -28,4 +22,4 @@ returns-3 c l =
     c .first-item .ensures ∙ rw (d .wide .ensures) (the-item (x .script .now) (x .kind) (x .start) (x .offset) (bindingsIn (x .script .now) (x .variables .now) (x .places .now)) (d .before .before .if1 .left))
 
 pub part-item-spec : {M : Type 1} → statement M
-part-item-spec = tie.close (tie.spec returns returns-2 wide-requires first-item-requires returns-3)
+part-item-spec = tie.close (tie.spec returns returns-2 (λ c κs. search needs) (λ c κs. search needs) returns-3)

@@ -11,13 +11,10 @@ returns c o =
     let x = c .before .before .before .before .args in
     no-name (x .script .now) (x .kind) (x .start) o (bindingsIn (x .script .now) (x .variables .now) (x .places .now)) (c .if1 .taken)
 
-name-at-requires : tie.Need-name-at-requires
-name-at-requires c κs = search needs
-
 returns-2 : tie.Need-returns-2
 returns-2 c o =
     let x = c .before .before .before .before .before .args in
     c .name-at .ensures ∙ the-name (x .script .now) (x .kind) (x .start) o (bindingsIn (x .script .now) (x .variables .now) (x .places .now)) (c .before .if1 .left)
 
 pub part-name-spec : {M : Type 1} → statement M
-part-name-spec = tie.close (tie.spec returns name-at-requires returns-2)
+part-name-spec = tie.close (tie.spec returns (λ c κs. search needs) returns-2)

@@ -26,33 +26,6 @@ long-starts s = search needs
 long-kids : (s : Start) → length (s .args .state .kids) ≡ 65
 long-kids s = search needs
 
-array-write-with-kind : tie.Need-array-write-with-kind
-array-write-with-kind c = search needs
-
-add-with-start : tie.Need-add-with-start
-add-with-start c = search needs
-
-mul-with-start : tie.Need-mul-with-start
-mul-with-start c = search needs
-
-array-write-with-start : tie.Need-array-write-with-start
-array-write-with-start c = search needs
-
-array-read-kids : tie.Need-array-read-kids
-array-read-kids c = search needs
-
-mul-kids : tie.Need-mul-kids
-mul-kids c = search needs
-
-array-write-kids : tie.Need-array-write-kids
-array-write-kids c = search needs
-
-single-requires : tie.Need-single-requires
-single-requires c κs = search needs
-
-array-write-kids-2 : tie.Need-array-write-kids-2
-array-write-kids-2 c = search needs
-
 looked-requires : tie.Need-looked-requires
 looked-requires c κs = c .before .before .before .before .before .before .pre .2 .bound
 
@@ -70,14 +43,14 @@ pub place-part-spec : {M : Type 1} → statement M
 place-part-spec =
     tie.close
     (tie.spec
-    array-write-with-kind
-    add-with-start
-    mul-with-start
-    array-write-with-start
-    array-read-kids
-    mul-kids
-    array-write-kids
-    single-requires
-    array-write-kids-2
+    (λ c. search needs)
+    (λ c. search needs)
+    (λ c. search needs)
+    (λ c. search needs)
+    (λ c. search needs)
+    (λ c. search needs)
+    (λ c. search needs)
+    (λ c κs. search needs)
+    (λ c. search needs)
     looked-requires
     returns)

@@ -1,5 +1,5 @@
 -- `put_numbers` meets its contract: the first i are put. Assumes nothing.
-use Prim.Native.Nat.{ℕ, _+_, _≤_, _-_}
+use Prim.Native.Nat.{_+_, _≤_, _-_}
 use mathlib.Core.Path.{_≡_, refl, _∙_}
 use native.Mathlib.Omega.{arith}
 use lib.ListN.{getD, length, length-set}
@@ -7,8 +7,6 @@ use Rattle.closures.proofs.Copying.{Putting, putting-none, putting-next
 use borrow.Author.Needs.{needs}
 use Rattle.closures.proofs.put_numbers.Statement.{statement}
 use Rattle.closures.proofs.put_numbers.Tie as tie
-use Rattle.closures.proofs.put_numbers.Reads as reads
-use Rattle.closures.proofs.put_numbers.Lts as lts
 
 abbrev Inv-loop : tie.InvT-loop
 Inv-loop to₀ at from i₀ to i = (i ≤ length from) × (length to ≡ 481) × Putting at i from to₀ to
@@ -19,12 +17,6 @@ abbrev μ-loop : tie.MeasureT-loop
 loop-holds : tie.Need-loop-holds Inv-loop μ-loop
 loop-holds c = (search needs, c .pre .0, putting-none (c .args .at) (c .args .from .now) (c .args .to .now))
 
-mul-to : tie.Need-mul-to Inv-loop μ-loop
-mul-to c = search needs
-
-shared-slice-read-to : tie.Need-shared-slice-read-to Inv-loop μ-loop
-shared-slice-read-to c = search needs
-
 add-to : tie.Need-add-to Inv-loop μ-loop
 add-to c = omega (arith, c .before .loop-test .taken, c .before .before .before .pre .1)
 
@@ -33,12 +25,6 @@ mul-to-2 c = omega (arith, c .before .loop-test .taken, c .before .before .befor
 
 element-write-to : tie.Need-element-write-to Inv-loop μ-loop
 element-write-to c = omega (arith, c .before .loop-test .taken, c .before .before .before .pre .1)
-
-add-i : tie.Need-add-i Inv-loop μ-loop
-add-i c = search needs
-
-loop-less : tie.Need-loop-less Inv-loop μ-loop
-loop-less c = search needs
 
 loop-again : tie.Need-loop-again Inv-loop μ-loop
 loop-again c = (search needs, length-set (c .before .before .loop .to) (c .before .before .before .args .at + c .before .before .loop .i) (getD (c .before .before .before .args .from .now) (c .before .before .loop .i) 0) ∙ c .before .before .loop .inv .1, putting-next (c .before .before .before .args .at) (c .before .before .loop .i) _ (c .before .before .before .args .from .now) (c .before .before .before .args .to .now) _ (omega (arith, c .before .before .loop .inv .1, c .before .loop-test .taken, c .before .before .before .pre .1)) (c .before .before .loop .inv .2) refl)
@@ -53,12 +39,12 @@ put-numbers-spec =
     Inv-loop
     μ-loop
     loop-holds
-    mul-to
-    shared-slice-read-to
+    (λ c. search needs)
+    (λ c. search needs)
     add-to
     mul-to-2
     element-write-to
-    add-i
-    loop-less
+    (λ c. search needs)
+    (λ c. search needs)
     loop-again
     returns)

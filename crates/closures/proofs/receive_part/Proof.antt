@@ -1,11 +1,10 @@
 -- `receive_part` meets its contract: the variable is bound, the sets are changed, all is read anew and settled. Assumes
 -- nothing.
 use Prim.Native.Nat.{_+_}
-use mathlib.Core.Path.{_≡_, refl, sym, ap, _∙_}
+use mathlib.Core.Path.{_≡_, sym, ap, _∙_}
 use native.Mathlib.Omega.{arith}
-use lib.ListN.{length, getD, set}
-use Rattle.sets.specs.Sets.{members, insert, remove, join}
-use Rattle.closures.specs.declared.State.{State}
+use lib.ListN.{length, getD}
+use Rattle.sets.specs.Sets.{members, remove, join}
 use Rattle.closures.proofs.Settled.{ready-same}
 use Rattle.bindings.specs.Held.{bindingsOf}
 use Rattle.bindings.specs.declared.Bindings as arrays
@@ -68,9 +67,6 @@ without-requires c κs = c .before .before .before .before .before .before .befo
 without-requires-2 : tie.Need-without-requires-2
 without-requires-2 c κs = c .before .before .before .before .before .before .before .before .before .before .before .before .pre .2
 
-union-requires : tie.Need-union-requires
-union-requires c κs = search needs
-
 mul-kids : tie.Need-mul-kids
 mul-kids c = omega (arith, c .before .before .before .before .before .before .before .before .before .before .before .before .before .before .pre .0)
 
@@ -79,9 +75,6 @@ array-write-kids c = omega (arith, c .before .before .before .before .before .be
 
 looked-requires : tie.Need-looked-requires
 looked-requires c κs = c .before .before .before .before .before .before .before .bind .ensures .0
-
-settle-requires : tie.Need-settle-requires
-settle-requires c κs = search needs
 
 returns-2 : tie.Need-returns-2
 returns-2 c =
@@ -111,9 +104,9 @@ receive-part-spec =
     element-copy-out-inside
     without-requires
     without-requires-2
-    union-requires
+    (λ c κs. search needs)
     mul-kids
     array-write-kids
     looked-requires
-    settle-requires
+    (λ c κs. search needs)
     returns-2)

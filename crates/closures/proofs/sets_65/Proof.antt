@@ -1,5 +1,5 @@
 -- `sets_65` meets its contract: the first i are copied. Assumes nothing.
-use Prim.Native.Nat.{ℕ, _+_, _≤_, _-_}
+use Prim.Native.Nat.{_+_, _≤_, _-_}
 use mathlib.Core.Path.{_≡_, refl, _∙_}
 use native.Mathlib.Omega.{arith}
 use lib.ListN.{getD, length, length-set}
@@ -7,8 +7,6 @@ use Rattle.closures.proofs.Copying.{Copied, copied-next, stretch-is}
 use borrow.Author.Needs.{needs}
 use Rattle.closures.proofs.sets_65.Statement.{statement}
 use Rattle.closures.proofs.sets_65.Tie as tie
-use Rattle.closures.proofs.sets_65.Reads as reads
-use Rattle.closures.proofs.sets_65.Lts as lts
 
 abbrev Inv-loop : tie.InvT-loop
 Inv-loop from at r₀ i₀ r i = (i ≤ 65) × (length r ≡ 65) × Copied (λ j. getD from (at + j) 0) i r
@@ -28,18 +26,6 @@ mul-r c = omega (arith, c .loop-test .taken, c .before .before .pre)
 element-copy-out-r : tie.Need-element-copy-out-r Inv-loop μ-loop
 element-copy-out-r c = omega (arith, c .loop-test .taken, c .before .before .pre)
 
-mul-r-2 : tie.Need-mul-r-2 Inv-loop μ-loop
-mul-r-2 c = search needs
-
-array-write-r : tie.Need-array-write-r Inv-loop μ-loop
-array-write-r c = search needs
-
-add-i : tie.Need-add-i Inv-loop μ-loop
-add-i c = search needs
-
-loop-less : tie.Need-loop-less Inv-loop μ-loop
-loop-less c = search needs
-
 loop-again : tie.Need-loop-again Inv-loop μ-loop
 loop-again c = (search needs, length-set (c .before .before .loop .r) (c .before .before .loop .i) (getD (c .before .before .before .args .from .now) (c .before .before .before .args .at + c .before .before .loop .i) 0) ∙ c .before .before .loop .inv .1, copied-next (λ j. getD (c .before .before .before .args .from .now) (c .before .before .before .args .at + j) 0) (c .before .before .loop .i) _ (c .before .before .loop .r) (omega (arith, c .before .before .loop .inv .1, c .before .loop-test .taken)) (c .before .before .loop .inv .2) refl)
 
@@ -56,9 +42,9 @@ sets-65-spec =
     add-r
     mul-r
     element-copy-out-r
-    mul-r-2
-    array-write-r
-    add-i
-    loop-less
+    (λ c. search needs)
+    (λ c. search needs)
+    (λ c. search needs)
+    (λ c. search needs)
     loop-again
     returns)

@@ -5,21 +5,9 @@ use borrow.Author.Needs.{needs}
 use borrow.Author.Needs.{needs}
 use Rattle.closures.proofs.settle.Statement.{statement}
 use Rattle.closures.proofs.settle.Tie as tie
-use Rattle.closures.proofs.settle.Reads as reads
-use Rattle.closures.proofs.settle.Lts as lts
-use Rattle.closures.proofs.settle_below.Reads as settle-below-reads
-
-array-read-top : tie.Need-array-read-top
-array-read-top c = search needs
-
-settle-below-requires : tie.Need-settle-below-requires
-settle-below-requires c κs = search needs
-
-array-write-kids : tie.Need-array-write-kids
-array-write-kids c = search needs
 
 returns : tie.Need-returns
 returns c = ((refl, refl, refl), λ script starts weight spent b ready few R. settled-is script (c .before .before .before .before .before .before .args .kinds .now) starts weight spent (c .before .before .before .before .before .before .args .state) b (c .settle-below .last .0) (c .settle-below .result) ready few R (c .settle-below .ensures .0) (c .settle-below .ensures .1))
 
 pub settle-spec : {M : Type 1} → statement M
-settle-spec = tie.close (tie.spec array-read-top settle-below-requires array-write-kids returns)
+settle-spec = tie.close (tie.spec (λ c. search needs) (λ c κs. search needs) (λ c. search needs) returns)

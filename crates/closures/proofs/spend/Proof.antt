@@ -1,11 +1,11 @@
 -- `spend` meets its contract: the actor alone is read anew. Assumes nothing.
-use Prim.Native.Nat.{ℕ, _<_}
+use Prim.Native.Nat.{_<_}
 use mathlib.Core.Path.{_≡_, refl}
 use native.Mathlib.Omega.{arith}
 use lib.ListN.{length}
 use Rattle.closures.specs.Represents.{boundIn}
 use Rattle.closures.proofs.Deeds.{seen-spent, lower, raised-low}
-use borrow.Author.Needs.{needs, length-unmapped}
+use borrow.Author.Needs.{needs}
 use borrow.Author.Needs.{needs}
 use Rattle.closures.proofs.spend.Statement.{statement}
 use Rattle.closures.proofs.spend.Tie as tie
@@ -22,35 +22,14 @@ Start = lts.Start (item-under-reads.Asked, item-under-reads.Learnt, item-deed-re
 long : (s : Start) → length (s .args .t4 .offsets) ≡ 64
 long s = search needs
 
-element-copy-out-kind : tie.Need-element-copy-out-kind
-element-copy-out-kind c = search needs
-
-mul-start : tie.Need-mul-start
-mul-start c = search needs
-
-element-copy-out-start : tie.Need-element-copy-out-start
-element-copy-out-start c = search needs
-
-mul-offset : tie.Need-mul-offset
-mul-offset c = search needs
-
-element-copy-out-offset : tie.Need-element-copy-out-offset
-element-copy-out-offset c = search needs
-
 returns : tie.Need-returns
 returns c = (c .before .before .before .before .before .pre .1, ((refl, refl), λ e l. absurd (c .if1 .taken e)))
 
 returns-2 : tie.Need-returns-2
 returns-2 c = (c .before .before .before .before .before .before .pre .1, ((refl, refl), λ e l. absurd (let z : ⊥ = omega (arith, c .if2 .taken) in z)))
 
-add-item-under : tie.Need-add-item-under
-add-item-under c = search needs
-
 item-under-requires : tie.Need-item-under-requires
 item-under-requires c κs = c .before .before .before .before .before .before .before .pre .1 .bound
-
-item-deed-requires : tie.Need-item-deed-requires
-item-deed-requires c κs = search needs
 
 add-next : tie.Need-add-next
 add-next c = omega (arith, c .before .before .before .before .before .before .if2 .left)
@@ -84,16 +63,16 @@ pub spend-spec : {M : Type 1} → statement M
 spend-spec =
     tie.close
     (tie.spec
-    element-copy-out-kind
-    mul-start
-    element-copy-out-start
-    mul-offset
-    element-copy-out-offset
+    (λ c. search needs)
+    (λ c. search needs)
+    (λ c. search needs)
+    (λ c. search needs)
+    (λ c. search needs)
     returns
     returns-2
-    add-item-under
+    (λ c. search needs)
     item-under-requires
-    item-deed-requires
+    (λ c κs. search needs)
     add-next
     mul-next
     element-write-next

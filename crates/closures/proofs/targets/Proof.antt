@@ -11,38 +11,6 @@ use Rattle.closures.proofs.Aiming.{targets-of, no-target, in-none}
 use borrow.Author.Needs.{needs}
 use Rattle.closures.proofs.targets.Statement.{statement}
 use Rattle.closures.proofs.targets.Tie as tie
-use Rattle.closures.proofs.targets.Reads as reads
-use Rattle.closures.proofs.targets.Lts as lts
-use Rattle.closures.proofs.aimed_around.Reads as aimed-around-reads
-use Rattle.closures.proofs.aimed_beside.Reads as aimed-beside-reads
-use Rattle.closures.proofs.aimed_within.Reads as aimed-within-reads
-
-element-copy-out-act : tie.Need-element-copy-out-act
-element-copy-out-act c = search needs
-
-mul-aim : tie.Need-mul-aim
-mul-aim c = search needs
-
-element-copy-out-aim : tie.Need-element-copy-out-aim
-element-copy-out-aim c = search needs
-
-mul-p : tie.Need-mul-p
-mul-p c = search needs
-
-element-copy-out-p : tie.Need-element-copy-out-p
-element-copy-out-p c = search needs
-
-aimed-within-requires : tie.Need-aimed-within-requires
-aimed-within-requires c κs = search needs
-
-aimed-beside-requires : tie.Need-aimed-beside-requires
-aimed-beside-requires c κs = search needs
-
-aimed-around-requires : tie.Need-aimed-around-requires
-aimed-around-requires c κs = search needs
-
-aimed-within-requires-2 : tie.Need-aimed-within-requires-2
-aimed-within-requires-2 c κs = search needs
 
 abbrev k : tie.Start → ℕ → List ℕ
 k s = bodyIn (s .args .kids .now)
@@ -88,15 +56,15 @@ pub targets-spec : {M : Type 1} → statement M
 targets-spec =
     tie.close
     (tie.spec
-    element-copy-out-act
-    mul-aim
-    element-copy-out-aim
-    mul-p
-    element-copy-out-p
-    aimed-within-requires
-    aimed-beside-requires
-    aimed-around-requires
-    aimed-within-requires-2
+    (λ c. search needs)
+    (λ c. search needs)
+    (λ c. search needs)
+    (λ c. search needs)
+    (λ c. search needs)
+    (λ c κs. search needs)
+    (λ c κs. search needs)
+    (λ c κs. search needs)
+    (λ c κs. search needs)
     returns
     returns-2
     returns-3

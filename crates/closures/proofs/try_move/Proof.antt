@@ -1,6 +1,6 @@
 -- `try_move` meets its contract: the target is among those of the actor, or the move cannot be made. Assumes nothing.
 use Prim.Native.Nat.{ℕ, _+_, _<_}
-use mathlib.Core.Bool.{Bool, true, false, true≢false}
+use mathlib.Core.Bool.{true, false, true≢false}
 use mathlib.Core.Path.{_≡_, sym, _∙_}
 use native.Mathlib.Omega.{arith}
 use lib.ListN.{getD}
@@ -34,9 +34,6 @@ told : (c : Aimed) (weight spent : ℕ) (b : Closure) → spent + 1 < 4294967295
 told c weight spent b few R =
     state-targets (c .before .before .before .before .before .before .before .before .before .before .before .before .args .script .now) (c .before .before .before .before .before .before .before .before .before .before .before .before .args .kinds .now) (c .before .before .before .before .before .before .before .before .before .before .before .before .args .starts .now) weight spent (c .before .before .before .before .before .before .before .before .before .before .before .before .args .state) b (c .before .before .before .before .before .before .before .before .before .before .before .before .pre .2) (omega arith) R (λ i. getD (c .before .before .before .before .before .locate .result) i 0) (c .before .before .before .before .before .locate .ensures) (c .before .before .before .before .before .before .before .before .before .before .before .before .args .a) (c .before .before .before .before .before .before .before .before .before .before .before .before .pre .0) (members (c .targets .result)) (c .targets .ensures) (c .before .before .before .before .before .before .before .before .before .before .before .before .args .t) (c .before .before .before .before .before .before .before .before .before .before .before .before .pre .1)
 
-locate-requires : tie.Need-locate-requires
-locate-requires c κs = search needs
-
 targets-requires : tie.Need-targets-requires
 targets-requires c κs = c .before .before .before .before .before .before .before .before .before .before .before .pre .0
 
@@ -65,4 +62,4 @@ returns-2 c = (
 pub try-move-spec : {M : Type 1} → statement M
 try-move-spec =
     tie.close
-    (tie.spec locate-requires targets-requires has-requires make-move-requires returns returns-2)
+    (tie.spec (λ c κs. search needs) targets-requires has-requires make-move-requires returns returns-2)

@@ -6,24 +6,6 @@ use Rattle.closures.specs.Represents.{heads}
 use borrow.Author.Needs.{needs}
 use Rattle.closures.proofs.weigh.Statement.{statement}
 use Rattle.closures.proofs.weigh.Tie as tie
-use Rattle.closures.proofs.weigh.Reads as reads
-use Rattle.closures.proofs.weigh.Lts as lts
-use Rattle.closures.proofs.count_below.Reads as count-below-reads
-
-array-read-top : tie.Need-array-read-top
-array-read-top c = search needs
-
-count-below-requires : tie.Need-count-below-requires
-count-below-requires c κs = search needs
-
-sub-result : tie.Need-sub-result
-sub-result c = search needs
-
-mul-result : tie.Need-mul-result
-mul-result c = search needs
-
-add-result : tie.Need-add-result
-add-result c = search needs
 
 returns : tie.Need-returns
 returns c script kinds starts weight spent b R = ap (λ (n : ℕ). n + 2 * (32 - c .before .before .before .before .args .state .bindings .first)) (c .count-below .ensures .1 (omega arith) (heads script kinds starts (c .before .before .before .before .args .state .offsets)) b (R .top) (R .held) (omega (arith, R .weighs, R .light)))
@@ -31,4 +13,4 @@ returns c script kinds starts weight spent b R = ap (λ (n : ℕ). n + 2 * (32 -
 pub weigh-spec : {M : Type 1} → statement M
 weigh-spec =
     tie.close
-    (tie.spec array-read-top count-below-requires sub-result mul-result add-result returns)
+    (tie.spec (λ c. search needs) (λ c κs. search needs) (λ c. search needs) (λ c. search needs) (λ c. search needs) returns)

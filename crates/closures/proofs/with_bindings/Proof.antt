@@ -31,41 +31,23 @@ long-sizes s = search needs
 long-bulks : (s : Start) → length (s .args .bindings .bulks) ≡ 32
 long-bulks s = search needs
 
-slice-aggregate-put-numbers : tie.Need-slice-aggregate-put-numbers
-slice-aggregate-put-numbers c = search needs
-
 put-numbers-requires : tie.Need-put-numbers-requires
 put-numbers-requires c κs = (search needs, omega (arith, long-variables (c .before .before .before .before .before .before .before)))
-
-slice-aggregate-put-numbers-2 : tie.Need-slice-aggregate-put-numbers-2
-slice-aggregate-put-numbers-2 c = search needs
 
 put-numbers-requires-2 : tie.Need-put-numbers-requires-2
 put-numbers-requires-2 c κs = (c .before .before .put-numbers .ensures .0, omega (arith, long-places (c .before .before .before .before .before .before .before .before .before .before)))
 
-slice-aggregate-put-numbers-3 : tie.Need-slice-aggregate-put-numbers-3
-slice-aggregate-put-numbers-3 c = search needs
-
 put-numbers-requires-3 : tie.Need-put-numbers-requires-3
 put-numbers-requires-3 c κs = (c .before .before .put-numbers2 .ensures .0, omega (arith, long-counts (c .before .before .before .before .before .before .before .before .before .before .before .before .before)))
 
-slice-aggregate-put-numbers-4 : tie.Need-slice-aggregate-put-numbers-4
-slice-aggregate-put-numbers-4 c = search needs
-
 put-numbers-requires-4 : tie.Need-put-numbers-requires-4
 put-numbers-requires-4 c κs = (c .before .before .put-numbers3 .ensures .0, omega (arith, long-sizes (c .before .before .before .before .before .before .before .before .before .before .before .before .before .before .before .before)))
-
-slice-aggregate-put-numbers-5 : tie.Need-slice-aggregate-put-numbers-5
-slice-aggregate-put-numbers-5 c = search needs
 
 put-numbers-requires-5 : tie.Need-put-numbers-requires-5
 put-numbers-requires-5 c κs = (c .before .before .put-numbers4 .ensures .0, omega (arith, long-bulks (c .before .before .before .before .before .before .before .before .before .before .before .before .before .before .before .before .before .before .before)))
 
 cast-r : tie.Need-cast-r
 cast-r c = omega (arith, c .before .before .before .before .before .before .before .before .before .before .before .before .before .before .before .before .before .before .before .before .pre)
-
-array-write-r : tie.Need-array-write-r
-array-write-r c = search needs
 
 returns : tie.Need-returns
 returns c =
@@ -109,16 +91,16 @@ pub with-bindings-spec : {M : Type 1} → statement M
 with-bindings-spec =
     tie.close
     (tie.spec
-    slice-aggregate-put-numbers
+    (λ c. search needs)
     put-numbers-requires
-    slice-aggregate-put-numbers-2
+    (λ c. search needs)
     put-numbers-requires-2
-    slice-aggregate-put-numbers-3
+    (λ c. search needs)
     put-numbers-requires-3
-    slice-aggregate-put-numbers-4
+    (λ c. search needs)
     put-numbers-requires-4
-    slice-aggregate-put-numbers-5
+    (λ c. search needs)
     put-numbers-requires-5
     cast-r
-    array-write-r
+    (λ c. search needs)
     returns)

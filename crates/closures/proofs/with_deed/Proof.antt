@@ -1,5 +1,5 @@
 -- `with_deed` meets its contract: one entry of each array, and one member of the set. Assumes nothing.
-use mathlib.Core.Path.{_≡_, refl, _∙_}
+use mathlib.Core.Path.{_≡_, refl}
 use native.Mathlib.Omega.{arith}
 use lib.ListN.{length, set}
 use Rattle.closures.specs.declared.Looks.{Looks}
@@ -7,25 +7,6 @@ use Rattle.closures.proofs.Deeds.{kept-set, kept-other}
 use borrow.Author.Needs.{needs}
 use Rattle.closures.proofs.with_deed.Statement.{statement}
 use Rattle.closures.proofs.with_deed.Tie as tie
-use Rattle.closures.proofs.with_deed.Reads as reads
-use Rattle.closures.proofs.with_deed.Lts as lts
-use Rattle.closures.proofs.with_if.Reads as with-if-reads
-use Rattle.sets.proofs.without.Reads as without-reads
-
-element-write-next : tie.Need-element-write-next
-element-write-next c = search needs
-
-mul-next : tie.Need-mul-next
-mul-next c = search needs
-
-element-write-next-2 : tie.Need-element-write-next-2
-element-write-next-2 c = search needs
-
-without-requires : tie.Need-without-requires
-without-requires c κs = search needs
-
-with-if-requires : tie.Need-with-if-requires
-with-if-requires c κs = search needs
 
 returns : tie.Need-returns
 returns c =
@@ -42,9 +23,9 @@ pub with-deed-spec : {M : Type 1} → statement M
 with-deed-spec =
     tie.close
     (tie.spec
-    element-write-next
-    mul-next
-    element-write-next-2
-    without-requires
-    with-if-requires
+    (λ c. search needs)
+    (λ c. search needs)
+    (λ c. search needs)
+    (λ c κs. search needs)
+    (λ c κs. search needs)
     returns)

@@ -1,15 +1,9 @@
 -- `with_if` meets its contract: the set with i, or as it is. Assumes nothing.
-use mathlib.Core.Path.{_≡_, refl, _∙_}
+use mathlib.Core.Path.{_∙_}
 use borrow.Author.Needs.{needs}
 use borrow.Author.Needs.{needs}
 use Rattle.closures.proofs.with_if.Statement.{statement}
 use Rattle.closures.proofs.with_if.Tie as tie
-use Rattle.closures.proofs.with_if.Reads as reads
-use Rattle.closures.proofs.with_if.Lts as lts
-use Rattle.sets.proofs.with.Reads as with-reads
-
-with-requires : tie.Need-with-requires
-with-requires c κs = search needs
 
 returns : tie.Need-returns
 returns c = c .with .ensures ∙ rw (c .before .if1 .taken)
@@ -18,4 +12,4 @@ returns-2 : tie.Need-returns-2
 returns-2 c = rw (c .if1 .left)
 
 pub with-if-spec : {M : Type 1} → statement M
-with-if-spec = tie.close (tie.spec with-requires returns returns-2)
+with-if-spec = tie.close (tie.spec (λ c κs. search needs) returns returns-2)

@@ -10,21 +10,6 @@ use Rattle.closures.proofs.Looking.{name-added, no-name-added}
 use borrow.Author.Needs.{needs}
 use Rattle.closures.proofs.with_name.Statement.{statement}
 use Rattle.closures.proofs.with_name.Tie as tie
-use Rattle.closures.proofs.with_name.Reads as reads
-use Rattle.closures.proofs.with_name.Lts as lts
-use Rattle.sets.proofs.with.Reads as with-reads
-
-enum-known-name : tie.Need-enum-known-name
-enum-known-name c = search needs
-
-with-requires : tie.Need-with-requires
-with-requires c κs = search needs
-
-mul-next : tie.Need-mul-next
-mul-next c = search needs
-
-element-write-next : tie.Need-element-write-next
-element-write-next c = search needs
 
 enum-told : tie.Need-enum-told
 enum-told c = search needs
@@ -39,10 +24,10 @@ pub with-name-spec : {M : Type 1} → statement M
 with-name-spec =
     tie.close
     (tie.spec
-    enum-known-name
-    with-requires
-    mul-next
-    element-write-next
+    (λ c. search needs)
+    (λ c κs. search needs)
+    (λ c. search needs)
+    (λ c. search needs)
     enum-told
     returns
     returns-2)
