@@ -7,3 +7,4 @@ pub mod Verdicts
 pub mod ClosureRuns
 pub mod Listed
 pub mod Ending
+pub mod Called
