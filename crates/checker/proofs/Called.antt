@@ -1,7 +1,7 @@
 -- What the plain machine answers to a call, question by question, told by the closure machine's run and walk.
 -- Assumes nothing.
 use Prim.Native.Nat.{ℕ, suc, _+_}
-use mathlib.Core.Bool.{Bool, true, false, _&&_}
+use mathlib.Core.Bool.{true, false, _&&_}
 use mathlib.Core.List.{List, [], _∷_}
 use mathlib.Core.Option.{Option, none, some}
 use mathlib.Core.Path.{_≡_, refl, sym, ap, _∙_, subst}
@@ -16,11 +16,10 @@ use Rattle.closures.proofs.Invariant.{move-good}
 use Rattle.closures.proofs.Started.{started-good}
 use Rattle.rules.specs.Rule.{Rule}
 use Rattle.rules.specs.ReadRule.{readWholeRule}
-use Rattle.walk.specs.Walk.{Walked, walkFrom}
+use Rattle.walk.specs.Walk.{walkFrom}
 use Rattle.walk.specs.ClosureWalk.{closureSpace}
 use Rattle.walk.proofs.Closures.{walk-unfolded}
-use Rattle.checker.specs.Call.{Call, Ran, actor, target, moveFits, refusal, walked, setting, ruleRun, ruleRead, scriptRead, answer}
-use Rattle.checker.specs.Call as plain
+use Rattle.checker.specs.Call.{Call, actor, target, moveFits, refusal, walked, setting, ruleRun, ruleRead, scriptRead, answer}
 use Rattle.checker.specs.ClosureCall.{ClosureRan, halted, moved, afterMove, ifMade, closureRun, unfoldRan, begun}
 use Rattle.checker.proofs.ClosureRuns.{GoodMachine, started-unfolded}
 

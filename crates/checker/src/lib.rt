@@ -3,6 +3,7 @@ use bindings::tail;
 use closures::State;
 use closures::try_move;
 use closures::weigh;
+use walk::Walked;
 use writer::Fitting;
 use writer::write_tree;
 ghost use mathlib.Core.Path.{_≡_};
@@ -12,10 +13,11 @@ ghost use Prim.Native.Nat.{ℕ, _≤_, _<_};
 ghost use lib.ListN.{length, getD};
 ghost use Rattle.closures.specs.Closure.{Closure, unfolded, unfoldMachine};
 ghost use Rattle.closures.specs.Represents.{boundIn, Ready, Represents};
+ghost use Rattle.walk.specs.Visits.{walkedOf};
 ghost use Rattle.writer.specs.Bodies.{Scripted};
 ghost use Rattle.writer.specs.Buffer.{answered, buffered};
 ghost use Rattle.writer.specs.Write.{write};
-ghost use Rattle.checker.specs.Call.{actor, target, moveFits, accepted, refusal};
+ghost use Rattle.checker.specs.Call.{actor, target, moveFits, accepted, refusal, walked};
 ghost use Rattle.checker.specs.Call.{finish as finished};
 ghost use Rattle.checker.specs.Answering.{verdictOf, answerOf, callOf};
 ghost use Rattle.checker.specs.Running.{Runs};
@@ -208,4 +210,44 @@ fn said(yes: bool) -> Verdict
         return Verdict::Yes;
     }
     Verdict::No
+}
+
+// What follows the walk.
+fn after_walk<'a, 'b>(
+    script: &'a [u32],
+    kinds: &'a [u8; 64],
+    starts: &'a [u32; 64],
+    state: State,
+    moves: usize,
+    w: Walked,
+    out: &'b mut [u32],
+) -> Answer
+    requires { ⌜ Ready (now script) (now kinds) (now starts) state × Scripted (now starts) (state .offsets) ⌝ }
+    ensures { λ r. ⌜ ((list rule : List ℕ) (patience weight spent : ℕ) (b : Closure) → moves ≡ length list → Represents (now (script .entry)) (now (kinds .entry)) (now (starts .entry)) weight spent state b → answerOf r (now (out .exit)) ≡ walked (callOf (now (script .entry)) list rule patience (now (out .entry))) (unfoldMachine (record { tree = b; bindings = boundIn (now (script .entry)) state })) (walkedOf w)) ⌝ }
+{
+    match w {
+        Walked::Yes(c) => finish(
+            script,
+            kinds,
+            starts,
+            state,
+            moves,
+            true,
+            c.visits,
+            c.deepest,
+            out,
+        ),
+        Walked::No(c) => finish(
+            script,
+            kinds,
+            starts,
+            state,
+            moves,
+            false,
+            c.visits,
+            c.deepest,
+            out,
+        ),
+        Walked::Stopped(question, place, visits) => refused(question, place, moves, visits),
+    }
 }

@@ -1,0 +1,45 @@
+-- `after_walk` meets its contract: a stop is a refusal. Assumes nothing.
+use mathlib.Core.Path.{sym, ap, _∙_}
+use Rattle.closures.specs.Closure.{unfoldMachine}
+use Rattle.closures.specs.Represents.{boundIn}
+use Rattle.walk.specs.Visits.{walkedOf}
+use Rattle.walk.specs.declared.Walked as declared
+use Rattle.checker.specs.Call.{refusal, walked}
+use Rattle.checker.specs.Answering.{callOf}
+use borrow.Author.Needs.{needs}
+use Rattle.checker.proofs.after_walk.Statement.{statement}
+use Rattle.checker.proofs.after_walk.Tie as tie
+
+finish-requires : tie.Need-finish-requires
+finish-requires c κs = c .before .before .before .before .before .before .pre
+
+finish-requires-2 : tie.Need-finish-requires-2
+finish-requires-2 c κs = c .before .before .before .before .before .before .pre
+
+returns : tie.Need-returns
+unfolding walked walkedOf
+returns c list rule patience weight spent b em R = c .before .before .finish .ensures list rule patience weight spent b em R ∙ ap (λ (x : declared.Walked). walked (callOf (c .before .before .before .before .before .before .before .before .before .args .script .now) list rule patience (c .before .before .before .before .before .before .before .before .before .args .out .now)) (unfoldMachine (record { tree = b; bindings = boundIn (c .before .before .before .before .before .before .before .before .before .args .script .now) (c .before .before .before .before .before .before .before .before .before .args .state) })) (walkedOf x)) (sym (c .before .before .before .before .before .w .given .1))
+
+returns-2 : tie.Need-returns-2
+unfolding walked walkedOf
+returns-2 c list rule patience weight spent b em R = c .before .before .finish2 .ensures list rule patience weight spent b em R ∙ ap (λ (x : declared.Walked). walked (callOf (c .before .before .before .before .before .before .before .before .before .args .script .now) list rule patience (c .before .before .before .before .before .before .before .before .before .args .out .now)) (unfoldMachine (record { tree = b; bindings = boundIn (c .before .before .before .before .before .before .before .before .before .args .script .now) (c .before .before .before .before .before .before .before .before .before .args .state) })) (walkedOf x)) (sym (c .before .before .before .before .before .w2 .given .1))
+
+returns-3 : tie.Need-returns-3
+unfolding walked walkedOf
+returns-3 c list rule patience weight spent b em R = c .refused .ensures (c .before .before .before .before .before .before .args .out .now) ∙ (λ i. refusal (c .before .before .w3 .given .0 .0) (c .before .before .w3 .given .0 .1 .0) (em i) (c .before .before .w3 .given .0 .1 .1 .0) (c .before .before .before .before .before .before .args .out .now)) ∙ ap (λ (x : declared.Walked). walked (callOf (c .before .before .before .before .before .before .args .script .now) list rule patience (c .before .before .before .before .before .before .args .out .now)) (unfoldMachine (record { tree = b; bindings = boundIn (c .before .before .before .before .before .before .args .script .now) (c .before .before .before .before .before .before .args .state) })) (walkedOf x)) (sym (c .before .before .w3 .given .1))
+
+pub after-walk-spec : {M : Type 1} → statement M
+after-walk-spec =
+    tie.close
+    (tie.spec
+    (λ c. search needs)
+    finish-requires
+    (λ c. search needs)
+    finish-requires-2
+    (λ c. search needs)
+    (λ c κs. search needs)
+    (λ c. search needs)
+    returns
+    (λ c. search needs)
+    returns-2
+    returns-3)
