@@ -33,7 +33,7 @@ element-copy-out-here : tie.Need-element-copy-out-here
 element-copy-out-here c = omega (arith, c .before .pre .1)
 
 without-requires : tie.Need-without-requires
-without-requires c κs = c .before .before .pre .0
+without-requires c κs = omega (arith, c .before .before .pre .0, c .before .before .pre .3)
 
 mul-next : tie.Need-mul-next
 mul-next c = omega (arith, c .before .before .before .pre .1)
@@ -48,7 +48,7 @@ element-copy-out-there : tie.Need-element-copy-out-there
 element-copy-out-there c = omega (arith, c .before .before .before .pre .2)
 
 with-requires : tie.Need-with-requires
-with-requires c κs = c .before .before .before .before .pre .0
+with-requires c κs = omega (arith, c .before .before .before .before .pre .0, c .before .before .before .before .pre .3)
 
 mul-next-2 : tie.Need-mul-next-2
 mul-next-2 c = omega (arith, c .before .before .before .before .before .pre .2)

@@ -39,7 +39,7 @@ element-copy-out-inside : tie.Need-element-copy-out-inside
 element-copy-out-inside c = omega (arith, c .before .before .pre .2)
 
 without-requires : tie.Need-without-requires
-without-requires c κs = c .before .before .before .pre .2
+without-requires c κs = omega (arith, c .before .before .before .pre .0, c .before .before .before .pre .1, c .before .before .before .pre .2)
 
 mul-next : tie.Need-mul-next
 mul-next c = omega (arith, c .before .before .before .before .before .pre .0)

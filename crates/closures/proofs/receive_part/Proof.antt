@@ -62,10 +62,10 @@ element-copy-out-inside : tie.Need-element-copy-out-inside
 element-copy-out-inside c = omega (arith, c .before .before .before .before .before .before .before .before .pre .1)
 
 without-requires : tie.Need-without-requires
-without-requires c κs = c .before .before .before .before .before .before .before .before .before .before .before .pre .1
+without-requires c κs = omega (arith, c .before .before .before .before .before .before .before .before .before .before .before .pre .1, c .before .before .before .before .before .before .before .before .before .before .before .pre .2)
 
 without-requires-2 : tie.Need-without-requires-2
-without-requires-2 c κs = c .before .before .before .before .before .before .before .before .before .before .before .before .pre .2
+without-requires-2 c κs = omega (arith, c .before .before .before .before .before .before .before .before .before .before .before .before .pre .1, c .before .before .before .before .before .before .before .before .before .before .before .before .pre .2)
 
 mul-kids : tie.Need-mul-kids
 mul-kids c = omega (arith, c .before .before .before .before .before .before .before .before .before .before .before .before .before .before .pre .0)
