@@ -5,3 +5,9 @@ pub mod Listed
 pub mod Deciding
 pub mod Related
 pub mod Closures
+pub mod Loops
+pub mod Focused
+pub mod Single
+pub mod Divided
+pub mod Rooms
+pub mod Targeted

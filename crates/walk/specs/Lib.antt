@@ -3,3 +3,4 @@ pub mod Walk
 pub mod PlainWalk
 pub mod ClosureWalk
 pub mod Visits
+pub mod Pieces

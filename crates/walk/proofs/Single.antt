@@ -1,0 +1,69 @@
+-- VOID and AT: no top parts, and just one, by the set of the top parts. Assumes nothing.
+use Prim.Native.Nat.{ℕ, _^_, _≤_, _<_}
+use mathlib.Core.Bool.{Bool, true, false, cond, true≢false}
+use mathlib.Core.List.{List, [], _∷_}
+use mathlib.Core.Option.{Option, none, some}
+use mathlib.Core.Path.{_≡_, refl, sym, ap, _∙_}
+use native.Mathlib.Omega.{arith}
+use lib.Dec.{eqb}
+use lib.ListN.{getD, set, length}
+use Rattle.messages.specs.declared.Named.{Named}
+use Rattle.messages.specs.declared.Named.the-variants.{Called}
+use Rattle.sets.specs.Sets.{members, headOr, isNone, isOne}
+use Rattle.sets.proofs.Members.{none-test, first-below}
+use Rattle.sets.proofs.Lists.{one-is}
+use Rattle.scripts.specs.Tree.{close, part, tops, sum}
+use Rattle.scripts.specs.Represents.{Held, bodyIn}
+use Rattle.machine.specs.Moves.{headName, sameName}
+use Rattle.closures.specs.Closure.{ClosureHead, Closure, Bindings, under, ClosureMachine}
+use Rattle.closures.specs.Seen.{nameIn}
+use Rattle.closures.specs.Represents.{heads, boundIn, Ready, Represents}
+use Rattle.closures.specs.declared.State.{State}
+use Rattle.walk.specs.ClosureWalk.{isVoid, beside, only}
+use Rattle.walk.specs.Pieces.{Piece, Room}
+use Rattle.walk.proofs.Focused.{seen-told, top-told}
+
+-- VOID
+void-tops : (b : Closure) → isVoid b ≡ isNone (tops b)
+unfolding isVoid tops
+void-tops close = refl
+void-tops (part k h b r) = refl
+
+pub void-told : (top : ℕ) (b : Closure) → top < 2 ^ 64 → members top ≡ tops b → isVoid b ≡ eqb top 0
+void-told top b small e = void-tops b ∙ sym (none-test top small ∙ ap isNone e)
+
+-- AT: among no or several top parts there is none alone
+pub only-none : (σ : Bindings) (n : ℕ) (b : Closure) → isOne (tops b) ≡ false → only σ n b ≡ none
+unfolding only tops
+only-none σ n close e = refl
+only-none σ n (part i h b close) e = absurd (true≢false e)
+only-none σ n (part i h b (part i₁ h₁ b₁ r)) e = refl
+
+-- and one alone is the first
+only-one : (σ : Bindings) (k : ℕ → List ℕ) (w : ℕ → ClosureHead) (n i : ℕ) (b : Closure) → Held k w b → tops b ≡ i ∷ []
+    → (c : Closure) × Room k w b i c × (only σ n b ≡ cond (sameName (Called n) (headName (under σ) (w i))) (some (beside σ c)) none)
+unfolding only tops sum
+only-one σ k w n i close h e = absurd (true≢false (ap isNone e))
+only-one σ k w n i (part j g c close) h e =
+    let z : i ≡ j = cc in (
+      c,
+      record { own = ap k z ∙ h .0; piece = record { held = h .2; less = λ f. omega arith } },
+      ap (λ (x : ClosureHead). cond (sameName (Called n) (headName (under σ) x)) (some (beside σ c)) none) (sym (ap w z ∙ h .1)),
+    )
+only-one σ k w n i (part j g c (part j₁ g₁ c₁ r)) h e = absurd (let z : _≡_ {A = ℕ} 0 1 = cc in omega arith)
+
+module _ (script kinds starts : List ℕ) (weight spent : ℕ) (s : State) (b : Closure) (kids : List ℕ) (top : ℕ) (sets : s .kids ≡ set kids 64 top) (long : length kids ≡ 65)
+    (R : Represents script kinds starts weight spent s b) where
+  pub at-none : (n : ℕ) → isOne (members top) ≡ false → only (boundIn script s) n b ≡ none
+  at-none n e = only-none (boundIn script s) n b (ap isOne (sym (top-told script kinds starts weight spent s b kids top sets long R)) ∙ e)
+
+  -- THEOREM: AT asks for the inside of the one top part, by the name that is kept of it.
+  pub at-one : Ready script kinds starts s → spent < 4294967295 → (n i : ℕ) → isOne (members top) ≡ true → i ≡ headOr 64 (members top)
+      → (i < 64) × ((c : Closure) × Room (bodyIn (s .kids)) (heads script kinds starts (s .offsets)) b i c
+      × (only (boundIn script s) n b ≡ cond (sameName (Called n) (nameIn (s .looks .named) (s .looks .names) i)) (some (beside (boundIn script s) c)) none))
+  at-one ready few n i one first =
+      let single : members top ≡ i ∷ [] = one-is 64 (members top) one ∙ ap (λ (x : ℕ). x ∷ []) (sym first) in
+      let small : i < 64 = first-below top i [] single in
+      let (c, room, e) = only-one (boundIn script s) (bodyIn (s .kids)) (heads script kinds starts (s .offsets)) n i b (R .held) (sym (top-told script kinds starts weight spent s b kids top sets long R) ∙ single) in
+      let name = seen-told script kinds starts weight spent s b ready R few .names i small in
+      (small, (c, room, e ∙ ap (λ (x : Named). cond (sameName (Called n) x) (some (beside (boundIn script s) c)) none) (sym name)))

@@ -1,0 +1,175 @@
+-- SOMETIME: what stands after each move, actor by actor and, of an actor, target by target, as a loop over the members of the
+-- set of its targets meets them. Assumes nothing.
+use Prim.Native.Nat.{ℕ, zero, suc, _+_, _-_, _^_, _≤_, _<_}
+use mathlib.Core.Bool.{Bool, true, false, true≢false}
+use mathlib.Core.List.{List, [], _∷_, _++_}
+use mathlib.Core.Option.{Option, none, some}
+use mathlib.Core.Path.{_≡_, refl, sym, ap, _∙_, subst}
+use native.Mathlib.Omega.{arith}
+use lib.Dec.{eqb, ltb}
+use borrow.Author.Tests.{eqb-true, ne-eqb, ltb-true, ltb-false}
+use Rattle.sets.specs.Sets.{has, span, members, elem, headOr, tail}
+use Rattle.sets.specs.Sets as sets
+use Rattle.sets.proofs.Members.{has-elem, members-step, members-empty, first-below}
+use Rattle.scripts.specs.Tree.{close, part, one, sum, count}
+use Rattle.machine.specs.Moves.{Moved}
+use Rattle.machine.proofs.Options.{byTest, none≢some}
+use Rattle.machine.proofs.Everywhere.{Everywhere, settle-everywhere, Keeps, makes-everywhere}
+use Rattle.closures.specs.Closure.{Action, ClosureHead, Closure, Bindings, under, allSpent, closureMove, ClosureMachine}
+use Rattle.closures.specs.Targets.{isSome}
+use Rattle.closures.proofs.Holding.{self}
+use Rattle.closures.proofs.Tallies.{closure-inv}
+use Rattle.walk.specs.Walk.{range, keep, movesTo, movesFrom, inOrder}
+use Rattle.walk.specs.ClosureWalk.{machineAfter, nexts}
+use Rattle.walk.proofs.Loops.{range-first, range-none}
+
+-- ---- any moves of one actor
+
+module _ {S : Type 0} (make : ℕ → Option S) where
+  to-some : (t : ℕ) (l : List ℕ) (c : S) → make t ≡ some c → movesTo make (t ∷ l) ≡ c ∷ movesTo make l
+  unfolding movesTo keep
+  to-some t l c e = rw e
+
+  to-none : (t : ℕ) (l : List ℕ) → isSome (make t) ≡ false → movesTo make (t ∷ l) ≡ movesTo make l
+  unfolding movesTo keep isSome
+  to-none t l e = is-none (make t) e
+    where
+      is-none : (x : Option S) → isSome x ≡ false → keep x (movesTo make l) ≡ movesTo make l
+      is-none none e = refl
+      is-none (some c) e = absurd (true≢false e)
+
+  to-same : (t : ℕ) (l k : List ℕ) → movesTo make l ≡ movesTo make k → movesTo make (t ∷ l) ≡ movesTo make (t ∷ k)
+  unfolding movesTo
+  to-same t l k e = ap (keep (make t)) e
+
+  -- each of the targets makes something
+  abbrev pub Each : List ℕ → Type 0
+  Each [] = Unit {0}
+  Each (t ∷ l) = (isSome (make t) ≡ true) × Each l
+
+  -- those that pass a test which says what makes something
+  module _ (p : ℕ → Bool) where
+    to-kept : (b d : ℕ) → ((t : ℕ) → b ≤ t → t < b + d → p t ≡ isSome (make t)) → (movesTo make (range b d) ≡ movesTo make (sets.keep p (span b d))) × Each (sets.keep p (span b d))
+    unfolding range span sets.keep
+    to-kept b zero h = (refl, tt)
+    to-kept b (suc d) h =
+        let (e, a) = to-kept (suc b) d (λ t u v. h t (omega arith) (omega arith)) in
+        let s : p b ≡ isSome (make b) = h b (omega arith) (omega arith) in
+        byTest (p b)
+        (λ t. rw t (to-same b (range (suc b) d) _ e, (sym s ∙ t, a)))
+        (λ t. rw t (to-none b (range (suc b) d) (sym s ∙ t) ∙ e, a))
+
+  -- targets that make nothing
+  to-nothing : (b d : ℕ) → ((t : ℕ) → b ≤ t → isSome (make t) ≡ false) → movesTo make (range b d) ≡ movesTo make []
+  unfolding range
+  to-nothing b zero h = refl
+  to-nothing b (suc d) h = to-none b (range (suc b) d) (h b (omega arith)) ∙ to-nothing (suc b) d (λ t u. h t (omega arith))
+
+  to-limit : (b d more : ℕ) → ((t : ℕ) → b + d ≤ t → isSome (make t) ≡ false) → movesTo make (range b (d + more)) ≡ movesTo make (range b d)
+  unfolding range
+  to-limit b zero more h = let e : 0 + more ≡ more = omega arith in ap (λ (n : ℕ). movesTo make (range b n)) e ∙ to-nothing b more (λ t u. h t (omega arith))
+  to-limit b (suc d) more h =
+      let e : suc d + more ≡ suc (d + more) = omega arith in
+      ap (λ (n : ℕ). movesTo make (range b n)) e ∙ to-same b (range (suc b) (d + more)) (range (suc b) d) (to-limit (suc b) d more (λ t u. h t (omega arith)))
+
+  -- THEOREM: what the moves to all targets make is what those to the members of the set make.
+  pub to-members : (m limit : ℕ) → limit ≤ 64 → ((t : ℕ) → t < 64 → elem t (members m) ≡ isSome (make t)) → ((t : ℕ) → limit ≤ t → isSome (make t) ≡ false)
+      → (movesTo make (range 0 limit) ≡ movesTo make (members m)) × Each (members m)
+  unfolding members
+  to-members m limit low told high =
+      let e : 64 ≡ limit + (64 - limit) = omega arith in
+      let (q, a) = to-kept (has m) 0 64 (λ t u v. sym (has-elem m t (omega arith)) ∙ told t (omega arith)) in
+      (sym (to-limit 0 limit (64 - limit) (λ t u. high t (omega arith))) ∙ ap (λ (n : ℕ). movesTo make (range 0 n)) (sym e) ∙ q, a)
+
+  -- the move to the first member comes first, and the others belong to the rest of the set
+  pub to-first : (m t r : ℕ) → m < 2 ^ 64 → (m ≡ 0 → ⊥) → t ≡ headOr 64 (members m) → members r ≡ tail (members m) → Each (members m)
+      → (t < 64) × (isSome (make t) ≡ true) × Each (members r) × ((c : S) → make t ≡ some c → movesTo make (members m) ≡ c ∷ movesTo make (members r))
+  to-first m t r small n first rest a =
+      let e : members m ≡ t ∷ members r = members-step m t r small n first rest in
+      let b : Each (t ∷ members r) = subst Each e a in
+      (first-below m t (members r) e, b .0, b .1, λ c d. ap (movesTo make) e ∙ to-some t (members r) c d)
+
+  pub to-end : (m : ℕ) → m ≡ 0 → movesTo make (members m) ≡ []
+  unfolding movesTo
+  to-end m z = ap (λ (x : ℕ). movesTo make (members x)) z ∙ ap (movesTo make) members-empty
+
+-- ---- any moves, actor by actor
+
+module _ {S : Type 0} (make : ℕ → ℕ → Option S) (targets : List ℕ) where
+  pub from-first : (a limit : ℕ) → a < limit → movesFrom make (range a (limit - a)) targets ≡ movesTo (make a) targets ++ movesFrom make (range (suc a) (limit - suc a)) targets
+  unfolding movesFrom
+  from-first a limit h = ap (λ (l : List ℕ). movesFrom make l targets) (range-first a limit h)
+
+  pub from-end : (a limit : ℕ) → limit ≤ a → movesFrom make (range a (limit - a)) targets ≡ []
+  unfolding movesFrom
+  from-end a limit h = ap (λ (l : List ℕ). movesFrom make l targets) (range-none a limit h)
+
+-- ---- the closure's moves
+
+-- what stands after the move (a, t)
+abbrev pub after : Bindings → Closure → (a t : ℕ) → Option ClosureMachine
+after σ b a t = machineAfter σ (closureMove σ a t b)
+
+after-some : (σ : Bindings) (x : Option (Moved Action)) → isSome (machineAfter σ x) ≡ isSome x
+unfolding isSome
+after-some σ none = refl
+after-some σ (some m) = refl
+
+pub nexts-all : (σ : Bindings) (limit : ℕ) (b : Closure) → nexts σ limit b ≡ movesFrom (after σ b) (range 0 (limit - 0)) (range 0 limit)
+unfolding nexts inOrder
+nexts-all σ limit b = let e : limit ≡ limit - 0 = omega arith in ap (λ (n : ℕ). movesFrom (after σ b) (range 0 n) (range 0 limit)) e
+
+-- no part of the closure is numbered that or more
+abbrev pub Low : ℕ → Closure → Type 0
+Low limit b = (i : ℕ) → limit ≤ i → count i b ≡ 0
+
+abbrev Under : ℕ → Closure → Type 0
+Under limit b = Everywhere (λ (i : ℕ) (h : ClosureHead). i < limit) b
+
+low-under : (limit : ℕ) (b : Closure) → Low limit b → Under limit b
+unfolding sum
+low-under limit close l = tt
+low-under limit (part i h b r) l =
+    (small, low-under limit b (λ j g. let z = l j g in omega arith), low-under limit r (λ j g. let z = l j g in omega arith))
+  where
+    small : i < limit
+    small = byTest (ltb i limit) (λ t. ltb-true i limit t) (λ t. absurd (let z : ⊥ = omega (arith, l i (ltb-false i limit t), self i) in z))
+
+under-low : (limit : ℕ) (b : Closure) → Under limit b → Low limit b
+unfolding sum
+under-low limit close u i g = refl
+under-low limit (part j h b r) u i g =
+    let s : j < limit = u .0 in
+    rw (ne-eqb i j (λ e. omega (arith, s))) (omega (arith, under-low limit b (u .1) i g, under-low limit r (u .2) i g))
+
+-- THEOREM: the actor and the target of a move are numbers of the closure's parts, and no new ones stand after it.
+pub move-low : (σ : Bindings) (limit a t : ℕ) (b : Closure) (m : Moved Action) → Low limit b → closureMove σ a t b ≡ some m → (a < limit) × (t < limit) × Low limit (m .body)
+move-low σ limit a t b m l e =
+    let M = closure-inv σ a t b m e in
+    let K : Keeps (under σ) (λ (i : ℕ) (h : ClosureHead). i < limit) = record { spends = λ i h q. q; delivers = λ i v n c q x. x } in
+    let (x, y, u) = makes-everywhere (under σ) (λ (i : ℕ) (h : ClosureHead). i < limit) K a t (M .makes) (low-under limit b l) in
+    (x .1, y .1, under-low limit (m .body) (rw (M .settled) (settle-everywhere (λ (i : ℕ) (h : ClosureHead). i < limit) (allSpent (m .news ++ σ)) (M .before) u)))
+
+move-high : (σ : Bindings) (limit a t : ℕ) (b : Closure) → Low limit b → limit ≤ t → isSome (closureMove σ a t b) ≡ false
+unfolding isSome
+move-high σ limit a t b l g = go (closureMove σ a t b) refl
+  where
+    go : (x : Option (Moved Action)) → closureMove σ a t b ≡ x → isSome x ≡ false
+    go none e = refl
+    go (some m) e = absurd (let z = move-low σ limit a t b m l e in let n : t < limit = z .1 in let w : ⊥ = omega arith in w)
+
+-- THEOREM: what stands after the moves of an actor is what stands after those to the members of its set of targets.
+pub after-members : (σ : Bindings) (limit : ℕ) (b : Closure) → limit ≤ 64 → Low limit b → (a m : ℕ) → ((t : ℕ) → t < 64 → elem t (members m) ≡ isSome (closureMove σ a t b))
+    → (movesTo (after σ b a) (range 0 limit) ≡ movesTo (after σ b a) (members m)) × Each (after σ b a) (members m)
+after-members σ limit b few l a m told =
+    to-members (after σ b a) m limit few
+    (λ t s. told t s ∙ sym (after-some σ (closureMove σ a t b)))
+    (λ t g. after-some σ (closureMove σ a t b) ∙ move-high σ limit a t b l g)
+
+-- a target of the set is one of a move that is made
+pub after-made : (σ : Bindings) (b : Closure) (a t : ℕ) → isSome (after σ b a t) ≡ true → isSome (closureMove σ a t b) ≡ true
+after-made σ b a t e = sym (after-some σ (closureMove σ a t b)) ∙ e
+
+-- and the machine after it
+pub after-is : (σ τ : Bindings) (b : Closure) (a t : ℕ) (m : Moved Action) → closureMove σ a t b ≡ some m → τ ≡ m .news ++ σ → after σ b a t ≡ some (record { tree = m .body; bindings = τ })
+after-is σ τ b a t m e d = ap (machineAfter σ) e ∙ ap (λ (x : Bindings). some (record { tree = m .body; bindings = x })) (sym d)
