@@ -23,6 +23,7 @@ pub mod Acting
 pub mod Possible
 pub mod Aiming
 pub mod Arrays
+pub mod Copying
 pub mod Placing
 pub mod Making
 pub mod Finishing

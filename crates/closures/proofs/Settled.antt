@@ -73,10 +73,10 @@ held-whole k w w′ same (part i g b r) h = (
 )
 
 pub begun : (script kinds starts kids : List ℕ) (n : ℕ) (s : State) (b : Script) → Tabled script (record { kinds = kinds; starts = starts; kids = kids; count = n }) b
-    → ((i : ℕ) → getD starts i 0 < 65536) → s .kids ≡ kids → s .offsets ≡ replicate 64 0 → s .bindings .first ≡ 32
+    → s .kids ≡ kids → s .offsets ≡ replicate 64 0 → s .bindings .first ≡ 32
     → Represents script kinds starts (parts b) 0 s (closureOf b)
 unfolding closureOf
-begun script kinds starts kids n s b T low ek eo ef =
+begun script kinds starts kids n s b T ek eo ef =
     let zero : (i : ℕ) → getD (s .offsets) i 0 ≡ 0 = λ i. ap (λ (o : List ℕ). getD o i 0) eo ∙ zeros i in
     let numbers : (j : ℕ) → count j (closureOf b) ≡ count j b = λ j. map-sum (λ i h. one (eqb j i)) (λ (x : Written). wholeHead (x .head)) b in
     let few : parts b ≤ 64 = omega (arith, T .few, T .counted) in
@@ -84,7 +84,7 @@ begun script kinds starts kids n s b T low ek eo ef =
       top = ap (λ (l : List ℕ). bodyIn l 64) ek ∙ T .top ∙ sym (tops-map (λ (x : Written). wholeHead (x .head)) b);
       held = subst (λ (l : List ℕ). Held (bodyIn l) (heads script kinds starts (s .offsets)) (closureOf b)) (sym ek)
           (held-whole (bodyIn kids) (headIn script kinds starts) (heads script kinds starts (s .offsets))
-          (λ i. ap (headOf script (getD kinds i 0) (getD starts i 0)) (zero i) ∙ whole script (getD kinds i 0) (getD starts i 0) (low i)) b (T .held));
+          (λ i. ap (headOf script (getD kinds i 0) (getD starts i 0)) (zero i) ∙ whole script (getD kinds i 0) (getD starts i 0) (omega (arith, T .low i))) b (T .held));
       once = λ i. omega (arith, numbers i, numbered-range i 0 b (T .numbered) .once);
       inside = λ i h. omega (arith, numbers i, numbered-range i 0 b (T .numbered) .over (omega arith));
       light = few;

@@ -5,3 +5,4 @@ pub mod Searches
 pub mod Seen
 pub mod Targets
 pub mod Makes
+pub mod Lent

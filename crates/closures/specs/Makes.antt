@@ -48,3 +48,9 @@ module _ (script kinds starts : List ℕ) (s r : State) where
   -- every move that can be made, at being the places of the parts
   abbrev pub Moves : (at : ℕ → ℕ) (a t : ℕ) → Type 0
   Moves at a t = MakesIf (λ b. ((i : ℕ) → i < 64 → at i ≡ place (boundIn script s) i b) × (isSome (closureMove (boundIn script s) a t b) ≡ true)) a t
+
+  -- r is that state if the move can be made, which `made` says, and s itself if not
+  abbrev pub Tries : (made : Bool) (a t : ℕ) → Type 0
+  Tries made a t =
+      (weight spent : ℕ) (b : Closure) → spent + 1 < 4294967295 → Represents script kinds starts weight spent s b
+      → (made ≡ isSome (closureMove (boundIn script s) a t b)) × (made ≡ true → Makes weight (spent + 1) a t b)

@@ -17,7 +17,7 @@ use Rattle.messages.proofs.Spells.{read-message}
 use Rattle.scripts.specs.Tree.{Head, ambient, action, receipt, output, close, part, kindNumber, sum, parts}
 use Rattle.scripts.specs.Script.{Written, Script, partWord, fits, guardedFrom, partFrom, orClose, readBody}
 use Rattle.scripts.specs.Table.{startBy, startOf}
-use Rattle.scripts.specs.Represents.{Numbered, Placed, headAt}
+use Rattle.scripts.specs.Represents.{Numbered, Placed, Low, headAt}
 use Rattle.scripts.specs.declared.PartWord.{PartWord}
 use Rattle.scripts.specs.declared.PartWord.the-variants.{Close, Ambient, Action, Receipt, Output, No}
 
@@ -31,6 +31,7 @@ pub record BodyRead (nest : ℕ) (around : List ℕ) (c : Cursor) (p : Script ×
   pub fewer : p .1 .number + c .index ≤ c .number + p .1 .index
   pub numbered : Numbered (c .number) (p .0)
   pub placed : (ws : List ℕ) → Stands ws c → Placed ws (p .0)
+  pub low : (n : ℕ) → p .1 .index ≤ n → Low n (p .0)
 
 pub record PartRead (nest : ℕ) (around : List ℕ) (c : Cursor) (p : (Written × Script) × Cursor) : Type 0 where
   pub ahead : c .index < p .1 .index
@@ -39,6 +40,7 @@ pub record PartRead (nest : ℕ) (around : List ℕ) (c : Cursor) (p : (Written 
   pub fewer : p .1 .number + c .index ≤ c .number + p .1 .index
   pub numbered : Numbered (c .number) (p .0 .1)
   pub placed : (ws : List ℕ) → Stands ws c → Placed ws (p .0 .1)
+  pub low : (n : ℕ) → p .1 .index ≤ n → Low n (p .0 .1)
   pub says : (ws : List ℕ) → Stands ws c → c .index ≡ p .0 .0 .index + 1 → headAt ws (kindNumber (p .0 .0 .head)) (startOf (p .0 .0)) ≡ p .0 .0 .head
 
 -- a message that was read is the one that the words spell
@@ -85,11 +87,12 @@ module _ (nest : ℕ) (around : List ℕ) (c : Cursor) where
     fewer = omega (arith, m .ahead, m .number, b .fewer);
     numbered = subst (λ (n : ℕ). Numbered n (r .0)) (m .number) (b .numbered);
     placed = λ ws s. b .placed ws (stands-on ws c (q .1) (m .advances) s);
+    low = b .low;
     says = λ ws s e. says ws i (q .0) (spelt-at ws c i q l s e);
   }
 
   receipt-read : (a : List ℕ) (i : ℕ) (r : Script × Cursor) → BodyRead (suc nest) a c r → PartRead nest around c ((record { index = i; head = receipt i }, r .0), r .1)
-  receipt-read a i r b = record { ahead = b .ahead; advances = b .advances; numbers = b .numbers; fewer = b .fewer; numbered = b .numbered; placed = b .placed; says = λ ws s e. receipt-says ws i }
+  receipt-read a i r b = record { ahead = b .ahead; advances = b .advances; numbers = b .numbers; fewer = b .fewer; numbered = b .numbered; placed = b .placed; low = b .low; says = λ ws s e. receipt-says ws i }
 
   output-read : (i : ℕ) (q : Message × Cursor) → MessageRead around c q → Spelt c q → PartRead nest around c ((record { index = i; head = output (q .0) }, close), q .1)
   unfolding sum
@@ -100,15 +103,16 @@ module _ (nest : ℕ) (around : List ℕ) (c : Cursor) where
     fewer = omega (arith, m .ahead, m .number);
     numbered = tt;
     placed = λ ws s. tt;
+    low = λ n l. tt;
     says = λ ws s e. output-says ws i (q .0) (spelt-at ws c i q l s e);
   }
 
   closed-read : (q : ℕ × Cursor) → Next c q → BodyRead nest around c (close, q .1)
   unfolding sum
-  closed-read q n = record { ahead = omega (arith, n .index); advances = next-advances c q n; numbers = omega (arith, n .number); fewer = omega (arith, n .index, n .number); numbered = tt; placed = λ ws s. tt }
+  closed-read q n = record { ahead = omega (arith, n .index); advances = next-advances c q n; numbers = omega (arith, n .number); fewer = omega (arith, n .index, n .number); numbered = tt; placed = λ ws s. tt; low = λ n l. tt }
 
   part-more : (q : ℕ × Cursor) (p : (Written × Script) × Cursor) (r : Script × Cursor)
-      → Next c q → PartRead nest around (nextPart (q .1)) p → p .0 .0 .index ≡ c .index → BodyRead nest around (p .1) r → BodyRead nest around c (part (c .number) (p .0 .0) (p .0 .1) (r .0), r .1)
+      → Next c q → PartRead nest around (nextPart (q .1)) p → (p .0 .0 .index ≡ c .index) × (startOf (p .0 .0) ≤ c .index + 1) → BodyRead nest around (p .1) r → BodyRead nest around c (part (c .number) (p .0 .0) (p .0 .1) (r .0), r .1)
   unfolding sum
   part-more q p r n a i b = record {
     ahead = omega (arith, n .index, a .ahead, b .ahead);
@@ -122,10 +126,11 @@ module _ (nest : ℕ) (around : List ℕ) (c : Cursor) where
     );
     placed = λ ws s.
         let s₁ : Stands ws (nextPart (q .1)) = stands-on ws c (q .1) (next-advances c q n) s in (
-          a .says ws s₁ (let e : q .1 .index ≡ p .0 .0 .index + 1 = omega (arith, n .index, i) in e),
+          a .says ws s₁ (let e : q .1 .index ≡ p .0 .0 .index + 1 = omega (arith, n .index, i .0) in e),
           a .placed ws s₁,
           b .placed ws (stands-on ws (nextPart (q .1)) (p .1) (a .advances) s₁),
         );
+    low = λ k l. (omega (arith, i .1, n .index, a .ahead, b .ahead), a .low k (omega (arith, b .ahead)), b .low k l);
   }
 
 -- a body that was read was closed at its first word, or has a part there
@@ -141,20 +146,20 @@ or-close-all P (No q) c k h f b e = f b e
 or-close-cong : (w : PartWord) (c : Cursor) (k l : Reading (Script × Cursor)) → k ≡ l → orClose w c k ≡ orClose w c l
 or-close-cong w c k l e = ap (λ (x : Reading (Script × Cursor)). orClose w c x) e
 
--- a part has the index of its word
+-- a part has the index of its word, and its message starts there or behind
 module _ (message : Messages) (inside : Insides) (around : List ℕ) (i : ℕ) where
   abbrev At : (Written × Script) × Cursor → Type 0
-  At p = p .0 .0 .index ≡ i
+  At p = (p .0 .0 .index ≡ i) × (startOf (p .0 .0) ≤ i + 1)
 
-  guarded-index : (written : Message → Head Message) (c : Cursor) (p : (Written × Script) × Cursor) → guardedFrom written message inside around i c ≡ got p → At p
-  guarded-index written c = bind-all At (message c) _ (λ q _. bind-all At (inside around (q .1)) _ (λ r _. got-all At _ refl))
+  guarded-index : (written : Message → Head Message) → ((m : Message) → startBy (written m) i ≤ i + 1) → (c : Cursor) (p : (Written × Script) × Cursor) → guardedFrom written message inside around i c ≡ got p → At p
+  guarded-index written low c = bind-all At (message c) _ (λ q _. bind-all At (inside around (q .1)) _ (λ r _. got-all At _ (refl, low (q .0))))
 
   part-index : (w : PartWord) (c : Cursor) (p : (Written × Script) × Cursor) → partFrom message inside around w i c ≡ got p → At p
   unfolding partFrom
-  part-index Ambient c p e = guarded-index ambient c p e
-  part-index Action c p e = guarded-index action c p e
-  part-index Receipt c p e = bind-all At (inside (i ∷ around) c) _ (λ r _. got-all At _ refl) p e
-  part-index Output c p e = bind-all At (message c) _ (λ q _. got-all At _ refl) p e
+  part-index Ambient c p e = guarded-index ambient (λ m. omega arith) c p e
+  part-index Action c p e = guarded-index action (λ m. omega arith) c p e
+  part-index Receipt c p e = bind-all At (inside (i ∷ around) c) _ (λ r _. got-all At _ (refl, omega arith)) p e
+  part-index Output c p e = bind-all At (message c) _ (λ q _. got-all At _ (refl, omega arith)) p e
   part-index Close c p e = refuse≢got e
   part-index (No q) c p e = refuse≢got e
 

@@ -2,15 +2,15 @@
 -- what reading gives: the parts are numbered in word order, and their messages are those that the words spell.
 -- Assumes nothing.
 use Prim.Native.Nat.{ℕ, zero, suc, _+_, _-_, _≤_, _<_}
-use mathlib.Core.Bool.{_&&_}
+use mathlib.Core.Bool.{Bool, true, false, _&&_, true≢false}
 use mathlib.Core.List.{List, [], _∷_, _++_, append-assoc, append-nil}
 use mathlib.Core.Path.{_≡_, refl, sym, ap, ap₂, _∙_, subst}
 use mathlib.Core.Logic.{_⊎_, inl, inr, ⊎-elim}
 use native.Mathlib.Omega.{arith}
-use lib.ListN.{length, getD, set, drop, replicate, length-set, length-replicate, getD-replicate}
+use lib.ListN.{length, getD, set, drop, replicate, length-set, length-replicate, getD-replicate, List·getD-eq-default}
 use lib.Seq.{getD-set-same, getD-set-other}
-use lib.Dec.{leb}
-use borrow.Author.Tests.{ne-eqb, lt-ltb, le-ltb, leb-true}
+use lib.Dec.{leb, ltb, eqb}
+use borrow.Author.Tests.{ne-eqb, eqb-true, eqb-false, lt-ltb, le-ltb, ltb-true, ltb-false, leb-true}
 use Rattle.sets.specs.Sets.{members, insert, mask, Rising, Below}
 use Rattle.sets.proofs.Members.{members-rising, members-below, members-empty}
 use Rattle.sets.proofs.Lists.{members-mask, insert-rising}
@@ -19,7 +19,7 @@ use Rattle.messages.proofs.Readings.{bind-all, got-all, ask-inv}
 use Rattle.scripts.specs.Tree.{Head, ambient, action, receipt, output, Body, close, part, tops, sum, parts, mapHeads, kindNumber}
 use Rattle.scripts.specs.Script.{Written, Script, readBody, readScript}
 use Rattle.scripts.specs.Table.{vacant, entered, startOf, tabulate, scanned}
-use Rattle.scripts.specs.Represents.{Numbered, Held, bodyIn, headAt, headIn, written, Placed, Tabled}
+use Rattle.scripts.specs.Represents.{Numbered, Held, bodyIn, headAt, headIn, written, Placed, Low, Tabled}
 use Rattle.scripts.specs.declared.Table.{Table}
 use Rattle.scripts.specs.declared.Scan.{Scan}
 use Rattle.scripts.proofs.Laws.{body-advances}
@@ -142,6 +142,27 @@ module _ (o k s : ℕ) (t : Table) (R : Room t) (W : Owner o (t .count)) (l : t 
     kids-kept = λ j n a. entered-kids j n;
   }
 
+-- no message starts behind the n-th word
+
+byTest : {P : Type 0} (t : Bool) → (t ≡ true → P) → (t ≡ false → P) → P
+byTest true y n = y refl
+byTest false y n = n refl
+
+set-low : (n i v : ℕ) (l : List ℕ) → v ≤ n → ((j : ℕ) → getD l j 0 ≤ n) → (j : ℕ) → getD (set l i v) j 0 ≤ n
+set-low n i v l m h j = byTest (eqb j i)
+    (λ t. byTest (ltb i (length l))
+    (λ u. rw (eqb-true j i t) (omega (arith, getD-set-same l i v 0 (ltb-true i (length l) u))))
+    (λ u. let e : getD (set l i v) j 0 ≡ 0 = List·getD-eq-default (set l i v) 0 (omega (arith, length-set l i v, ltb-false i (length l) u, eqb-true j i t)) in omega arith))
+    (λ t. omega (arith, getD-set-other l i j v 0 (eqb-false j i t), h j))
+
+starts-low : (n o : ℕ) (b : Script) (t : Table) → ((i : ℕ) → getD (t .starts) i 0 ≤ n) → Low n b → (i : ℕ) → getD (tabulate o b t .starts) i 0 ≤ n
+unfolding tabulate entered
+starts-low n o close t h L = h
+starts-low n o (part i w b r) t h L = starts-low n o r _
+    (starts-low n i b _
+    (byTest (ltb (t .count) 64) (λ u. rw u (set-low n (t .count) (startOf w) (t .starts) (L .0) h)) (λ u. rw u h))
+    (L .1)) (L .2)
+
 -- what a table holds after a body's parts
 record Filled (ws : List ℕ) (o : ℕ) (b : Script) (t u : Table) : Type 0 where
   wrote : Wrote o (t .count) (t .count + parts b) t u
@@ -198,8 +219,8 @@ module _ (ws : List ℕ) where
       }
 
   -- the table of a script whose parts are numbered from 0 and stand where the words say
-  pub tabled : (b : Script) → Numbered 0 b → Placed ws b → parts b ≤ 64 → Tabled ws (tabulate 64 b vacant) b
-  tabled b N P l =
+  pub tabled : (b : Script) → Numbered 0 b → Placed ws b → Low 1024 b → parts b ≤ 64 → Tabled ws (tabulate 64 b vacant) b
+  tabled b N P L l =
       let none : (j : ℕ) → j < 65 → bodyIn (vacant .kids) j ≡ [] = λ j a. ap members (getD-replicate 65 j 0 0 a) ∙ members-empty in
       let top : bodyIn (vacant .kids) 64 ≡ [] = none 64 (omega arith) in
       let F = filled 64 b vacant N P (omega arith)
@@ -212,7 +233,11 @@ module _ (ws : List ℕ) where
         numbered = N;
         top = F .own ∙ ap (λ (m : List ℕ). m ++ tops b) top;
         held = F .held;
+        low = starts-low 1024 64 b vacant (λ i. omega (arith, none-started i)) L;
       }
+    where
+      none-started : (i : ℕ) → _≡_ {A = ℕ} (getD (replicate 64 0) i 0) 0
+      none-started i = byTest (ltb i 64) (λ u. getD-replicate 64 i 0 0 (ltb-true i 64 u)) (λ u. List·getD-eq-default (replicate 64 0) 0 (ltb-false i 64 u))
 
 -- what is claimed of a script that is read
 abbrev Holds : List ℕ → Script × Cursor → Type 0
@@ -223,12 +248,17 @@ pub script-tabled : (ws : List ℕ) (p : Script × Cursor) → readScript ws ≡
 unfolding readScript
 script-tabled ws =
     bind-all (Holds ws) (ask 1 0 (leb 1 (length ws) && leb (length ws) 1024)) _
-    (λ _ _. bind-all (Holds ws) (readBody (length ws) 0 [] (cursor 0 0 ws)) _
+    (λ u₁ e₁. bind-all (Holds ws) (readBody (length ws) 0 [] (cursor 0 0 ws)) _
     (λ q e. bind-all (Holds ws) (ask 5 (q .1 .index) (isEmpty (q .1 .left))) _
     (λ _ _. bind-all (Holds ws) (ask 6 0 (leb (q .1 .number) 64)) _
     (λ u e₆. got-all (Holds ws) q
     (let b = body-advances (length ws) 0 [] (cursor 0 0 ws) q e in
-    tabled ws (q .0) (b .numbered) (b .placed ws refl) (omega (arith, b .numbers, leb-true (q .1 .number) 64 (ask-inv 6 0 _ u e₆))))))))
+    let few : length ws ≤ 1024 = leb-true (length ws) 1024 (second (leb 1 (length ws)) (leb (length ws) 1024) (ask-inv 1 0 _ u₁ e₁)) in
+    tabled ws (q .0) (b .numbered) (b .placed ws refl) (b .low 1024 (omega (arith, b .advances .within))) (omega (arith, b .numbers, leb-true (q .1 .number) 64 (ask-inv 6 0 _ u e₆))))))))
+  where
+    second : (x y : Bool) → (x && y) ≡ true → y ≡ true
+    second true y e = e
+    second false y e = absurd (true≢false (sym e))
 
 -- the cursor's number is the number of parts
 abbrev Counts : Script × Cursor → Type 0

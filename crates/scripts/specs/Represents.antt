@@ -43,6 +43,11 @@ abbrev pub Placed : (script : List ℕ) → Script → Type 0
 Placed ws close = Unit {0}
 Placed ws (part i w b r) = (headAt ws (kindNumber (w .head)) (startOf w) ≡ w .head) × Placed ws b × Placed ws r
 
+-- no part's message starts behind the n-th word
+abbrev pub Low : (n : ℕ) → Script → Type 0
+Low n close = Unit {0}
+Low n (part i w b r) = (startOf w ≤ n) × Low n b × Low n r
+
 -- the tree, its parts being what they are without their places
 abbrev pub written : Script → Body (Head Message)
 written b = mapHeads (λ w. w .head) b
@@ -54,6 +59,7 @@ pub record Tabled (script : List ℕ) (t : Table) (b : Script) : Type 0 where
   pub numbered : Numbered 0 b
   pub top : bodyIn (t .kids) 64 ≡ tops b
   pub held : Held (bodyIn (t .kids)) (headIn script (t .kinds) (t .starts)) (written b)
+  pub low : (i : ℕ) → getD (t .starts) i 0 ≤ 1024
 
 -- To unfold this is to unfold every definition of this module: for a proof by computation.
 unfoldable pub computing : Unit {0}

@@ -36,9 +36,9 @@ returns c =
     let y = c .settle .ensures .0 in
     let σ : boundIn (x .script .now) s ≡ [] = ap (bindingsOf (x .script .now)) (e .2) ∙ n .1 in (
       (ready-same (x .script .now) (x .kinds .now) (x .starts .now) s (c .settle .result) (sym (y .0)) (sym (y .1)) (sym (y .2)) (c .before .looked .ensures .0), ap (bindingsOf (x .script .now)) (y .2) ∙ σ),
-      λ count b T low. subst (λ (τ : Bindings). Represents (x .script .now) (x .kinds .now) (x .starts .now) (parts b) 0 (c .settle .result) (settleUnder τ (closureOf b))) σ
+      λ count b T. subst (λ (τ : Bindings). Represents (x .script .now) (x .kinds .now) (x .starts .now) (parts b) 0 (c .settle .result) (settleUnder τ (closureOf b))) σ
           (c .settle .ensures .1 (x .script .now) (x .starts .now) (parts b) 0 (closureOf b) (c .before .looked .ensures .0) (omega arith)
-          (begun (x .script .now) (x .kinds .now) (x .starts .now) (x .kids) count s b T low (e .0) (e .1) (ap (λ (p : arrays.Bindings). p .first) (e .2) ∙ n .2))),
+          (begun (x .script .now) (x .kinds .now) (x .starts .now) (x .kids) count s b T (e .0) (e .1) (ap (λ (p : arrays.Bindings). p .first) (e .2) ∙ n .2))),
     )
 
 pub first-state-spec : {M : Type 1} → statement M
