@@ -1,4 +1,6 @@
--- That the walk decides satisfaction, and what it needs; and that it is the same on closures. Assumes nothing.
+-- That the walk decides satisfaction, and what it needs; that it is the same on closures; what a rule word asks of a closure,
+-- answered by the sets that hold it (from Loops on); and what the walk's code answers by the visits made (from Scenes on).
+-- Assumes nothing.
 pub mod Renaming
 pub mod Fits
 pub mod Listed
@@ -11,3 +13,9 @@ pub mod Single
 pub mod Divided
 pub mod Rooms
 pub mod Targeted
+pub mod Scenes
+pub mod Members
+pub mod Turns
+pub mod Lendings
+pub mod Begun
+pub mod Order
