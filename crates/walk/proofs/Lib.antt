@@ -1,5 +1,6 @@
--- That the walk decides satisfaction, and what it needs; that it is the same on closures; and what a rule word asks of a
--- closure, answered by the sets that hold it (from Loops on). Assumes nothing.
+-- That the walk decides satisfaction, and what it needs; that it is the same on closures; what a rule word asks of a closure,
+-- answered by the sets that hold it (from Loops on); and what the walk's code answers by the visits made (from Scenes on).
+-- Assumes nothing.
 pub mod Renaming
 pub mod Fits
 pub mod Listed
@@ -12,11 +13,9 @@ pub mod Single
 pub mod Divided
 pub mod Rooms
 pub mod Targeted
+pub mod Scenes
+pub mod Members
+pub mod Turns
+pub mod Lendings
+pub mod Begun
 pub mod Order
-pub mod Stages
-pub mod Visiting
-pub mod Looking
-pub mod ShareTurns
-pub mod NameTurns
-pub mod RoomTurns
-pub mod MoveTurns

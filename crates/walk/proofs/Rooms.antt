@@ -1,11 +1,11 @@
 -- SOMEWHERE: the insides of the named top ambients, one after the other, as a loop over the members of a set meets them.
 -- Assumes nothing.
-use Prim.Native.Nat.{ℕ, _^_, _≤_, _<_}
-use mathlib.Core.Bool.{true, false}
+use Prim.Native.Nat.{ℕ, _+_, _^_, _≤_, _<_}
+use mathlib.Core.Bool.{Bool, true, false}
 use mathlib.Core.List.{List, [], _∷_, map}
 use mathlib.Core.Path.{_≡_, refl, sym, ap, _∙_, subst}
 use native.Mathlib.Omega.{arith}
-use lib.Dec.{ltb}
+use lib.Dec.{eqb, ltb}
 use lib.ListN.{set, length}
 use borrow.Author.Tests.{ltb-true, ltb-false}
 use Rattle.sets.specs.Sets.{keep, members, elem, both, headOr, tail}
@@ -80,16 +80,16 @@ module _ (k : ℕ → List ℕ) (w : ℕ → ClosureHead) where
   rooms-none b m cs z R = rooms-nil b cs (subst (λ (l : List ℕ). Rooms b l cs) (ap members z ∙ members-empty) R)
 
 -- THEOREM: SOMEWHERE asks for the insides of the top parts that have a name.
-pub rooms-told : {script kinds starts : List ℕ} {weight spent : ℕ} {s : State} {b : Closure} → Represents script kinds starts weight spent s b → (kids : List ℕ) (top : ℕ) → s .kids ≡ set kids 64 top → length kids ≡ 65
-    → Ready script kinds starts s → spent < 4294967295 → (m : ℕ) → members m ≡ both (members top) (members (s .looks .named))
+pub rooms-told : (script kinds starts : List ℕ) (weight spent : ℕ) (s : State) (b : Closure) (kids : List ℕ) (top : ℕ) → s .kids ≡ set kids 64 top → length kids ≡ 65
+    → Represents script kinds starts weight spent s b → Ready script kinds starts s → spent < 4294967295 → (m : ℕ) → members m ≡ both (members top) (members (s .looks .named))
     → (cs : List Closure) × (insides (boundIn script s) b ≡ map (beside (boundIn script s)) cs) × Rooms (bodyIn (s .kids)) (heads script kinds starts (s .offsets)) b (members m) cs
-rooms-told {script} {kinds} {starts} {weight} {spent} {s} {b} R kids top sets long ready few m e =
+rooms-told script kinds starts weight spent s b kids top sets long R ready few m e =
     let σ : Bindings = boundIn script s in
     let k : ℕ → List ℕ = bodyIn (s .kids) in
     let w : ℕ → ClosureHead = heads script kinds starts (s .offsets) in
-    let names : Names σ w (members (s .looks .named)) = seen-names σ w (s .looks) (seen-told ready R few) in
+    let names : Names σ w (members (s .looks .named)) = seen-names σ w (s .looks) (seen-told script kinds starts weight spent s b ready R few) in
     let (cs, q, rooms) = insides-rooms k w σ (members (s .looks .named)) b (R .held) (λ i c. names i (low i c)) in
-    (cs, q, subst (λ (l : List ℕ). Rooms k w b l cs) (sym (e ∙ ap (λ (l : List ℕ). both l (members (s .looks .named))) (top-told R kids top sets long))) rooms)
+    (cs, q, subst (λ (l : List ℕ). Rooms k w b l cs) (sym (e ∙ ap (λ (l : List ℕ). both l (members (s .looks .named))) (top-told script kinds starts weight spent s b kids top sets long R))) rooms)
   where
     low : (i : ℕ) → 1 ≤ count i b → i < 64
     low i c = byTest (ltb i 64) (λ t. ltb-true i 64 t) (λ t. absurd (let z : ⊥ = omega (arith, R .inside i (ltb-false i 64 t)) in z))

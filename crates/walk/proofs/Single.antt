@@ -1,12 +1,12 @@
 -- VOID and AT: no top parts, and just one, by the set of the top parts. Assumes nothing.
-use Prim.Native.Nat.{ℕ, _^_, _<_}
-use mathlib.Core.Bool.{true, false, cond, true≢false}
+use Prim.Native.Nat.{ℕ, _^_, _≤_, _<_}
+use mathlib.Core.Bool.{Bool, true, false, cond, true≢false}
 use mathlib.Core.List.{List, [], _∷_}
-use mathlib.Core.Option.{none, some}
+use mathlib.Core.Option.{Option, none, some}
 use mathlib.Core.Path.{_≡_, refl, sym, ap, _∙_}
 use native.Mathlib.Omega.{arith}
 use lib.Dec.{eqb}
-use lib.ListN.{set, length}
+use lib.ListN.{getD, set, length}
 use Rattle.messages.specs.declared.Named.{Named}
 use Rattle.messages.specs.declared.Named.the-variants.{Called}
 use Rattle.sets.specs.Sets.{members, headOr, isNone, isOne}
@@ -15,12 +15,12 @@ use Rattle.sets.proofs.Lists.{one-is}
 use Rattle.scripts.specs.Tree.{close, part, tops, sum}
 use Rattle.scripts.specs.Represents.{Held, bodyIn}
 use Rattle.machine.specs.Moves.{headName, sameName}
-use Rattle.closures.specs.Closure.{ClosureHead, Closure, Bindings, under}
+use Rattle.closures.specs.Closure.{ClosureHead, Closure, Bindings, under, ClosureMachine}
 use Rattle.closures.specs.Seen.{nameIn}
 use Rattle.closures.specs.Represents.{heads, boundIn, Ready, Represents}
 use Rattle.closures.specs.declared.State.{State}
 use Rattle.walk.specs.ClosureWalk.{isVoid, beside, only}
-use Rattle.walk.specs.Pieces.{Room}
+use Rattle.walk.specs.Pieces.{Piece, Room}
 use Rattle.walk.proofs.Focused.{seen-told, top-told}
 
 -- VOID
@@ -52,9 +52,10 @@ only-one σ k w n i (part j g c close) h e =
     )
 only-one σ k w n i (part j g c (part j₁ g₁ c₁ r)) h e = absurd (let z : _≡_ {A = ℕ} 0 1 = cc in omega arith)
 
-module _ {script kinds starts : List ℕ} {weight spent : ℕ} {s : State} {b : Closure} (R : Represents script kinds starts weight spent s b) (kids : List ℕ) (top : ℕ) (sets : s .kids ≡ set kids 64 top) (long : length kids ≡ 65) where
+module _ (script kinds starts : List ℕ) (weight spent : ℕ) (s : State) (b : Closure) (kids : List ℕ) (top : ℕ) (sets : s .kids ≡ set kids 64 top) (long : length kids ≡ 65)
+    (R : Represents script kinds starts weight spent s b) where
   pub at-none : (n : ℕ) → isOne (members top) ≡ false → only (boundIn script s) n b ≡ none
-  at-none n e = only-none (boundIn script s) n b (ap isOne (sym (top-told R kids top sets long)) ∙ e)
+  at-none n e = only-none (boundIn script s) n b (ap isOne (sym (top-told script kinds starts weight spent s b kids top sets long R)) ∙ e)
 
   -- THEOREM: AT asks for the inside of the one top part, by the name that is kept of it.
   pub at-one : Ready script kinds starts s → spent < 4294967295 → (n i : ℕ) → isOne (members top) ≡ true → i ≡ headOr 64 (members top)
@@ -63,6 +64,6 @@ module _ {script kinds starts : List ℕ} {weight spent : ℕ} {s : State} {b : 
   at-one ready few n i one first =
       let single : members top ≡ i ∷ [] = one-is 64 (members top) one ∙ ap (λ (x : ℕ). x ∷ []) (sym first) in
       let small : i < 64 = first-below top i [] single in
-      let (c, room, e) = only-one (boundIn script s) (bodyIn (s .kids)) (heads script kinds starts (s .offsets)) n i b (R .held) (sym (top-told R kids top sets long) ∙ single) in
-      let name = seen-told ready R few .names i small in
+      let (c, room, e) = only-one (boundIn script s) (bodyIn (s .kids)) (heads script kinds starts (s .offsets)) n i b (R .held) (sym (top-told script kinds starts weight spent s b kids top sets long R) ∙ single) in
+      let name = seen-told script kinds starts weight spent s b ready R few .names i small in
       (small, (c, room, e ∙ ap (λ (x : Named). cond (sameName (Called n) x) (some (beside (boundIn script s) c)) none) (sym name)))

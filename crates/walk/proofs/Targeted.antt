@@ -6,22 +6,21 @@ use mathlib.Core.List.{List, [], _∷_, _++_}
 use mathlib.Core.Option.{Option, none, some}
 use mathlib.Core.Path.{_≡_, refl, sym, ap, _∙_, subst}
 use native.Mathlib.Omega.{arith}
-use lib.Dec.{ltb}
-use borrow.Author.Tests.{ne-eqb, ltb-true, ltb-false}
+use lib.Dec.{eqb, ltb}
+use borrow.Author.Tests.{eqb-true, ne-eqb, ltb-true, ltb-false}
 use Rattle.sets.specs.Sets.{has, span, members, elem, headOr, tail}
 use Rattle.sets.specs.Sets as sets
 use Rattle.sets.proofs.Members.{has-elem, members-step, members-empty, first-below}
 use Rattle.scripts.specs.Tree.{close, part, one, sum, count}
 use Rattle.machine.specs.Moves.{Moved}
-use Rattle.machine.proofs.Options.{byTest}
+use Rattle.machine.proofs.Options.{byTest, none≢some}
 use Rattle.machine.proofs.Everywhere.{Everywhere, settle-everywhere, Keeps, makes-everywhere}
-use Rattle.closures.specs.Closure.{Action, ClosureHead, Closure, Bindings, under, allSpent, closureMove}
+use Rattle.closures.specs.Closure.{Action, ClosureHead, Closure, Bindings, under, allSpent, closureMove, ClosureMachine}
 use Rattle.closures.specs.Targets.{isSome}
 use Rattle.closures.proofs.Holding.{self}
 use Rattle.closures.proofs.Tallies.{closure-inv}
 use Rattle.walk.specs.Walk.{range, keep, movesTo, movesFrom, inOrder}
 use Rattle.walk.specs.ClosureWalk.{machineAfter, nexts}
-use Rattle.walk.specs.Turns.{after}
 use Rattle.walk.proofs.Loops.{range-first, range-none}
 
 -- ---- any moves of one actor
@@ -106,6 +105,10 @@ module _ {S : Type 0} (make : ℕ → ℕ → Option S) (targets : List ℕ) whe
   from-end a limit h = ap (λ (l : List ℕ). movesFrom make l targets) (range-none a limit h)
 
 -- ---- the closure's moves
+
+-- what stands after the move (a, t)
+abbrev pub after : Bindings → Closure → (a t : ℕ) → Option ClosureMachine
+after σ b a t = machineAfter σ (closureMove σ a t b)
 
 after-some : (σ : Bindings) (x : Option (Moved Action)) → isSome (machineAfter σ x) ≡ isSome x
 unfolding isSome

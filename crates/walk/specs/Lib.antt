@@ -4,5 +4,3 @@ pub mod PlainWalk
 pub mod ClosureWalk
 pub mod Visits
 pub mod Pieces
-pub mod Naming
-pub mod Turns

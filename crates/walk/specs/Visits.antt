@@ -1,21 +1,29 @@
--- What the functions of the walk answer, by what they are lent: the rule's words and table, the part table, the arrays of a
--- state, the names chosen so far and the counts. Assumes nothing: these are definitions.
+-- What the functions of the walk answer, by what they are lent: the rule's words and table as one array, a state and its part
+-- table as two, and the names chosen so far. Assumes nothing: these are definitions.
 use Prim.Native.Nat.{ℕ, suc, _+_, _-_, _≤_, _<_}
-use mathlib.Core.Bool.{Bool, true, false}
+use mathlib.Core.Bool.{Bool, true, false, cond}
 use mathlib.Core.List.{List, [], _∷_}
 use mathlib.Core.Path.{_≡_}
-use lib.ListN.{getD, set, length}
+use lib.Dec.{ltb}
+use lib.ListN.{getD, length}
+use Rattle.sets.specs.Sets.{members, elem}
 use Rattle.messages.specs.Words.{kind, member}
 use Rattle.scripts.specs.Tree.{count}
-use Rattle.rules.specs.Rule.{Names, lookup, Rule, always, negation, either, void, at, beside, some-name, sometime, somewhere, placed, ruleIndex}
-use Rattle.rules.specs.Ruled.{Ruled}
+use Rattle.scripts.specs.Represents.{bodyIn}
+use Rattle.rules.specs.Rule.{Term, constant, chosen, Names, lookup, Rule, always, negation, either, void, at, beside, some-name, sometime, somewhere, placed, ruleIndex}
+use Rattle.messages.specs.Reading.{Cursor}
+use Rattle.rules.specs.Ruled.{Ruled, Tabled}
 use Rattle.rules.specs.declared.RuleTable.{RuleTable}
-use Rattle.closures.specs.Closure.{Closure, ClosureMachine}
-use Rattle.closures.specs.Represents.{boundIn, Ready, Represents}
+use Rattle.closures.specs.Closure.{Closure, ClosureMachine, closureMove}
+use Rattle.closures.specs.Searches.{place}
+use Rattle.closures.specs.Targets.{isSome}
+use Rattle.closures.specs.Represents.{heads, boundIn, Ready, Represents}
+use Rattle.closures.specs.Lent.{Small, kindsIn, startsIn, stateIn}
 use Rattle.closures.specs.declared.State.{State}
-use Rattle.walk.specs.Walk.{Count, Setting, look, walk}
+use Rattle.walk.specs.Walk.{Count, Setting, onYes, firstYes, look, walk, walkFrom, movesTo}
 use Rattle.walk.specs.Walk as spec
-use Rattle.walk.specs.ClosureWalk.{closureSpace}
+use Rattle.walk.specs.ClosureWalk.{closureSpace, machineAfter}
+use Rattle.walk.specs.Pieces.{Divides}
 use Rattle.walk.specs.declared.Counts.{Counts}
 use Rattle.walk.specs.declared.Limits.{Limits}
 use Rattle.walk.specs.declared.Walked.{Walked}
@@ -32,19 +40,6 @@ walkedOf (Stopped q p v) = spec.stopped q p v
 
 abbrev pub settingOf : Limits → Setting
 settingOf l = record { patience = l .patience; greatest = l .greatest; parts = l .parts }
-
--- the state that the lent arrays hold, with `top` as the set of its top parts
-abbrev pub stateOf : (kids : List ℕ) (top : ℕ) (offsets : List ℕ) (named : ℕ) (names acts aims : List ℕ) (busy : ℕ) (variables places counts sizes bulks : List ℕ) (first : ℕ) → State
-stateOf kids top offsets named names acts aims busy variables places counts sizes bulks first = record {
-  kids = set kids 64 top;
-  offsets = offsets;
-  looks = record { named = named; names = names; acts = acts; aims = aims; busy = busy };
-  bindings = record { variables = variables; places = places; counts = counts; sizes = sizes; bulks = bulks; first = first };
-}
-
--- the rule table that the lent arrays hold
-abbrev pub tableOf : (rights places : List ℕ) (count : ℕ) → RuleTable
-tableOf rights places count = record { rights = rights; places = places; count = count }
 
 -- the indices of the SOMEs around, innermost first
 abbrev pub indices : Names → List ℕ
@@ -93,19 +88,78 @@ pub record Stage (words : List ℕ) (table : RuleTable) (script kinds starts : L
 abbrev pub machineOf : (script : List ℕ) → State → Closure → ClosureMachine
 machineOf script s b = record { tree = b; bindings = boundIn script s }
 
-module _ (words : List ℕ) (table : RuleTable) (script kinds starts : List ℕ) (limits : Limits) (chosen : List ℕ) (somes left : ℕ) (s : State) (index : ℕ) (c : Counts) (r : Walked) where
-  -- r is what the walk's definition answers at a visit with `left` depths left, this one counted
-  abbrev pub Visits : Type 0
-  Visits = (weight spent from : ℕ) (e : Names) (q : Rule) (b : Closure) → Stage words table script kinds starts limits chosen somes left s index weight spent from e q b
-      → walkedOf r ≡ walk (closureSpace (limits .limit)) (settingOf limits) left (257 - left) e q (machineOf script s b) (countOf c)
+-- the name that a term says, by the names chosen so far
+unfoldable pub nameSaid : (names : List ℕ) → Term → ℕ
+nameSaid names (constant n) = n
+nameSaid names (chosen i) = cond (ltb i 256) (getD names i 0) 0
 
-  -- r is what it answers behind the count of a visit to a word of that kind, with `left` depths left below it: a move made here
-  -- may spend one item, and each depth below one more
+-- The lent arrays hold a state of which the bindings are counted, and what is kept of the parts is right.
+pub record Lendable (script sets numbers : List ℕ) (top : ℕ) : Type 0 where
+  pub small : Small numbers
+  pub ready : Ready script (kindsIn numbers) (startsIn numbers) (stateIn sets numbers top)
+
+-- `program` has the rule's words, from 256 on the starts of right rules, and from 512 on the places among the PLACED words
+pub record Loaded (program words : List ℕ) (table : RuleTable) : Type 0 where
+  pub word : (i : ℕ) → i < length words → getD program i 0 ≡ getD words i 0
+  pub right : (i : ℕ) → i < 256 → getD program (256 + i) 0 ≡ getD (table .rights) i 0
+  pub number : (i : ℕ) → i < 256 → getD program (512 + i) 0 ≡ getD (table .places) i 0
+
+-- A rule and a closure that stand where the engine visits, with `left` depths left.
+pub record Scene (program script sets numbers chosen : List ℕ) (top somes left index : ℕ) (limits : Limits) : Type 0 where
+  pub words : List ℕ
+  pub table : RuleTable
+  pub weight : ℕ
+  pub spent : ℕ
+  pub from : ℕ
+  pub names : Names
+  pub rule : Rule
+  pub tree : Closure
+  pub loaded : Loaded program words table
+  pub stage : Stage words table script (kindsIn numbers) (startsIn numbers) limits chosen somes left (stateIn sets numbers top) index weight spent from names rule tree
+
+-- the closure beside the bindings that are lent
+abbrev pub here : (script sets numbers : List ℕ) (top : ℕ) → Closure → ClosureMachine
+here script sets numbers top b = machineOf script (stateIn sets numbers top) b
+
+-- a visit with `left` depths left, this one counted
+abbrev pub visits : Limits → (left : ℕ) → Names → Rule → ClosureMachine → Count → spec.Walked
+visits limits left e q m n = walk (closureSpace (limits .limit)) (settingOf limits) left (257 - left) e q m n
+
+module _ (program script sets numbers chosen : List ℕ) (top somes left index : ℕ) (limits : Limits) (c : Counts) (r : Walked) where
+  -- r is what the walk's definition answers at that visit
+  abbrev pub Visits : Type 0
+  Visits = (X : Scene program script sets numbers chosen top somes left index limits) → walkedOf r ≡ visits limits left (X .names) (X .rule) (here script sets numbers top (X .tree)) (countOf c)
+
+  -- r is what it answers behind the count of a visit to a word of that kind, with `left` depths left below it
   abbrev pub Looks : (k : ℕ) → Type 0
-  Looks k = (weight spent from : ℕ) (e : Names) (q : Rule) (b : Closure) → kind (getD words index 0) ≡ k → Stage words table script kinds starts limits chosen somes (suc left) s index weight spent from e q b
-      → walkedOf r ≡ look (closureSpace (limits .limit)) (settingOf limits) (λ e₁ q₁ m₁ n₁. walk (closureSpace (limits .limit)) (settingOf limits) left (257 - left) e₁ q₁ m₁ n₁) e q (machineOf script s b) (countOf c)
+  Looks k =
+      (X : Scene program script sets numbers chosen top somes (suc left) index limits) → kind (getD program index 0) ≡ k
+      → walkedOf r ≡ look (closureSpace (limits .limit)) (settingOf limits) (visits limits left) (X .names) (X .rule) (here script sets numbers top (X .tree)) (countOf c)
+
+  -- "left with the share, on yes right with the rest"
+  abbrev pub Splits : (share : ℕ) → Type 0
+  Splits share =
+      (X : Scene program script sets numbers chosen top somes (suc left) index limits) (q p : Rule) (d : Closure × Closure) → X .rule ≡ beside index q p
+      → Divides (bodyIn (stateIn sets numbers top .kids)) (heads script (kindsIn numbers) (startsIn numbers) (stateIn sets numbers top .offsets)) (X .tree) top share d
+      → walkedOf r ≡ onYes (visits limits left (X .names) q (here script sets numbers top (d .0)) (countOf c)) (λ n. visits limits left (X .names) p (here script sets numbers top (d .1)) n)
+
+  -- "SOMETIME after each move" of the actor a, whose targets are the members of `aim`
+  abbrev pub Tries : (places : List ℕ) (a aim : ℕ) → Type 0
+  Tries places a aim =
+      (X : Scene program script sets numbers chosen top somes (suc left) index limits) (q : Rule) → X .rule ≡ sometime index q
+      → ((i : ℕ) → i < 64 → getD places i 0 ≡ place (boundIn script (stateIn sets numbers top)) i (X .tree))
+      → ((t : ℕ) → t < 64 → elem t (members aim) ≡ isSome (closureMove (boundIn script (stateIn sets numbers top)) a t (X .tree)))
+      → walkedOf r ≡ firstYes (λ m n. visits limits left (X .names) (sometime index q) m n) (movesTo (λ t. machineAfter (boundIn script (stateIn sets numbers top)) (closureMove (boundIn script (stateIn sets numbers top)) a t (X .tree))) (members aim)) (countOf c)
+
+-- r is what the whole walk answers, for every rule that the words and the table hold and every closure for which the state
+-- stands, all of whose parts are the script's
+abbrev pub Walks : (words : List ℕ) (table : RuleTable) (script kinds starts : List ℕ) → State → Limits → Walked → Type 0
+Walks words table script kinds starts s limits r =
+    (weight spent : ℕ) (b : Closure) (p : Rule × Cursor) → Tabled (limits .parts) words table p → Later 0 (p .0) → limits .limit ≡ limits .parts + table .count
+    → Represents script kinds starts weight spent s b → weight ≤ limits .parts → ((i : ℕ) → limits .parts ≤ i → count i b ≡ 0) → spent + 256 < 4294967295
+    → walkedOf r ≡ walkFrom (closureSpace (limits .limit)) (settingOf limits) (p .0) (machineOf script s b)
 
 -- To unfold this is to unfold every definition of this module: for a proof by computation.
 unfoldable pub computing : Unit {0}
-unfolding walkedOf
+unfolding walkedOf nameSaid
 computing = tt

@@ -1,0 +1,100 @@
+-- What the walk's small functions answer: the name that a word says, whether a part is called so, and states that are lent
+-- and borrowed again. Assumes nothing.
+use Prim.Native.Nat.{ℕ, suc, _+_, _≤_, _<_}
+use mathlib.Core.Bool.{Bool, true, false}
+use mathlib.Core.List.{List}
+use mathlib.Core.Path.{_≡_, refl, sym, ap, _∙_, subst}
+use native.Mathlib.Omega.{arith}
+use lib.Dec.{eqb, ltb}
+use lib.ListN.{getD, set, length, length-set}
+use lib.Seq.{getD-set-same, getD-set-other}
+use borrow.Author.Tests.{lt-ltb, le-ltb, eqb-true, eqb-false}
+use Rattle.messages.specs.declared.Named.the-variants.{Called}
+use Rattle.sets.specs.Sets.{members, elem}
+use Rattle.machine.specs.Moves.{sameName}
+use Rattle.machine.proofs.Options.{byTest}
+use Rattle.rules.specs.Rule.{Term, constant, chosen}
+use Rattle.rules.specs.RuleTable.{termWord}
+use Rattle.rules.specs.declared.RuleTerm.the-variants as terms
+use Rattle.rules.proofs.Words.{constant-told, chosen-told}
+use Rattle.closures.specs.Seen.{nameIn}
+use Rattle.closures.specs.Lent.{stretch}
+use Rattle.closures.specs.declared.State.{State}
+use Rattle.closures.proofs.Copying.{getD-stretch}
+use Rattle.walk.specs.Visits.{nameSaid}
+
+-- the name that a term says
+module _ (choices : List ℕ) (t : Term) where
+  pub said-constant : (n : ℕ) → terms.Constant n ≡ termWord t → n ≡ nameSaid choices t
+  unfolding nameSaid
+  said-constant n e = sym (ap (nameSaid choices) (constant-told t n e))
+
+  pub said-chosen : (i : ℕ) → terms.Chosen i ≡ termWord t → i < 256 → getD choices i 0 ≡ nameSaid choices t
+  unfolding nameSaid
+  said-chosen i e h = sym (ap (nameSaid choices) (chosen-told t i e) ∙ rw (lt-ltb i 256 h))
+
+  pub said-none : (i : ℕ) → terms.Chosen i ≡ termWord t → 256 ≤ i → 0 ≡ nameSaid choices t
+  unfolding nameSaid
+  said-none i e h = sym (ap (nameSaid choices) (chosen-told t i e) ∙ rw (le-ltb i 256 h))
+
+-- a part's name, by the lent numbers
+module _ (named : ℕ) (numbers : List ℕ) (i n : ℕ) where
+  pub called-named : elem i (members named) ≡ true → i < 64 → eqb (getD numbers (192 + i) 0) n ≡ sameName (Called n) (nameIn named (stretch 192 64 numbers) i)
+  unfolding nameIn sameName
+  called-named e h = rw e (ap (λ (x : ℕ). eqb x n) (sym (getD-stretch 192 64 i numbers h)))
+
+  pub called-none : elem i (members named) ≡ false → false ≡ sameName (Called n) (nameIn named (stretch 192 64 numbers) i)
+  unfolding nameIn sameName
+  called-none e = rw e
+
+-- one more entry of a list that is filled
+pub filled-more : (P : ℕ → ℕ → Type 0) (l : List ℕ) (a v : ℕ) → a < length l → ((b : ℕ) → b < a → P b (getD l b 0)) → P a v → (b : ℕ) → b < a + 1 → P b (getD (set l a v) b 0)
+filled-more P l a v h old new b low =
+    byTest (eqb b a)
+    (λ t. let e : a ≡ b = sym (eqb-true b a t) in subst (λ (x : ℕ). P x (getD (set l a v) x 0)) e (subst (P a) (sym (getD-set-same l a v 0 h)) new))
+    (λ t. let n : b ≡ a → ⊥ = eqb-false b a t in subst (P b) (sym (getD-set-other l a b v 0 n)) (old b (omega arith)))
+
+-- what holds of a state and its part table holds of equal ones
+pub carried : (P : List ℕ → List ℕ → State → Type 0) (k k₁ l l₁ : List ℕ) (s s₁ : State) → k₁ ≡ k → l₁ ≡ l → s₁ ≡ s → P k l s → P k₁ l₁ s₁
+carried P k k₁ l l₁ s s₁ ek el es p = subst (λ (x : State). P k₁ l₁ x) (sym es) (subst (λ (x : List ℕ). P k₁ x s) (sym el) (subst (λ (x : List ℕ). P x l s) (sym ek) p))
+
+-- The rule's words and table, of which the first i are in one array.
+pub record Loading (words rights places program : List ℕ) (i : ℕ) : Type 0 where
+  pub long : length program ≡ 768
+  pub word : (j : ℕ) → j < i → j < length words → getD program j 0 ≡ getD words j 0
+  pub right : (j : ℕ) → j < i → getD program (256 + j) 0 ≡ getD rights j 0
+  pub number : (j : ℕ) → j < i → getD program (512 + j) 0 ≡ getD places j 0
+
+module _ (words rights places program : List ℕ) (i w r n : ℕ) (L : Loading words rights places program i) (low : i < 256) (ew : i < length words → w ≡ getD words i 0) (er : r ≡ getD rights i 0) (en : n ≡ getD places i 0) where
+  abbrev one : List ℕ
+  one = set program i w
+
+  abbrev two : List ℕ
+  two = set one (256 + i) r
+
+  abbrev three : List ℕ
+  three = set two (512 + i) n
+
+  two-long : length two ≡ 768
+  two-long = length-set one (256 + i) r ∙ length-set program i w ∙ L .long
+
+  past : (k : ℕ) → (k ≡ i → ⊥) → (k ≡ 256 + i → ⊥) → (k ≡ 512 + i → ⊥) → getD three k 0 ≡ getD program k 0
+  past k a b c = getD-set-other two (512 + i) k n 0 c ∙ getD-set-other one (256 + i) k r 0 b ∙ getD-set-other program i k w 0 a
+
+  -- an entry is the new one, or one of those before it
+  split-last : (P : ℕ → Type 0) → P i → ((j : ℕ) → j < i → P j) → (j : ℕ) → j < i + 1 → P j
+  split-last P new old j h = byTest (eqb j i) (λ t. subst P (sym (eqb-true j i t)) new) (λ t. let z : j ≡ i → ⊥ = eqb-false j i t in old j (omega arith))
+
+  pub loading-more : Loading words rights places three (i + 1)
+  loading-more = record {
+    long = length-set two (512 + i) n ∙ two-long;
+    word = split-last (λ (j : ℕ). j < length words → getD three j 0 ≡ getD words j 0)
+        (λ h. getD-set-other two (512 + i) i n 0 (λ z. omega arith) ∙ getD-set-other one (256 + i) i r 0 (λ z. omega arith) ∙ getD-set-same program i w 0 (let l = L .long in omega (arith, l)) ∙ ew h)
+        (λ j g h. past j (λ z. omega arith) (λ z. omega arith) (λ z. omega arith) ∙ L .word j g h);
+    right = split-last (λ (j : ℕ). getD three (256 + j) 0 ≡ getD rights j 0)
+        (getD-set-other two (512 + i) (256 + i) n 0 (λ z. omega arith) ∙ getD-set-same one (256 + i) r 0 (let l : length one ≡ 768 = length-set program i w ∙ L .long in omega (arith, l)) ∙ er)
+        (λ j g. past (256 + j) (λ z. omega arith) (λ z. omega arith) (λ z. omega arith) ∙ L .right j g);
+    number = split-last (λ (j : ℕ). getD three (512 + j) 0 ≡ getD places j 0)
+        (getD-set-same two (512 + i) n 0 (omega (arith, two-long)) ∙ en)
+        (λ j g. past (512 + j) (λ z. omega arith) (λ z. omega arith) (λ z. omega arith) ∙ L .number j g);
+  }

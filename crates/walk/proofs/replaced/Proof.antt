@@ -1,0 +1,22 @@
+-- `replaced` meets its contract. Assumes nothing.
+use mathlib.Core.Path.{_≡_}
+use native.Mathlib.Omega.{arith}
+use lib.ListN.{length}
+use lib.Seq.{getD-set-same, getD-set-other}
+use borrow.Author.Needs.{needs}
+use Rattle.walk.proofs.replaced.Statement.{statement}
+use Rattle.walk.proofs.replaced.Tie as tie
+use Rattle.walk.proofs.replaced.Reads as reads
+use Rattle.walk.proofs.replaced.Lts as lts
+
+mul-next : tie.Need-mul-next
+mul-next c = search needs
+
+array-write-next : tie.Need-array-write-next
+array-write-next c = search needs
+
+returns : tie.Need-returns
+returns c = (search needs, λ i n. getD-set-other (c .args .names) (c .args .at) i (c .args .n) 0 n)
+
+pub replaced-spec : {M : Type 1} → statement M
+replaced-spec = tie.close (tie.spec mul-next array-write-next returns)

@@ -1,0 +1,26 @@
+-- `void_rule` meets its contract. Assumes nothing.
+use mathlib.Core.Path.{_≡_, refl, sym, ap, _∙_, subst}
+use native.Mathlib.Omega.{arith}
+use Rattle.walk.specs.Visits.{walkedOf}
+use Rattle.walk.specs.Walk as spec
+use Rattle.walk.specs.declared.Walked.{Walked}
+use lib.Dec.{eqb}
+use mathlib.Core.Bool.{Bool}
+use borrow.Author.Tests.{eq-eqb, ne-eqb}
+use Rattle.walk.specs.Visits.{countOf}
+use borrow.Author.Needs.{needs}
+use Rattle.walk.proofs.void_rule.Statement.{statement}
+use Rattle.walk.proofs.void_rule.Tie as tie
+use Rattle.walk.proofs.void_rule.Reads as reads
+use Rattle.walk.proofs.void_rule.Lts as lts
+
+returns : tie.Need-returns
+unfolding walkedOf
+returns c = ap (λ (b : Bool). spec.says b (countOf (c .before .args .c))) (sym (eq-eqb _ _ (c .if1 .taken)))
+
+returns-2 : tie.Need-returns-2
+unfolding walkedOf
+returns-2 c = ap (λ (b : Bool). spec.says b (countOf (c .before .args .c))) (sym (ne-eqb _ _ (c .if1 .left)))
+
+pub void-rule-spec : {M : Type 1} → statement M
+void-rule-spec = tie.close (tie.spec returns returns-2)
