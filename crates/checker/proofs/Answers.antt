@@ -13,8 +13,8 @@ use Rattle.machine.specs.PlainMachine.{Machine}
 use Rattle.machine.proofs.Options.{byTest}
 use Rattle.rules.specs.Rule.{Rule}
 use Rattle.rules.specs.ReadRule.{readWholeRule}
-use Rattle.walk.specs.Walk.{Count, Walked, stopped, says, walkFrom}
-use Rattle.walk.specs.PlainWalk.{plainSpace}
+use Rattle.decision.specs.Walk.{Count, Walked, stopped, says, walkFrom}
+use Rattle.decision.specs.PlainWalk.{plainSpace}
 use Rattle.checker.specs.Call.{Call, accepted, refused, refusal, Ran, halted, moved, run, begun, written, finish, walked, setting, ruleRun, ruleRead, scriptRead, answer}
 use Rattle.checker.specs.Standing.{Standing}
 use Rattle.checker.proofs.Runs.{moved-is}

@@ -11,14 +11,14 @@ use Rattle.messages.specs.Reading.{Cursor, refuse, got}
 use Rattle.scripts.specs.Script.{Script, readScript}
 use Rattle.machine.specs.Moves.{Moved}
 use Rattle.machine.proofs.Options.{byTest}
-use Rattle.closures.specs.Closure.{Action, closureMove, unfoldMachine, ClosureMachine}
-use Rattle.closures.proofs.Invariant.{move-good}
-use Rattle.closures.proofs.Started.{started-good}
+use Rattle.closure_machine.specs.Closure.{Action, closureMove, unfoldMachine, ClosureMachine}
+use Rattle.closure_machine.proofs.Invariant.{move-good}
+use Rattle.closure_machine.proofs.Started.{started-good}
 use Rattle.rules.specs.Rule.{Rule}
 use Rattle.rules.specs.ReadRule.{readWholeRule}
-use Rattle.walk.specs.Walk.{walkFrom}
-use Rattle.walk.specs.ClosureWalk.{closureSpace}
-use Rattle.walk.proofs.Closures.{walk-unfolded}
+use Rattle.decision.specs.Walk.{walkFrom}
+use Rattle.decision.specs.ClosureWalk.{closureSpace}
+use Rattle.decision.proofs.Closures.{walk-unfolded}
 use Rattle.checker.specs.Call.{Call, actor, target, moveFits, refusal, walked, setting, ruleRun, ruleRead, scriptRead, answer}
 use Rattle.checker.specs.ClosureCall.{ClosureRan, halted, moved, afterMove, ifMade, closureRun, unfoldRan, begun}
 use Rattle.checker.proofs.ClosureRuns.{GoodMachine, started-unfolded}

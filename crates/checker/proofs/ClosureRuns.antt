@@ -15,16 +15,16 @@ use Rattle.scripts.specs.Measures.{receiptsIn, mostItems, movesBound}
 use Rattle.machine.specs.Moves.{Moved}
 use Rattle.machine.specs.PlainMachine.{Machine}
 use Rattle.machine.proofs.Options.{byTest}
-use Rattle.closures.specs.Closure.{Action, Bindings, closureMove, unfolded, plainNews, unfoldedMove, ClosureMachine, unfoldMachine}
-use Rattle.closures.proofs.Tallies.{of}
-use Rattle.closures.proofs.Invariant.{Good, move-good}
-use Rattle.closures.proofs.Simulation.{unfold-move}
-use Rattle.closures.proofs.Started.{closure-started, started-good}
-use Rattle.closures.proofs.Bound.{budget, Bounded, move-costs, started-bounded, started-budget}
+use Rattle.closure_machine.specs.Closure.{Action, Bindings, closureMove, unfolded, plainNews, unfoldedMove, ClosureMachine, unfoldMachine}
+use Rattle.closure_machine.proofs.Tallies.{of}
+use Rattle.closure_machine.proofs.Invariant.{Good, move-good}
+use Rattle.closure_machine.proofs.Simulation.{unfold-move}
+use Rattle.closure_machine.proofs.Started.{closure-started, started-good}
+use Rattle.closure_machine.proofs.Bound.{budget, Bounded, move-costs, started-bounded, started-budget}
 use Rattle.rules.specs.Rule.{Rule}
 use Rattle.rules.specs.ReadRule.{readWholeRule}
-use Rattle.walk.specs.Walk.{Count, Walked, stopped, says, walkFrom}
-use Rattle.walk.specs.PlainWalk.{plainSpace}
+use Rattle.decision.specs.Walk.{Count, Walked, stopped, says, walkFrom}
+use Rattle.decision.specs.PlainWalk.{plainSpace}
 use Rattle.checker.specs.Call.{Call, Ran, actor, target, moveFits, run, refusal, written, finish, walked, setting, ruleRun, ruleRead, scriptRead, answer}
 use Rattle.checker.specs.Call as plain
 use Rattle.checker.specs.ClosureCall.{ClosureRan, halted, moved, afterMove, ifMade, closureRun, unfoldRan, begun}

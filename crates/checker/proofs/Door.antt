@@ -24,7 +24,7 @@ use Rattle.machine.proofs.Everywhere.{Everywhere, map-everywhere, more-everywhe
 use Rattle.rules.specs.Rule.{Rule, negation, either, at, beside, some-name, sometime, somewhere, ruleName, greatestRuleName}
 use Rattle.rules.specs.ReadRule.{isChosen, termOf, readWholeRule}
 use Rattle.rules.proofs.Cases as rule
-use Rattle.walk.proofs.Fits.{MessageAll, HeadAll, Fit, Fits, TermAll, RuleAll, items-all, rule-more}
+use Rattle.decision.proofs.Fits.{MessageAll, HeadAll, Fit, Fits, TermAll, RuleAll, items-all, rule-more}
 
 -- ---- names
 

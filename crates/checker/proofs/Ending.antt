@@ -11,13 +11,13 @@ use Rattle.bindings.specs.Resolve.{bindingsIn}
 use Rattle.bindings.specs.Held.{bindingsOf}
 use Rattle.machine.specs.PlainMachine.{Machine, weightOf}
 use Rattle.machine.proofs.Sums.{map-sum}
-use Rattle.closures.specs.Closure.{Closure, unfoldHead, unfolded, unfoldMachine}
+use Rattle.closure_machine.specs.Closure.{Closure, unfoldHead, unfolded, unfoldMachine}
 use Rattle.closures.specs.Represents.{boundIn, Counted}
 use Rattle.closures.specs.declared.State.{State}
 use Rattle.writer.specs.Buffer.{over, room, answered, buffered}
 use Rattle.writer.specs.declared.Fitting.{Fitting}
 use Rattle.writer.specs.declared.Fitting.the-variants.{Words, Refused}
-use Rattle.walk.specs.Walk.{Count}
+use Rattle.decision.specs.Walk.{Count}
 use Rattle.checker.specs.Call.{Call, accepted, refusal, written, finish}
 use Rattle.checker.specs.Call as plain
 use Rattle.checker.specs.Answering.{verdictOf, answerOf}

@@ -10,7 +10,7 @@ use lib.ListN.{getD, drop, length}
 use borrow.Author.Tests.{ltb-true}
 use Rattle.messages.specs.Words.{kind, operand}
 use Rattle.machine.proofs.Options.{and-inv}
-use Rattle.closures.specs.Closure.{Closure, Bindings, closureMove, ClosureMachine}
+use Rattle.closure_machine.specs.Closure.{Closure, Bindings, closureMove, ClosureMachine}
 use Rattle.closures.specs.Represents.{boundIn, Represents}
 use Rattle.closures.specs.Targets.{isSome}
 use Rattle.closures.specs.Makes.{Makes, Tries}

@@ -11,9 +11,9 @@ use Rattle.calculus.specs.Satisfaction.{Sat}
 use Rattle.calculus.specs.Calculus.{process}
 use Rattle.calculus.proofs.Kept.{Good, good-move}
 use Rattle.calculus.proofs.Agreement.{agree}
-use Rattle.walk.specs.Walk.{says}
-use Rattle.walk.proofs.Fits.{Fits, fits-more, rule-more, move-fits}
-use Rattle.walk.proofs.Deciding.{Known, walk-yes, walk-no}
+use Rattle.decision.specs.Walk.{says}
+use Rattle.decision.proofs.Fits.{Fits, fits-more, rule-more, move-fits}
+use Rattle.decision.proofs.Deciding.{Known, walk-yes, walk-no}
 use Rattle.checker.specs.Call.{Call, accepted, answer, setting, begun}
 use Rattle.checker.specs.Standing.{Standing, Meets, Holds}
 use Rattle.checker.proofs.Runs.{run-keeps}

@@ -17,8 +17,8 @@ use Rattle.machine.specs.PlainMachine.{move, Machine, weightOf}
 use Rattle.writer.specs.Write.{write}
 use Rattle.rules.specs.Rule.{Rule, greatestRuleName}
 use Rattle.rules.specs.ReadRule.{readWholeRule}
-use Rattle.walk.specs.Walk.{Count, Walked, stopped, says, Setting, walkFrom}
-use Rattle.walk.specs.PlainWalk.{plainSpace}
+use Rattle.decision.specs.Walk.{Count, Walked, stopped, says, Setting, walkFrom}
+use Rattle.decision.specs.PlainWalk.{plainSpace}
 
 -- what a call is lent: "script, moves, rule, patience and the buffer as it was"
 pub record Call : Type 0 where

@@ -6,7 +6,7 @@ use mathlib.Core.List.{List, [], _∷_, _++_}
 use mathlib.Core.Option.{Option, none, some}
 use Rattle.scripts.specs.Script.{Script}
 use Rattle.machine.specs.Moves.{Moved}
-use Rattle.closures.specs.Closure.{Action, settleUnder, closureMove, ClosureMachine, unfoldMachine, closureOf}
+use Rattle.closure_machine.specs.Closure.{Action, settleUnder, closureMove, ClosureMachine, unfoldMachine, closureOf}
 use Rattle.checker.specs.Call.{Ran, actor, target, moveFits}
 use Rattle.checker.specs.Call as plain
 

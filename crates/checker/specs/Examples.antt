@@ -21,8 +21,8 @@ use Rattle.machine.specs.PlainMachine
 use Rattle.writer.specs.Write
 use Rattle.rules.specs.Rule
 use Rattle.rules.specs.ReadRule
-use Rattle.walk.specs.Walk
-use Rattle.walk.specs.PlainWalk
+use Rattle.decision.specs.Walk
+use Rattle.decision.specs.PlainWalk
 use Rattle.checker.specs.Call.{Call, Answer, Verdict, accepted, refused, answer}
 use Rattle.checker.specs.Call
 

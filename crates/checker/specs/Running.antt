@@ -3,7 +3,7 @@ use Prim.Native.Nat.{ℕ, _+_, _<_}
 use mathlib.Core.List.{List}
 use mathlib.Core.Path.{_≡_}
 use lib.ListN.{length}
-use Rattle.closures.specs.Closure.{Closure}
+use Rattle.closure_machine.specs.Closure.{Closure}
 use Rattle.closures.specs.Represents.{boundIn, Represents}
 use Rattle.closures.specs.declared.State.{State}
 use Rattle.checker.specs.ClosureCall.{ClosureRan, halted, moved, closureRun}

@@ -11,7 +11,7 @@ ghost use mathlib.Core.Bool.{Bool, cond};
 ghost use mathlib.Core.List.{List, []};
 ghost use Prim.Native.Nat.{ℕ, _≤_, _<_};
 ghost use lib.ListN.{length, getD};
-ghost use Rattle.closures.specs.Closure.{Closure, unfolded, unfoldMachine};
+ghost use Rattle.closure_machine.specs.Closure.{Closure, unfolded, unfoldMachine};
 ghost use Rattle.closures.specs.Represents.{boundIn, Ready, Represents};
 ghost use Rattle.walk.specs.Visits.{walkedOf};
 ghost use Rattle.writer.specs.Bodies.{Scripted};

@@ -18,7 +18,7 @@ use Rattle.machine.specs.Bodies.{orElse}
 use Rattle.machine.specs.Moves.{Moved, isNamed, toEnter, toExit, toOpen, headName, firstOf, openMove, receiveMove, enterMove, exitMove, moveHere, anywhere}
 use Rattle.machine.proofs.Inversion.{sameName-inv, toEnter-inv, toExit-inv}
 use Rattle.machine.proofs.Options.{and-inv}
-use Rattle.closures.specs.Closure.{Action, ClosureHead, Closure, Bindings, under}
+use Rattle.closure_machine.specs.Closure.{Action, ClosureHead, Closure, Bindings, under}
 use Rattle.closures.specs.Searches.{place, Stands}
 use Rattle.closures.specs.Targets.{mayExit, mayOpen, canOpen, canReceive, canEnter, canExit}
 use Rattle.closures.proofs.Focus.{Site, site}

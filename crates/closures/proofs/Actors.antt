@@ -17,7 +17,7 @@ use Rattle.scripts.specs.Tree.{ambient, action, receipt, output}
 use Rattle.machine.specs.Moves.{sameName, toEnter, toExit, toOpen, variableOf, messageOf, headName, firstOf}
 use Rattle.machine.proofs.Inversion.{variableOf-inv, messageOf-inv}
 use Rattle.machine.proofs.Options.{byTest, and-inv}
-use Rattle.closures.specs.Closure.{ClosureHead, Bindings, under}
+use Rattle.closure_machine.specs.Closure.{ClosureHead, Bindings, under}
 use Rattle.closures.specs.Targets.{isSome, mayOpen, canOpen, canReceive, canEnter, canExit, canMoveFrom, canMove}
 
 abbrev isItem : First → Bool

@@ -18,7 +18,7 @@ use Rattle.scripts.specs.Tree.{ambient, action, receipt, output}
 use Rattle.scripts.specs.Represents.{bodyIn}
 use Rattle.machine.specs.Moves.{sameName, toEnter, toExit, toOpen, variableOf, messageOf, headName, firstOf}
 use Rattle.machine.proofs.Options.{byTest}
-use Rattle.closures.specs.Closure.{ClosureHead, Closure, Bindings, itemsLeft, under, closureMove}
+use Rattle.closure_machine.specs.Closure.{ClosureHead, Closure, Bindings, itemsLeft, under, closureMove}
 use Rattle.closures.specs.Represents.{heads, boundIn, Ready, Represents}
 use Rattle.closures.specs.Searches.{place, Stands, Located}
 use Rattle.closures.specs.Seen.{itemAct, itemName, isOutput, actUnder, aimUnder, Seen}

@@ -18,7 +18,7 @@ use Rattle.bindings.specs.Resolve.{resolve}
 use Rattle.scripts.specs.Tree.{ambient, action, receipt, output}
 use Rattle.machine.specs.Moves.{sameName, firstOf, headName}
 use Rattle.machine.proofs.Options.{byTest}
-use Rattle.closures.specs.Closure.{Action, ClosureHead, Bindings, itemsLeft, under, allSpent}
+use Rattle.closure_machine.specs.Closure.{Action, ClosureHead, Bindings, itemsLeft, under, allSpent}
 use Rattle.closures.specs.Represents.{headOf, heads}
 use Rattle.closures.specs.Seen.{nameIn, isNothing, itemAct, itemName, actOf, aimOf, busyOf, isOutput, actUnder, aimUnder, busyUnder, Does, kept, Seen}
 use Rattle.closures.specs.declared.Looks.{Looks}

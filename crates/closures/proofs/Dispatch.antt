@@ -15,7 +15,7 @@ use Rattle.scripts.specs.Tree.{ambient, action, receipt, output}
 use Rattle.scripts.specs.Represents.{bodyIn}
 use Rattle.machine.specs.Moves.{toEnter, toExit, toOpen, variableOf, firstOf}
 use Rattle.machine.proofs.Options.{byTest, and-inv}
-use Rattle.closures.specs.Closure.{ClosureHead, Closure, Bindings, under, closureMove}
+use Rattle.closure_machine.specs.Closure.{ClosureHead, Closure, Bindings, under, closureMove}
 use Rattle.closures.specs.Represents.{heads, boundIn, Ready, Represents}
 use Rattle.closures.specs.Searches.{place, Stands}
 use Rattle.closures.specs.Seen.{itemAct, actUnder}

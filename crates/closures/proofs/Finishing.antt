@@ -21,7 +21,7 @@ use Rattle.bindings.specs.declared.Bindings as arrays
 use Rattle.machine.specs.Moves.{sameName, toEnter, toExit, toOpen, firstOf, headName, variableOf, messageOf}
 use Rattle.machine.proofs.Inversion.{here-inv}
 use Rattle.machine.proofs.Options.{and-inv}
-use Rattle.closures.specs.Closure.{ClosureHead, Closure, Bindings, under, settleUnder}
+use Rattle.closure_machine.specs.Closure.{ClosureHead, Closure, Bindings, under, settleUnder}
 use Rattle.closures.specs.Represents.{headOf, heads, boundIn, Ready, Represents}
 use Rattle.closures.specs.Searches.{place, Stands}
 use Rattle.closures.specs.Targets.{isSome, canOpen, canReceive, canEnter, canExit}

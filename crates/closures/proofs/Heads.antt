@@ -16,7 +16,7 @@ use Rattle.bindings.specs.Resolve.{resolve, messageOf}
 use Rattle.bindings.specs.Measures.{capped}
 use Rattle.machine.specs.Moves.{headName, firstOf, spentHead}
 use Rattle.machine.proofs.Options.{byTest}
-use Rattle.closures.specs.Closure.{ClosureHead, Bindings, itemsLeft, under, allSpent}
+use Rattle.closure_machine.specs.Closure.{ClosureHead, Bindings, itemsLeft, under, allSpent}
 use Rattle.closures.specs.Represents.{headOf}
 
 -- a count that stops at 2^32 - 1 is compared as the count itself

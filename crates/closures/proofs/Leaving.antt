@@ -12,7 +12,7 @@ use Rattle.scripts.specs.Represents.{Held}
 use Rattle.machine.specs.Bodies.{_>>=_, check, drop, alter}
 use Rattle.machine.specs.Moves.{Moved, quiet, spentHead, spend, isNamed, headName, exitMove}
 use Rattle.machine.proofs.Sums.{drop-exact}
-use Rattle.closures.specs.Closure.{Action, ClosureHead, Closure, Bindings, under}
+use Rattle.closure_machine.specs.Closure.{Action, ClosureHead, Closure, Bindings, under}
 use Rattle.closures.specs.Targets.{mayExit}
 use Rattle.closures.proofs.Holding.{total, self, tops-put, tops-drop, tops-alter, in-count, differ, frame, held-drop, held-put, held-alter, Found, found-in, not-found, holder-is}
 use Rattle.closures.proofs.Focus.{Change}

@@ -1,9 +1,4 @@
--- Laws of the closure machine, which moves as the plain machine does, and of the arrays that hold a closure.
-pub mod Tallies
-pub mod Invariant
-pub mod Simulation
-pub mod Started
-pub mod Bound
+-- Laws of the arrays that hold a closure, and of the engine that moves it. Assumes nothing.
 pub mod Heads
 pub mod Holding
 pub mod Focus

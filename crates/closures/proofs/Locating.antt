@@ -13,7 +13,7 @@ use Rattle.scripts.specs.Tree.{close, part, one, tops, sum, parts, count}
 use Rattle.scripts.specs.Represents.{Held}
 use Rattle.machine.specs.Moves.{isNamed, headName}
 use Rattle.machine.proofs.Options.{byTest}
-use Rattle.closures.specs.Closure.{ClosureHead, Closure, Bindings, under}
+use Rattle.closure_machine.specs.Closure.{ClosureHead, Closure, Bindings, under}
 use Rattle.closures.specs.Searches.{firstPlace, placeBelow, placeFrom, place, Stands, Locates}
 use Rattle.closures.specs.Seen.{nameIn, Names, Seen}
 use Rattle.closures.specs.declared.Looks.{Looks}

@@ -16,7 +16,7 @@ use Rattle.scripts.specs.Represents.{bodyIn}
 use Rattle.machine.specs.Moves.{Moved, moveHere}
 use Rattle.machine.proofs.Inversion.{here-inv}
 use Rattle.machine.proofs.Options.{byTest}
-use Rattle.closures.specs.Closure.{Action, ClosureHead, Closure, Bindings, under, settleUnder, settledUnder, closureMove}
+use Rattle.closure_machine.specs.Closure.{Action, ClosureHead, Closure, Bindings, under, settleUnder, settledUnder, closureMove}
 use Rattle.closures.specs.Represents.{headOf, heads, boundIn, Represents}
 use Rattle.closures.specs.Searches.{place, Stands}
 use Rattle.closures.specs.Targets.{canOpen, canReceive, canEnter, canExit}

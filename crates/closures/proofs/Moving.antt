@@ -14,7 +14,7 @@ use Rattle.scripts.specs.Represents.{bodyIn}
 use Rattle.machine.specs.Moves.{Moved, anywhere}
 use Rattle.machine.proofs.Inversion.{Here}
 use Rattle.machine.proofs.Sums.{here-sum, by-numbers}
-use Rattle.closures.specs.Closure.{Action, ClosureHead, Closure, Bindings, under}
+use Rattle.closure_machine.specs.Closure.{Action, ClosureHead, Closure, Bindings, under}
 use Rattle.closures.specs.Represents.{heads, boundIn, Represents}
 use Rattle.closures.specs.Searches.{place}
 use Rattle.closures.specs.declared.State.{State}

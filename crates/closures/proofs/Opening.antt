@@ -18,7 +18,7 @@ use Rattle.machine.specs.Bodies.{_>>=_, check, drop}
 use Rattle.machine.specs.Moves.{Moved, quiet, variableOf, messageOf, spentHead, spend, sameName, toOpen, firstOf, openMove, receiveMove}
 use Rattle.machine.proofs.Options.{byTest}
 use Rattle.machine.proofs.Sums.{find-sum, merge-sum}
-use Rattle.closures.specs.Closure.{Action, ClosureHead, Closure, Bindings, under}
+use Rattle.closure_machine.specs.Closure.{Action, ClosureHead, Closure, Bindings, under}
 use Rattle.closures.specs.Targets.{mayOpen}
 use Rattle.closures.proofs.Holding.{tops-drop, tops-merge, tops-alter, in-count, differ, frame, held-drop, held-merge, Found, found-in, not-found}
 use Rattle.closures.proofs.Focus.{Change}

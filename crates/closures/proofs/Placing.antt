@@ -14,7 +14,7 @@ use Rattle.scripts.specs.Represents.{bodyIn}
 use Rattle.bindings.specs.Resolve.{messageOf}
 use Rattle.bindings.specs.declared.Bindings as arrays
 use Rattle.machine.proofs.Options.{byTest}
-use Rattle.closures.specs.Closure.{Closure}
+use Rattle.closure_machine.specs.Closure.{Closure}
 use Rattle.closures.specs.Represents.{headOf, heads, Represents}
 use Rattle.closures.specs.declared.State.{State}
 use Rattle.closures.proofs.Heads.{head-ambient}

@@ -18,7 +18,7 @@ use Rattle.bindings.specs.Resolve.{messageOf}
 use Rattle.machine.proofs.Options.{byTest}
 use Rattle.machine.proofs.Sums.{map-sum, settle-sum}
 use Rattle.machine.proofs.Naturality.{tops-map}
-use Rattle.closures.specs.Closure.{ClosureHead, Closure, Bindings, allSpent, settleUnder, wholeHead, closureOf}
+use Rattle.closure_machine.specs.Closure.{ClosureHead, Closure, Bindings, allSpent, settleUnder, wholeHead, closureOf}
 use Rattle.closures.specs.Represents.{headOf, heads, boundIn, Counted, Ready, Represents}
 use Rattle.closures.specs.Searches.{SettlesBy}
 use Rattle.bindings.specs.declared.Bindings as arrays

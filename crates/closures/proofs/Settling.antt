@@ -12,7 +12,7 @@ use Rattle.scripts.specs.Tree.{ambient, action, receipt, output, close, part, o
 use Rattle.scripts.specs.Represents.{Held}
 use Rattle.machine.proofs.Options.{byTest}
 use Rattle.machine.proofs.Sums.{settle-sum}
-use Rattle.closures.specs.Closure.{ClosureHead, Closure, Bindings, allSpent, settleUnder}
+use Rattle.closure_machine.specs.Closure.{ClosureHead, Closure, Bindings, allSpent, settleUnder}
 use Rattle.closures.specs.Searches.{Settles}
 use Rattle.closures.specs.Seen.{busyUnder, Busy}
 use Rattle.closures.proofs.Holding.{no-cons, self, tops-put, tops-merge, differ, frame, held-put, held-merge}

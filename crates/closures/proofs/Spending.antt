@@ -12,7 +12,7 @@ use Rattle.scripts.specs.Represents.{Held}
 use Rattle.machine.specs.Bodies.{drop}
 use Rattle.machine.specs.Moves.{spentHead, spend}
 use Rattle.machine.proofs.Sums.{drop-exact}
-use Rattle.closures.specs.Closure.{ClosureHead, Closure, Bindings, under}
+use Rattle.closure_machine.specs.Closure.{ClosureHead, Closure, Bindings, under}
 use Rattle.closures.proofs.Holding.{self, in-count, differ, frame, held-alter, found-in}
 
 -- the heads w′ are w with the first item of a spent

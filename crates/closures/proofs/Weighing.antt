@@ -6,7 +6,7 @@ use native.Mathlib.Omega.{arith}
 use Rattle.sets.specs.Sets.{headOr, tail}
 use Rattle.scripts.specs.Tree.{close, part, tops, sum, parts}
 use Rattle.scripts.specs.Represents.{Held}
-use Rattle.closures.specs.Closure.{ClosureHead, Closure}
+use Rattle.closure_machine.specs.Closure.{ClosureHead, Closure}
 use Rattle.closures.specs.Searches.{CountsParts}
 use Rattle.closures.proofs.Holding.{no-cons}
 

@@ -1,5 +1,4 @@
 -- What the contracts of `closures` cite. Assumes nothing: these are definitions.
-pub mod Closure
 pub mod Represents
 pub mod Searches
 pub mod Seen

@@ -6,7 +6,7 @@ use mathlib.Core.Option.{some}
 use mathlib.Core.Path.{_≡_}
 use Rattle.scripts.specs.Represents.{bodyIn}
 use Rattle.machine.specs.Moves.{Moved}
-use Rattle.closures.specs.Closure.{Action, ClosureHead, Closure, Bindings, closureMove}
+use Rattle.closure_machine.specs.Closure.{Action, ClosureHead, Closure, Bindings, closureMove}
 use Rattle.closures.specs.Represents.{heads, boundIn, Represents}
 use Rattle.closures.specs.Searches.{place}
 use Rattle.closures.specs.Targets.{isSome, canOpen, canReceive, canEnter, canExit}

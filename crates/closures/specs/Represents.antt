@@ -13,7 +13,7 @@ use Rattle.bindings.specs.Resolve.{messageOf}
 use Rattle.bindings.specs.Held.{bindingsOf}
 use Rattle.bindings.specs.Held as bindings
 use Rattle.bindings.specs.declared.Bindings as arrays
-use Rattle.closures.specs.Closure.{ClosureHead, Closure, Bindings}
+use Rattle.closure_machine.specs.Closure.{ClosureHead, Closure, Bindings}
 use Rattle.closures.specs.Seen.{Seen}
 use Rattle.closures.specs.declared.State.{State}
 

@@ -9,7 +9,7 @@ use Rattle.sets.specs.Sets.{elem}
 use Rattle.scripts.specs.Tree.{close, part, tops, parts, count}
 use Rattle.scripts.specs.Represents.{Held}
 use Rattle.machine.specs.Moves.{isNamed, headName}
-use Rattle.closures.specs.Closure.{ClosureHead, Closure, Bindings, under, settleUnder}
+use Rattle.closure_machine.specs.Closure.{ClosureHead, Closure, Bindings, under, settleUnder}
 use Rattle.closures.specs.Seen.{Busy, Ambients, Names}
 
 -- the first place, or where it is 65 the second

@@ -13,7 +13,7 @@ use Rattle.messages.specs.declared.First.the-variants.{Nothing, Enter, Exit, Op
 use Rattle.sets.specs.Sets.{members, elem}
 use Rattle.scripts.specs.Tree.{Head, ambient, action, receipt, output, isAmbient}
 use Rattle.machine.specs.Moves.{isNamed, sameName, headName, firstOf}
-use Rattle.closures.specs.Closure.{ClosureHead, Bindings, under, allSpent}
+use Rattle.closure_machine.specs.Closure.{ClosureHead, Bindings, under, allSpent}
 use Rattle.closures.specs.declared.Looks.{Looks}
 use Rattle.closures.specs.declared.Deed.{Deed}
 

@@ -9,7 +9,7 @@ use mathlib.Core.Path.{_≡_}
 use lib.Dec.{eqb, ltb}
 use Rattle.sets.specs.Sets.{elem}
 use Rattle.machine.specs.Moves.{sameName, toEnter, toExit, toOpen, variableOf, messageOf, headName, firstOf}
-use Rattle.closures.specs.Closure.{ClosureHead, Closure, Bindings, under, closureMove}
+use Rattle.closure_machine.specs.Closure.{ClosureHead, Closure, Bindings, under, closureMove}
 use Rattle.closures.specs.Searches.{place, Stands}
 use Rattle.closures.specs.Seen.{actUnder, aimUnder}
 

@@ -23,7 +23,7 @@ ghost use Rattle.bindings.specs.Resolve.{bindingsIn};
 ghost use Rattle.bindings.specs.Measures.{Kept, itemCount};
 ghost use Rattle.bindings.specs.Held.{bindingsOf};
 ghost use Rattle.machine.specs.Moves.{isThat, sameName, headName, firstOf};
-ghost use Rattle.closures.specs.Closure.{ClosureHead, Closure, under, settleUnder, closureOf};
+ghost use Rattle.closure_machine.specs.Closure.{ClosureHead, Closure, under, settleUnder, closureOf};
 ghost use Rattle.closures.specs.Searches.{SettlesBy, LocatesBy, Located, CountsParts};
 ghost use Rattle.closures.specs.Represents.{headOf, heads, boundIn, Counted, Ready, Represents};
 ghost use Rattle.closures.specs.Makes.{Opens, Enters, Exits, Receives, Moves, Tries};

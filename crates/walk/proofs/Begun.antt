@@ -10,7 +10,7 @@ use Rattle.rules.specs.declared.RuleTable.{RuleTable}
 use Rattle.closures.specs.Represents.{Ready, Represents}
 use Rattle.closures.specs.Lent.{kindsIn, startsIn, stateIn}
 use Rattle.closures.specs.declared.State.{State}
-use Rattle.walk.specs.Walk.{Count}
+use Rattle.decision.specs.Walk.{Count}
 use Rattle.walk.specs.Visits.{countOf, machineOf, Scene, visits, Visits, Walks}
 use Rattle.walk.specs.declared.Counts.{Counts}
 use Rattle.walk.specs.declared.Limits.{Limits}

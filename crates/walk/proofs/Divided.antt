@@ -14,8 +14,8 @@ use Rattle.sets.proofs.Divisions.{picked-map, left-map, from, from-zero, from-o
 use Rattle.sets.proofs.Members.{members-rising}
 use Rattle.scripts.specs.Tree.{close, part, tops, sum}
 use Rattle.scripts.specs.Represents.{Held}
-use Rattle.closures.specs.Closure.{ClosureHead, Closure}
-use Rattle.walk.specs.ClosureWalk.{withEither, divisions}
+use Rattle.closure_machine.specs.Closure.{ClosureHead, Closure}
+use Rattle.decision.specs.ClosureWalk.{withEither, divisions}
 use Rattle.walk.specs.Pieces.{Piece, Divides}
 
 -- a top part: its number, its head and its inside

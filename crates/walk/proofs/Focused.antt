@@ -12,7 +12,7 @@ use Rattle.scripts.specs.Represents.{bodyIn}
 use Rattle.rules.specs.Rule.{Names, Rule, ruleIndex}
 use Rattle.rules.specs.Ruled.{Ruled}
 use Rattle.rules.specs.declared.RuleTable.{RuleTable}
-use Rattle.closures.specs.Closure.{Closure, ClosureHead}
+use Rattle.closure_machine.specs.Closure.{Closure, ClosureHead}
 use Rattle.closures.specs.Seen.{Seen}
 use Rattle.closures.specs.Represents.{heads, boundIn, Ready, Represents}
 use Rattle.closures.specs.declared.State.{State}

@@ -1,12 +1,5 @@
--- That the walk decides satisfaction, and what it needs; that it is the same on closures; what a rule word asks of a closure,
--- answered by the sets that hold it (from Loops on); and what the walk's code answers by the visits made (from Scenes on).
--- Assumes nothing.
-pub mod Renaming
-pub mod Fits
-pub mod Listed
-pub mod Deciding
-pub mod Related
-pub mod Closures
+-- What a rule word asks of a closure, answered by the sets that hold it (from Loops on), and what the walk's code answers by
+-- the visits made (from Scenes on). Assumes nothing.
 pub mod Loops
 pub mod Focused
 pub mod Single

@@ -8,8 +8,8 @@ use mathlib.Core.Path.{_≡_, refl, sym, ap, _∙_}
 use native.Mathlib.Omega.{arith}
 use denote.Enum.Declared.{tagOf}
 use types.Run.{OneOf}
-use Rattle.walk.specs.Walk.{Count, says, range, onYes, onNo, firstYes}
-use Rattle.walk.specs.Walk as spec
+use Rattle.decision.specs.Walk.{Count, says, range, onYes, onNo, firstYes}
+use Rattle.decision.specs.Walk as spec
 use Rattle.walk.specs.Visits.{countOf, walkedOf}
 use Rattle.walk.specs.declared.Counts.{Counts}
 use Rattle.walk.specs.declared.Walked.{Walked}

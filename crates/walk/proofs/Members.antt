@@ -21,16 +21,16 @@ use Rattle.rules.specs.Rule.{Names, termName, Term, Rule, always, negation, eit
 use Rattle.rules.specs.ReadRule.{termOf}
 use Rattle.rules.specs.Ruled.{Ruled, Said}
 use Rattle.rules.proofs.Inversion.{Told}
-use Rattle.closures.specs.Closure.{Closure, ClosureHead, ClosureMachine, Bindings}
+use Rattle.closure_machine.specs.Closure.{Closure, ClosureHead, ClosureMachine, Bindings}
 use Rattle.closures.specs.Seen.{nameIn}
 use Rattle.closures.specs.Represents.{heads, boundIn, Represents}
 use Rattle.closures.specs.Lent.{stretch, kindsIn, startsIn, stateIn}
 use Rattle.closures.proofs.Copying.{length-stretch, getD-stretch}
 use Rattle.walk.specs.Pieces.{Piece, Room, Divides}
 use Rattle.closures.specs.declared.State.{State}
-use Rattle.walk.specs.Walk.{Count, Setting, says, onYes, onNo, ifAny, look, counted, walk}
-use Rattle.walk.specs.Walk as spec
-use Rattle.walk.specs.ClosureWalk.{closureSpace, only, isVoid}
+use Rattle.decision.specs.Walk.{Count, Setting, says, onYes, onNo, ifAny, look, counted, walk}
+use Rattle.decision.specs.Walk as spec
+use Rattle.decision.specs.ClosureWalk.{closureSpace, only, isVoid}
 use Rattle.walk.specs.Visits.{countOf, walkedOf, settingOf, indices, Later, nameSaid, Lendable, Scene, here, visits, Visits, Looks, Splits}
 use Rattle.walk.specs.declared.Counts.{Counts}
 use Rattle.walk.specs.declared.Limits.{Limits}

@@ -14,13 +14,13 @@ use Rattle.scripts.specs.Tree.{close, part, one, tops, sum, count}
 use Rattle.scripts.specs.Represents.{Held, bodyIn}
 use Rattle.machine.specs.Moves.{headName, isNamed}
 use Rattle.machine.proofs.Options.{byTest}
-use Rattle.closures.specs.Closure.{ClosureHead, Closure, Bindings, under, ClosureMachine}
+use Rattle.closure_machine.specs.Closure.{ClosureHead, Closure, Bindings, under, ClosureMachine}
 use Rattle.closures.specs.Seen.{Names}
 use Rattle.closures.specs.Represents.{heads, boundIn, Ready, Represents}
 use Rattle.closures.specs.declared.State.{State}
 use Rattle.closures.proofs.Holding.{self}
 use Rattle.closures.proofs.Locating.{seen-names}
-use Rattle.walk.specs.ClosureWalk.{beside, insides}
+use Rattle.decision.specs.ClosureWalk.{beside, insides}
 use Rattle.walk.specs.Pieces.{Piece, Room}
 use Rattle.walk.proofs.Focused.{seen-told, top-told}
 

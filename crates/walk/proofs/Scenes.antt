@@ -21,7 +21,7 @@ use Rattle.rules.specs.Ruled.{Ruled, Said}
 use Rattle.rules.specs.RuleTable.{termWord}
 use Rattle.rules.specs.declared.RuleTerm.the-variants as terms
 use Rattle.rules.proofs.Inversion.{Told, rule-told, rule-inside, constant-said, chosen-said}
-use Rattle.closures.specs.Closure.{Action, Closure, Bindings, closureMove}
+use Rattle.closure_machine.specs.Closure.{Action, Closure, Bindings, closureMove}
 use Rattle.closures.specs.Represents.{heads, boundIn, Represents}
 use Rattle.closures.specs.Lent.{stretch, kindsIn, startsIn, stateIn}
 use Rattle.closures.proofs.Copying.{length-stretch}

@@ -15,11 +15,11 @@ use Rattle.sets.proofs.Lists.{one-is}
 use Rattle.scripts.specs.Tree.{close, part, tops, sum}
 use Rattle.scripts.specs.Represents.{Held, bodyIn}
 use Rattle.machine.specs.Moves.{headName, sameName}
-use Rattle.closures.specs.Closure.{ClosureHead, Closure, Bindings, under, ClosureMachine}
+use Rattle.closure_machine.specs.Closure.{ClosureHead, Closure, Bindings, under, ClosureMachine}
 use Rattle.closures.specs.Seen.{nameIn}
 use Rattle.closures.specs.Represents.{heads, boundIn, Ready, Represents}
 use Rattle.closures.specs.declared.State.{State}
-use Rattle.walk.specs.ClosureWalk.{isVoid, beside, only}
+use Rattle.decision.specs.ClosureWalk.{isVoid, beside, only}
 use Rattle.walk.specs.Pieces.{Piece, Room}
 use Rattle.walk.proofs.Focused.{seen-told, top-told}
 

@@ -15,12 +15,12 @@ use Rattle.scripts.specs.Tree.{close, part, one, sum, count}
 use Rattle.machine.specs.Moves.{Moved}
 use Rattle.machine.proofs.Options.{byTest, none≢some}
 use Rattle.machine.proofs.Everywhere.{Everywhere, settle-everywhere, Keeps, makes-everywhere}
-use Rattle.closures.specs.Closure.{Action, ClosureHead, Closure, Bindings, under, allSpent, closureMove, ClosureMachine}
+use Rattle.closure_machine.specs.Closure.{Action, ClosureHead, Closure, Bindings, under, allSpent, closureMove, ClosureMachine}
 use Rattle.closures.specs.Targets.{isSome}
 use Rattle.closures.proofs.Holding.{self}
-use Rattle.closures.proofs.Tallies.{closure-inv}
-use Rattle.walk.specs.Walk.{range, keep, movesTo, movesFrom, inOrder}
-use Rattle.walk.specs.ClosureWalk.{machineAfter, nexts}
+use Rattle.closure_machine.proofs.Tallies.{closure-inv}
+use Rattle.decision.specs.Walk.{range, keep, movesTo, movesFrom, inOrder}
+use Rattle.decision.specs.ClosureWalk.{machineAfter, nexts}
 use Rattle.walk.proofs.Loops.{range-first, range-none}
 
 -- ---- any moves of one actor

@@ -20,7 +20,7 @@ use Rattle.machine.specs.Moves.{Moved}
 use Rattle.rules.specs.Rule.{Names, Rule, beside, some-name, sometime, somewhere, ruleIndex}
 use Rattle.rules.specs.Ruled.{Ruled}
 use Rattle.rules.proofs.Inversion.{Told}
-use Rattle.closures.specs.Closure.{Action, Closure, ClosureHead, ClosureMachine, Bindings, closureMove}
+use Rattle.closure_machine.specs.Closure.{Action, Closure, ClosureHead, ClosureMachine, Bindings, closureMove}
 use Rattle.closures.specs.Searches.{place, Located}
 use Rattle.closures.specs.Targets.{isSome, TargetsOf}
 use Rattle.closures.specs.Makes.{Moves}
@@ -30,10 +30,10 @@ use Rattle.closures.specs.declared.State.{State}
 use Rattle.closures.proofs.Copying.{length-stretch, getD-stretch}
 use Rattle.closures.proofs.Aiming.{state-places, state-targets}
 use Rattle.walk.specs.Pieces.{Piece, Room, Divides}
-use Rattle.walk.specs.Walk.{Count, Setting, says, range, onYes, onNo, firstYes, look, movesTo, movesFrom, lastName}
-use Rattle.walk.specs.Walk as spec
-use Rattle.walk.specs.ClosureWalk.{closureSpace, divisions, shares, insides, nexts}
-use Rattle.walk.specs.ClosureWalk as over
+use Rattle.decision.specs.Walk.{Count, Setting, says, range, onYes, onNo, firstYes, look, movesTo, movesFrom, lastName}
+use Rattle.decision.specs.Walk as spec
+use Rattle.decision.specs.ClosureWalk.{closureSpace, divisions, shares, insides, nexts}
+use Rattle.decision.specs.ClosureWalk as over
 use Rattle.walk.specs.Visits.{countOf, walkedOf, settingOf, indices, Later, Lendable, Scene, here, visits, Visits, Looks, Splits, Tries}
 use Rattle.walk.specs.declared.Counts.{Counts}
 use Rattle.walk.specs.declared.Limits.{Limits}

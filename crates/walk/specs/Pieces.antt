@@ -6,7 +6,7 @@ use lib.ListN.{set}
 use Rattle.sets.specs.Sets.{members, but}
 use Rattle.scripts.specs.Tree.{tops, sum}
 use Rattle.scripts.specs.Represents.{Held}
-use Rattle.closures.specs.Closure.{ClosureHead, Closure}
+use Rattle.closure_machine.specs.Closure.{ClosureHead, Closure}
 use Rattle.closures.specs.declared.State.{State}
 
 -- the state with `top` as the set of its top parts, beside the lent sets

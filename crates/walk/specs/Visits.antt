@@ -14,15 +14,15 @@ use Rattle.rules.specs.Rule.{Term, constant, chosen, Names, lookup, Rule, alway
 use Rattle.messages.specs.Reading.{Cursor}
 use Rattle.rules.specs.Ruled.{Ruled, Tabled}
 use Rattle.rules.specs.declared.RuleTable.{RuleTable}
-use Rattle.closures.specs.Closure.{Closure, ClosureMachine, closureMove}
+use Rattle.closure_machine.specs.Closure.{Closure, ClosureMachine, closureMove}
 use Rattle.closures.specs.Searches.{place}
 use Rattle.closures.specs.Targets.{isSome}
 use Rattle.closures.specs.Represents.{heads, boundIn, Ready, Represents}
 use Rattle.closures.specs.Lent.{Small, kindsIn, startsIn, stateIn}
 use Rattle.closures.specs.declared.State.{State}
-use Rattle.walk.specs.Walk.{Count, Setting, onYes, firstYes, look, walk, walkFrom, movesTo}
-use Rattle.walk.specs.Walk as spec
-use Rattle.walk.specs.ClosureWalk.{closureSpace, machineAfter}
+use Rattle.decision.specs.Walk.{Count, Setting, onYes, firstYes, look, walk, walkFrom, movesTo}
+use Rattle.decision.specs.Walk as spec
+use Rattle.decision.specs.ClosureWalk.{closureSpace, machineAfter}
 use Rattle.walk.specs.Pieces.{Divides}
 use Rattle.walk.specs.declared.Counts.{Counts}
 use Rattle.walk.specs.declared.Limits.{Limits}

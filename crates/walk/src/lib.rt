@@ -25,14 +25,14 @@ ghost use Rattle.scripts.specs.Tree.{ambient, close, part, count};
 ghost use Rattle.scripts.specs.Represents.{bodyIn};
 ghost use Rattle.machine.specs.Moves.{sameName};
 ghost use Rattle.rules.specs.ReadRule.{termOf};
-ghost use Rattle.closures.specs.Closure.{Closure};
+ghost use Rattle.closure_machine.specs.Closure.{Closure};
 ghost use Rattle.closures.specs.Seen.{nameIn};
 ghost use Rattle.closures.specs.Searches.{Located};
 ghost use Rattle.closures.specs.Targets.{TargetsOf};
 ghost use Rattle.closures.specs.Makes.{Moves};
 ghost use Rattle.closures.specs.Represents.{boundIn, Ready, Represents};
 ghost use Rattle.closures.specs.Lent.{Small, stretch, kindsIn, startsIn, stateIn};
-ghost use Rattle.walk.specs.Walk.{turned as reversed, says};
+ghost use Rattle.decision.specs.Walk.{turned as reversed, says};
 ghost use Rattle.walk.specs.Visits.{countOf, walkedOf, nameSaid, Lendable};
 ghost use Rattle.walk.specs.Visits.{Visits as Answers, Looks as Finds, Splits, Tries, Walks};
 

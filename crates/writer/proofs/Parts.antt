@@ -16,7 +16,7 @@ use Rattle.bindings.specs.Resolve.{resolve}
 use Rattle.bindings.specs.Measures.{capped, cappedItems}
 use Rattle.bindings.proofs.Resolving.{message-word}
 use Rattle.bindings.proofs.Counting.{capped-sum}
-use Rattle.closures.specs.Closure.{ClosureHead, Closure, Bindings, itemsLeft, unfoldHead, unfolded}
+use Rattle.closure_machine.specs.Closure.{ClosureHead, Closure, Bindings, itemsLeft, unfoldHead, unfolded}
 use Rattle.closures.specs.Represents.{headOf}
 use Rattle.closures.proofs.Heads.{by-kind, head-action, head-receipt}
 use Rattle.closures.proofs.Holding.{no-cons}

@@ -8,7 +8,7 @@ use lib.ListN.{length, getD}
 use Rattle.scripts.specs.Tree.{Head, ambient, action, receipt, output, tops, parts, PlainHead, Plain}
 use Rattle.scripts.specs.Represents.{Held}
 use Rattle.bindings.specs.Measures.{capped}
-use Rattle.closures.specs.Closure.{ClosureHead, Closure, Bindings, unfolded, unfoldHead}
+use Rattle.closure_machine.specs.Closure.{ClosureHead, Closure, Bindings, unfolded, unfoldHead}
 use Rattle.writer.specs.Write.{Indices, writeMessage, whole, writeHead, within, writeInside, write}
 use Rattle.writer.specs.Buffer.{Wrote}
 

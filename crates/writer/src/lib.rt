@@ -29,7 +29,7 @@ ghost use Rattle.scripts.specs.Represents.{Held, bodyIn};
 ghost use Rattle.bindings.specs.Resolve.{resolve, bindingsIn};
 ghost use Rattle.bindings.specs.Measures.{capped, Kept, Cached, itemCount};
 ghost use Rattle.bindings.specs.Passes.{firsts, allItems, ownItems};
-ghost use Rattle.closures.specs.Closure.{Closure, Bindings, unfoldHead, unfolded};
+ghost use Rattle.closure_machine.specs.Closure.{Closure, Bindings, unfoldHead, unfolded};
 ghost use Rattle.closures.specs.Represents.{headOf, heads};
 ghost use Rattle.writer.specs.Write.{Indices, newIndex, writeMessage, whole, writeHead, within, write};
 ghost use Rattle.writer.specs.Buffer.{Wrote, answered, buffered};

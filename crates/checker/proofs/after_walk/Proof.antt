@@ -1,6 +1,6 @@
 -- `after_walk` meets its contract: a stop is a refusal. Assumes nothing.
 use mathlib.Core.Path.{sym, ap, _∙_}
-use Rattle.closures.specs.Closure.{unfoldMachine}
+use Rattle.closure_machine.specs.Closure.{unfoldMachine}
 use Rattle.closures.specs.Represents.{boundIn}
 use Rattle.walk.specs.Visits.{walkedOf}
 use Rattle.walk.specs.declared.Walked as declared

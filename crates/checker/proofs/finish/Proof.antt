@@ -1,7 +1,7 @@
 -- `finish` meets its contract: the writer says whether the tree fits. Assumes nothing.
 use mathlib.Core.Path.{_≡_, refl, sym, _∙_}
 use lib.ListN.{length}
-use Rattle.closures.specs.Closure.{unfoldMachine}
+use Rattle.closure_machine.specs.Closure.{unfoldMachine}
 use Rattle.closures.specs.Represents.{boundIn}
 use Rattle.checker.specs.Answering.{callOf}
 use Rattle.checker.proofs.Ending.{ends-refused, ends-words, weighs-so}

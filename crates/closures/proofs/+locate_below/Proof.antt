@@ -15,7 +15,7 @@ use Rattle.sets.proofs.has.Reads as has-reads
 use Rattle.sets.proofs.rest.Reads as rest-reads
 use Rattle.scripts.specs.Represents.{bodyIn}
 use Rattle.machine.specs.Moves.{isNamed, headName}
-use Rattle.closures.specs.Closure.{ClosureHead, Bindings, under}
+use Rattle.closure_machine.specs.Closure.{ClosureHead, Bindings, under}
 use Rattle.closures.specs.Searches.{Locates}
 use Rattle.closures.specs.Seen.{Names}
 use Rattle.closures.proofs.Locating.{Enters, enters-named, enters-nameless, locates-none, locates-no-fuel, locates-first, set-place}

@@ -20,7 +20,7 @@ use Rattle.sets.proofs.union.Reads as union-reads
 use Rattle.sets.proofs.with.Reads as with-reads
 use Rattle.scripts.specs.Tree.{isAmbient}
 use Rattle.scripts.specs.Represents.{bodyIn}
-use Rattle.closures.specs.Closure.{ClosureHead, Bindings}
+use Rattle.closure_machine.specs.Closure.{ClosureHead, Bindings}
 use Rattle.closures.specs.Searches.{Settles}
 use Rattle.closures.specs.Seen.{busyUnder, Busy, Ambients}
 use Rattle.closures.proofs.Settling.{not-busy, busy-ambient, busy-spent, none-busy, some-busy, settle-quiet, settle-no-fuel, settle-keeps, settle-melts, settle-enters}

@@ -5,7 +5,7 @@ use native.Mathlib.Omega.{arith}
 use Rattle.bindings.specs.Held.{bindingsOf}
 use Rattle.bindings.specs.declared.Bindings as arrays
 use Rattle.scripts.specs.Tree.{parts}
-use Rattle.closures.specs.Closure.{Bindings, settleUnder, closureOf}
+use Rattle.closure_machine.specs.Closure.{Bindings, settleUnder, closureOf}
 use Rattle.closures.specs.Represents.{boundIn, Represents}
 use Rattle.closures.proofs.Settled.{begun, ready-same}
 use borrow.Author.Needs.{needs}

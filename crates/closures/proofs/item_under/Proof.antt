@@ -3,7 +3,7 @@ use mathlib.Core.Path.{_≡_, subst}
 use Rattle.bindings.specs.Resolve.{bindingsIn}
 use Rattle.bindings.specs.Held.{bindingsOf}
 use Rattle.machine.specs.Moves.{firstOf}
-use Rattle.closures.specs.Closure.{Bindings, under}
+use Rattle.closure_machine.specs.Closure.{Bindings, under}
 use Rattle.closures.specs.Represents.{headOf}
 use borrow.Author.Needs.{needs}
 use borrow.Author.Needs.{needs}

@@ -6,7 +6,7 @@ use lib.ListN.{getD}
 use Rattle.sets.proofs.Members.{members-empty}
 use Rattle.bindings.specs.Resolve.{bindingsIn}
 use Rattle.machine.specs.Moves.{headName}
-use Rattle.closures.specs.Closure.{under}
+use Rattle.closure_machine.specs.Closure.{under}
 use Rattle.closures.specs.Represents.{heads}
 use Rattle.closures.proofs.Looking.{Filled, filled-none, filled-next, not-named}
 use borrow.Author.Needs.{needs}

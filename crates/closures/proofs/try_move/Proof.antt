@@ -5,7 +5,7 @@ use mathlib.Core.Path.{_≡_, sym, _∙_}
 use native.Mathlib.Omega.{arith}
 use lib.ListN.{getD}
 use Rattle.sets.specs.Sets.{members, elem}
-use Rattle.closures.specs.Closure.{Closure, closureMove}
+use Rattle.closure_machine.specs.Closure.{Closure, closureMove}
 use Rattle.closures.specs.Represents.{boundIn, Represents}
 use Rattle.closures.specs.Searches.{place}
 use Rattle.closures.specs.Targets.{isSome}

@@ -5,7 +5,7 @@ use mathlib.Core.Path.{_≡_, refl, sym, ap, _∙_, subst}
 use native.Mathlib.Omega.{arith}
 use Rattle.messages.specs.Message.{name as called}
 use Rattle.scripts.specs.Tree.{ambient, close, part, count}
-use Rattle.closures.specs.Closure.{Closure, Bindings}
+use Rattle.closure_machine.specs.Closure.{Closure, Bindings}
 use Rattle.closures.specs.Represents.{boundIn, Ready, Represents}
 use Rattle.closures.specs.Lent.{kindsIn, startsIn, stateIn}
 use Rattle.closures.specs.declared.State.{State}

@@ -2,7 +2,7 @@
 use mathlib.Core.Path.{_≡_, refl, sym, ap, _∙_, subst}
 use native.Mathlib.Omega.{arith}
 use Rattle.walk.specs.Visits.{walkedOf}
-use Rattle.walk.specs.Walk as spec
+use Rattle.decision.specs.Walk as spec
 use Rattle.walk.specs.declared.Walked.{Walked}
 use lib.Dec.{eqb}
 use mathlib.Core.Bool.{Bool}

@@ -11,7 +11,7 @@ use Rattle.sets.proofs.Members.{first-is, first-below, not-none, members-empty}
 use Rattle.scripts.specs.Represents.{bodyIn}
 use Rattle.bindings.specs.Resolve.{bindingsIn}
 use Rattle.bindings.specs.Measures.{capped}
-use Rattle.closures.specs.Closure.{ClosureHead, Bindings, unfolded}
+use Rattle.closure_machine.specs.Closure.{ClosureHead, Bindings, unfolded}
 use Rattle.closures.specs.Represents.{heads}
 use Rattle.writer.proofs.Parts.{no-tops, no-parts, part-only, counts-inside, counts-more}
 use Prim.Native.Nat.{ℕ, _<_}

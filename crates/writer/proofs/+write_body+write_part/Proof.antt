@@ -11,7 +11,7 @@ use Rattle.sets.specs.Sets.{members, tail}
 use Rattle.sets.proofs.Members.{first-is, first-below, not-none, members-empty}
 use Rattle.scripts.specs.Represents.{bodyIn}
 use Rattle.bindings.specs.Resolve.{bindingsIn}
-use Rattle.closures.specs.Closure.{ClosureHead, Bindings, unfoldHead, unfolded}
+use Rattle.closure_machine.specs.Closure.{ClosureHead, Bindings, unfoldHead, unfolded}
 use Rattle.closures.specs.Represents.{heads}
 use Rattle.writer.specs.Write.{Indices, within, write}
 use Rattle.writer.specs.Buffer.{Wrote}

@@ -2,7 +2,7 @@
 use mathlib.Core.Path.{sym, ap}
 use Rattle.messages.specs.Words.{word}
 use Rattle.scripts.specs.Tree.{kindNumber}
-use Rattle.closures.specs.Closure.{ClosureHead}
+use Rattle.closure_machine.specs.Closure.{ClosureHead}
 use Rattle.closures.proofs.Heads.{head-ambient, head-action, head-receipt}
 use Rattle.writer.proofs.Parts.{head-output}
 use Rattle.writer.proofs.head_word.Statement.{statement}

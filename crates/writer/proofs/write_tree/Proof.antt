@@ -4,7 +4,7 @@ use mathlib.Core.Path.{sym}
 use native.Mathlib.Omega.{arith}
 use lib.Seq.{length-take-le}
 use Rattle.bindings.specs.Resolve.{bindingsIn}
-use Rattle.closures.specs.Closure.{unfolded}
+use Rattle.closure_machine.specs.Closure.{unfolded}
 use Rattle.writer.specs.Write.{write}
 use Rattle.writer.proofs.Answers.{over-limit, over-buffer, fitted}
 use borrow.Author.Needs.{needs}

@@ -13,8 +13,8 @@ use Rattle.messages.specs.declared.Named.the-variants.{Called}
 use Rattle.scripts.specs.Tree.{ambient, action, receipt, output, part, one}
 use Rattle.machine.specs.Moves.{Moved, headName}
 use Rattle.bindings.proofs.Substitution.{Fresh, New}
-use Rattle.closures.specs.Closure.{Action, ClosureHead, Closure, Bindings, under, settleUnder, closureMove}
-use Rattle.closures.proofs.Tallies.{Tally, of, of-part, named-open, of-settle, Takes, Step, spends, takes, move-step}
+use Rattle.closure_machine.specs.Closure.{Action, ClosureHead, Closure, Bindings, under, settleUnder, closureMove}
+use Rattle.closure_machine.proofs.Tallies.{Tally, of, of-part, named-open, of-settle, Takes, Step, spends, takes, move-step}
 
 -- how often a variable stands in a message
 unfoldable pub uses : ℕ → Message → ℕ

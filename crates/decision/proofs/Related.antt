@@ -8,7 +8,7 @@ use mathlib.Core.Option.{Option, none, some}
 use lib.Dec.{ltb}
 use Rattle.rules.specs.Rule.{Names, termName, Rule, always, negation, either, void, at, beside, some-name, sometime, somewhere, placed}
 use Rattle.machine.proofs.Options.{byTest}
-use Rattle.walk.specs.Walk.{Space, Count, Walked, stopped, says, Setting, range, onYes, onNo, turned, ifAny, firstYes, lastName, look, counted, walk, keep, movesTo, movesFrom, inOrder}
+use Rattle.decision.specs.Walk.{Space, Count, Walked, stopped, says, Setting, range, onYes, onNo, turned, ifAny, firstYes, lastName, look, counted, walk, keep, movesTo, movesFrom, inOrder}
 
 -- nothing beside nothing, or related things
 pub data Both {A B : Type 0} (R : A → B → Type 0) : Option A → Option B → Type 0 where

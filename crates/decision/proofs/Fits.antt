@@ -14,7 +14,7 @@ use Rattle.machine.proofs.Naturality.{mapHead}
 use Rattle.machine.proofs.Everywhere.{Everywhere, map-everywhere, still-everywhere, more-everywhere, Keeps, move-everywhere}
 use Rattle.rules.specs.Rule.{Term, constant, chosen, Rule, always, negation, either, void, at, beside, some-name, sometime, somewhere, placed, Names, lookup, termName}
 use Rattle.calculus.specs.Satisfaction.{Divided, nothing, left, right, Inside, first, later, Alone, wrapped}
-use Rattle.walk.proofs.Renaming.{renameMessage, renameItems, renameHead, renameTree, renameTerm, renameRule, renameNames}
+use Rattle.decision.proofs.Renaming.{renameMessage, renameItems, renameHead, renameTree, renameTerm, renameRule, renameNames}
 
 -- every name of a message has P
 abbrev pub MessageAll : (ℕ → Type 0) → Message → Type 0

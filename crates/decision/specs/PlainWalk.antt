@@ -10,7 +10,7 @@ use Rattle.scripts.specs.Tree.{Head, PlainHead, Plain}
 use Rattle.machine.specs.Moves.{Moved, headName, isNamed, sameName}
 use Rattle.machine.specs.PlainMachine.{plain, move}
 use Rattle.calculus.specs.Satisfaction.{wrapped}
-use Rattle.walk.specs.Walk.{Space, inOrder}
+use Rattle.decision.specs.Walk.{Space, inOrder}
 
 -- "VOID, no parts"
 unfoldable pub isVoid : Plain → Bool

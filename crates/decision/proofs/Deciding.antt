@@ -17,11 +17,11 @@ use Rattle.machine.specs.PlainMachine.{move}
 use Rattle.machine.proofs.Options.{byTest, some-is, none≢some}
 use Rattle.rules.specs.Rule.{Term, Rule, always, negation, either, void, at, beside, some-name, sometime, somewhere, placed, Names, termName}
 use Rattle.calculus.specs.Satisfaction.{Within, here, deeper, Reaches, stay, go, wrapped, Sat}
-use Rattle.walk.specs.Walk.{Count, Walked, stopped, says, Setting, range, onYes, onNo, turned, ifAny, firstYes, lastName, look, counted, walk}
-use Rattle.walk.specs.PlainWalk.{isVoid, only, divisions, insides, nexts, plainSpace}
-use Rattle.walk.proofs.Renaming.{renameNames, renameRule, renameTree, Permutation, Same, sat-rename}
-use Rattle.walk.proofs.Fits.{Fits, NamesAll, RuleAll, move-fits, inside-fits, divided-fits, alone-fits, wrapped-fits, term-all, names-more, term-more, fits-more, tree-still, rule-still, names-still}
-use Rattle.walk.proofs.Listed.{in-range, of-range, Next, of-nexts, in-nexts, in-divisions, of-divisions, of-insides, in-insides, of-only, in-only}
+use Rattle.decision.specs.Walk.{Count, Walked, stopped, says, Setting, range, onYes, onNo, turned, ifAny, firstYes, lastName, look, counted, walk}
+use Rattle.decision.specs.PlainWalk.{isVoid, only, divisions, insides, nexts, plainSpace}
+use Rattle.decision.proofs.Renaming.{renameNames, renameRule, renameTree, Permutation, Same, sat-rename}
+use Rattle.decision.proofs.Fits.{Fits, NamesAll, RuleAll, move-fits, inside-fits, divided-fits, alone-fits, wrapped-fits, term-all, names-more, term-more, fits-more, tree-still, rule-still, names-still}
+use Rattle.decision.proofs.Listed.{in-range, of-range, Next, of-nexts, in-nexts, in-divisions, of-divisions, of-insides, in-insides, of-only, in-only}
 
 -- the answer is right about P
 pub data Reflects (P : Type 0) : Bool → Type 0 where

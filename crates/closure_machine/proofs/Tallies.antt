@@ -16,7 +16,7 @@ use Rattle.machine.specs.Moves.{Moved, headName, spentHead, spend, moveHere, an
 use Rattle.machine.proofs.Options.{byTest, some-is, none≢some}
 use Rattle.machine.proofs.Inversion.{headName-inv, Here, by-open, by-receive, by-enter, by-exit, here-inv, Makes, now, inner, outer, anywhere-inv}
 use Rattle.machine.proofs.Sums.{entered-target, received-target}
-use Rattle.closures.specs.Closure.{Action, ClosureHead, Closure, Bindings, spentOne, under, allSpent, settleUnder, settledUnder, closureMove}
+use Rattle.closure_machine.specs.Closure.{Action, ClosureHead, Closure, Bindings, spentOne, under, allSpent, settleUnder, settledUnder, closureMove}
 
 pub record Tally : Type 0 where
   pub own : ℕ → ClosureHead → ℕ  -- what a part counts by its number and its head

@@ -15,15 +15,15 @@ use Rattle.machine.proofs.Options.{byTest}
 use Rattle.machine.proofs.Inversion.{isNamed-inv, sameName-inv}
 use Rattle.rules.specs.Rule.{Rule}
 use Rattle.calculus.specs.Satisfaction.{wrapped}
-use Rattle.closures.specs.Closure.{Action, ClosureHead, Closure, Bindings, under, closureMove, unfoldHead, unfolded, unfoldedMove, ClosureMachine}
-use Rattle.closures.proofs.Tallies.{Tally, of}
-use Rattle.closures.proofs.Invariant.{uses, Good, good-less, good-inside, good-rest, move-good}
-use Rattle.closures.proofs.Simulation.{unfold-move}
-use Rattle.walk.specs.Walk.{Setting, walkFrom}
-use Rattle.walk.specs.PlainWalk.{bodyAfter, plainSpace}
-use Rattle.walk.specs.PlainWalk as plain-walk
-use Rattle.walk.specs.ClosureWalk.{isVoid, withEither, divisions, beside, only, insides, machineAfter, nexts, shares, closureSpace}
-use Rattle.walk.proofs.Related.{Both, neither, found, Pairwise, nil, more, pairwise-map, pairwise-more, order-pairwise, Related, walk-related}
+use Rattle.closure_machine.specs.Closure.{Action, ClosureHead, Closure, Bindings, under, closureMove, unfoldHead, unfolded, unfoldedMove, ClosureMachine}
+use Rattle.closure_machine.proofs.Tallies.{Tally, of}
+use Rattle.closure_machine.proofs.Invariant.{uses, Good, good-less, good-inside, good-rest, move-good}
+use Rattle.closure_machine.proofs.Simulation.{unfold-move}
+use Rattle.decision.specs.Walk.{Setting, walkFrom}
+use Rattle.decision.specs.PlainWalk.{bodyAfter, plainSpace}
+use Rattle.decision.specs.PlainWalk as plain-walk
+use Rattle.decision.specs.ClosureWalk.{isVoid, withEither, divisions, beside, only, insides, machineAfter, nexts, shares, closureSpace}
+use Rattle.decision.proofs.Related.{Both, neither, found, Pairwise, nil, more, pairwise-map, pairwise-more, order-pairwise, Related, walk-related}
 
 -- a closure with the invariant, and the tree that it unfolds to
 abbrev pub Unfolds : ClosureMachine → Plain → Type 0

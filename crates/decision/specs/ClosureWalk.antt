@@ -7,8 +7,8 @@ use Rattle.messages.specs.Message.{name}
 use Rattle.messages.specs.declared.Named.the-variants.{Called}
 use Rattle.scripts.specs.Tree.{ambient, close, part}
 use Rattle.machine.specs.Moves.{Moved, headName, isNamed, sameName}
-use Rattle.closures.specs.Closure.{Action, ClosureHead, Closure, Bindings, under, closureMove, ClosureMachine}
-use Rattle.walk.specs.Walk.{Space, inOrder}
+use Rattle.closure_machine.specs.Closure.{Action, ClosureHead, Closure, Bindings, under, closureMove, ClosureMachine}
+use Rattle.decision.specs.Walk.{Space, inOrder}
 
 -- "VOID, no parts"
 unfoldable pub isVoid : Closure → Bool

@@ -21,9 +21,9 @@ use Rattle.machine.specs.Bodies.{find, drop}
 use Rattle.machine.specs.Moves.{Moved, headName, moveHere, anywhere}
 use Rattle.machine.specs.PlainMachine.{rest, substituteHead, substituteBody, plain, settledBy, move}
 use Rattle.machine.proofs.Naturality.{renamed, asked, mapHead, isAmbient-map, Translates, named-map, merge-map, settle-map, receive-map, here-map, anywhere-map}
-use Rattle.closures.specs.Closure.{Action, ClosureHead, Closure, Bindings, itemsLeft, under, allSpent, settleUnder, settledUnder, closureMove, unfoldHead, unfolded, plainNews, unfoldedMove}
-use Rattle.closures.proofs.Tallies.{of, of-drop, of-find, of-part, named-open, Step, spends, takes, makes-step}
-use Rattle.closures.proofs.Invariant.{uses, uses-none, usesIn, receives, spentIn, receipts, loose, Good, not-received, received-self, good-inside, good-rest, bound-received}
+use Rattle.closure_machine.specs.Closure.{Action, ClosureHead, Closure, Bindings, itemsLeft, under, allSpent, settleUnder, settledUnder, closureMove, unfoldHead, unfolded, plainNews, unfoldedMove}
+use Rattle.closure_machine.proofs.Tallies.{of, of-drop, of-find, of-part, named-open, Step, spends, takes, makes-step}
+use Rattle.closure_machine.proofs.Invariant.{uses, uses-none, usesIn, receives, spentIn, receipts, loose, Good, not-received, received-self, good-inside, good-rest, bound-received}
 
 -- Unfolding is a change of heads as Naturality has them.
 abbrev U : Bindings → ClosureHead → PlainHead

@@ -16,9 +16,9 @@ use Rattle.machine.specs.PlainMachine.{plain, move}
 use Rattle.machine.proofs.Options.{byTest, some-is, none≢some, cond-inv}
 use Rattle.machine.proofs.Inversion.{isNamed-inv, sameName-inv}
 use Rattle.calculus.specs.Satisfaction.{Divided, nothing, left, right, Inside, first, later, Alone}
-use Rattle.walk.specs.Walk.{range, keep, movesTo, movesFrom, inOrder}
-use Rattle.walk.specs.PlainWalk.{only, withEither, divisions, insides, bodyAfter, nexts}
-use Rattle.walk.proofs.Fits.{Fits, move-fits}
+use Rattle.decision.specs.Walk.{range, keep, movesTo, movesFrom, inOrder}
+use Rattle.decision.specs.PlainWalk.{only, withEither, divisions, insides, bodyAfter, nexts}
+use Rattle.decision.proofs.Fits.{Fits, move-fits}
 
 -- ranges
 

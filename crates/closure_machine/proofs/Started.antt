@@ -21,10 +21,10 @@ use Rattle.bindings.specs.Resolve.{resolve}
 use Rattle.bindings.proofs.Substitution.{New}
 use Rattle.machine.proofs.Options.{byTest}
 use Rattle.machine.proofs.Sums.{map-sum}
-use Rattle.closures.specs.Closure.{itemsLeft, settleUnder, unfoldHead, unfolded, wholeHead, closureOf}
-use Rattle.closures.proofs.Tallies.{of}
-use Rattle.closures.proofs.Invariant.{uses, usesIn, receives, spentIn, receipts, loose, Good, good-settled}
-use Rattle.closures.proofs.Simulation.{settle-unfolded}
+use Rattle.closure_machine.specs.Closure.{itemsLeft, settleUnder, unfoldHead, unfolded, wholeHead, closureOf}
+use Rattle.closure_machine.proofs.Tallies.{of}
+use Rattle.closure_machine.proofs.Invariant.{uses, usesIn, receives, spentIn, receipts, loose, Good, good-settled}
+use Rattle.closure_machine.proofs.Simulation.{settle-unfolded}
 
 -- ---- what it unfolds to
 

@@ -23,10 +23,10 @@ use Rattle.machine.specs.Moves.{Moved, firstOf, spend, moveHere}
 use Rattle.machine.proofs.Options.{byTest}
 use Rattle.machine.proofs.Inversion.{headName-inv, Here, by-open, by-receive, by-enter, by-exit, here-inv, Makes, now, inner, outer, found}
 use Rattle.machine.proofs.Sums.{find-drop, find-sum, apart, entered-target, by-numbers, made-sum, settle-sum}
-use Rattle.closures.specs.Closure.{Action, ClosureHead, Closure, Bindings, itemsLeft, under, allSpent, settleUnder, closureMove, wholeHead, closureOf}
-use Rattle.closures.proofs.Tallies.{Tally, of, of-drop, of-find, of-put, of-merge, of-alter, of-spent, of-settle, Step, spends, takes, closure-inv, move-step}
-use Rattle.closures.proofs.Simulation.{none-left}
-use Rattle.closures.proofs.Started.{script-distinct}
+use Rattle.closure_machine.specs.Closure.{Action, ClosureHead, Closure, Bindings, itemsLeft, under, allSpent, settleUnder, closureMove, wholeHead, closureOf}
+use Rattle.closure_machine.proofs.Tallies.{Tally, of, of-drop, of-find, of-put, of-merge, of-alter, of-spent, of-settle, Step, spends, takes, closure-inv, move-step}
+use Rattle.closure_machine.proofs.Simulation.{none-left}
+use Rattle.closure_machine.proofs.Started.{script-distinct}
 
 -- ---- the items of a message under bindings
 

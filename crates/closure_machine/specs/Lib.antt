@@ -1,0 +1,2 @@
+-- The closure machine as definitions. Assumes nothing.
+pub mod Closure

@@ -1,0 +1,4 @@
+-- The walk as a definition: over any space, over plain trees and over closures. Assumes nothing: these are definitions.
+pub mod Walk
+pub mod PlainWalk
+pub mod ClosureWalk
