@@ -1,11 +1,11 @@
 -- What the walk's small functions answer: the name that a word says, whether a part is called so, and states that are lent
 -- and borrowed again. Assumes nothing.
-use Prim.Native.Nat.{ℕ, suc, _+_, _≤_, _<_}
-use mathlib.Core.Bool.{Bool, true, false}
+use Prim.Native.Nat.{ℕ, _+_, _≤_, _<_}
+use mathlib.Core.Bool.{true, false}
 use mathlib.Core.List.{List}
-use mathlib.Core.Path.{_≡_, refl, sym, ap, _∙_, subst}
+use mathlib.Core.Path.{_≡_, sym, ap, _∙_, subst}
 use native.Mathlib.Omega.{arith}
-use lib.Dec.{eqb, ltb}
+use lib.Dec.{eqb}
 use lib.ListN.{getD, set, length, length-set}
 use lib.Seq.{getD-set-same, getD-set-other}
 use borrow.Author.Tests.{lt-ltb, le-ltb, eqb-true, eqb-false}
@@ -13,7 +13,7 @@ use Rattle.messages.specs.declared.Named.the-variants.{Called}
 use Rattle.sets.specs.Sets.{members, elem}
 use Rattle.machine.specs.Moves.{sameName}
 use Rattle.machine.proofs.Options.{byTest}
-use Rattle.rules.specs.Rule.{Term, constant, chosen}
+use Rattle.rules.specs.Rule.{Term}
 use Rattle.rules.specs.RuleTable.{termWord}
 use Rattle.rules.specs.declared.RuleTerm.the-variants as terms
 use Rattle.rules.proofs.Words.{constant-told, chosen-told}

@@ -1,7 +1,6 @@
 -- `next_state` meets its contract, step by step. Assumes nothing.
 use Prim.Native.Nat.{ℕ, _+_, _<_}
-use mathlib.Core.Path.{_≡_, refl, sym, ap, _∙_, subst}
-use native.Mathlib.Omega.{arith}
+use mathlib.Core.Path.{_≡_, sym, _∙_}
 use lib.ListN.{getD}
 use Rattle.messages.specs.Message.{name as called}
 use Rattle.scripts.specs.Tree.{ambient, close, part, count}
