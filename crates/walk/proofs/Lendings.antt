@@ -1,11 +1,11 @@
 -- What the walk's small functions answer: the name that a word says, whether a part is called so, and states that are lent
 -- and borrowed again. Assumes nothing.
-use Prim.Native.Nat.{ℕ, suc, _+_, _≤_, _<_}
-use mathlib.Core.Bool.{Bool, true, false}
+use Prim.Native.Nat.{ℕ, _+_, _≤_, _<_}
+use mathlib.Core.Bool.{true, false}
 use mathlib.Core.List.{List}
-use mathlib.Core.Path.{_≡_, refl, sym, ap, _∙_, subst}
+use mathlib.Core.Path.{_≡_, sym, ap, _∙_, subst}
 use native.Mathlib.Omega.{arith}
-use lib.Dec.{eqb, ltb}
+use lib.Dec.{eqb}
 use lib.ListN.{getD, set, length, length-set}
 use lib.Seq.{getD-set-same, getD-set-other}
 use borrow.Author.Tests.{lt-ltb, le-ltb, eqb-true, eqb-false}
@@ -13,7 +13,7 @@ use Rattle.messages.specs.declared.Named.the-variants.{Called}
 use Rattle.sets.specs.Sets.{members, elem}
 use Rattle.machine.specs.Moves.{sameName}
 use Rattle.machine.proofs.Options.{byTest}
-use Rattle.rules.specs.Rule.{Term, constant, chosen}
+use Rattle.rules.specs.Rule.{Term}
 use Rattle.rules.specs.RuleTable.{termWord}
 use Rattle.rules.specs.declared.RuleTerm.the-variants as terms
 use Rattle.rules.proofs.Words.{constant-told, chosen-told}
@@ -22,6 +22,7 @@ use Rattle.closures.specs.Lent.{stretch}
 use Rattle.closures.specs.declared.State.{State}
 use Rattle.closures.proofs.Copying.{getD-stretch}
 use Rattle.walk.specs.Visits.{nameSaid}
+use Rattle.walk.specs.declared.Step.the-variants.{Move, Place}
 
 -- the name that a term says
 module _ (choices : List ℕ) (t : Term) where
@@ -98,3 +99,13 @@ module _ (words rights places program : List ℕ) (i w r n : ℕ) (L : Loading w
         (getD-set-same two (512 + i) n 0 (omega (arith, two-long)) ∙ en)
         (λ j g. past (512 + j) (λ z. omega arith) (λ z. omega arith) (λ z. omega arith) ∙ L .number j g);
   }
+
+-- a step is one of a kind, and has one actor and target, or one number and name
+pub step-moves : (P : ℕ → ℕ → Type 0) (a t b u : ℕ) → Move a t ≡ Move b u → P a t → P b u
+step-moves P a t b u e p = let x : a ≡ b = cc in let y : t ≡ u = cc in subst (λ (z : ℕ). P z u) x (subst (P a) y p)
+
+pub step-places : (P : ℕ → ℕ → Type 0) (i n j m : ℕ) → Place i n ≡ Place j m → P i n → P j m
+step-places P i n j m e p = let x : i ≡ j = cc in let y : n ≡ m = cc in subst (λ (z : ℕ). P z m) x (subst (P i) y p)
+
+pub step-apart : (a t i n : ℕ) → Move a t ≡ Place i n → ⊥
+step-apart a t i n e = let z : _≡_ {A = ℕ} 0 1 = cc in omega arith

@@ -5,8 +5,8 @@ use mathlib.Core.List.{List, [], _∷_}
 use mathlib.Core.Option.{Option, none, some}
 use mathlib.Core.Path.{_≡_, refl, sym, ap, ap₂, _∙_, subst}
 use native.Mathlib.Omega.{arith}
-use lib.Dec.{eqb, ltb}
-use lib.ListN.{getD, length}
+use lib.Dec.{eqb}
+use lib.ListN.{getD}
 use borrow.Author.Tests.{lt-ltb, le-ltb}
 use Rattle.messages.specs.Words.{kind, operand}
 use Rattle.messages.specs.Message.{name}
@@ -17,7 +17,7 @@ use Rattle.sets.proofs.Members.{first-below}
 use Rattle.scripts.specs.Tree.{ambient, close, part, tops, count}
 use Rattle.scripts.specs.Represents.{bodyIn}
 use Rattle.machine.specs.Moves.{sameName}
-use Rattle.rules.specs.Rule.{Names, termName, Term, Rule, always, negation, either, void, at, beside, some-name, sometime, somewhere, placed, ruleIndex}
+use Rattle.rules.specs.Rule.{Names, termName, Rule, always, negation, either, void, at, beside, placed, ruleIndex}
 use Rattle.rules.specs.ReadRule.{termOf}
 use Rattle.rules.specs.Ruled.{Ruled, Said}
 use Rattle.rules.proofs.Inversion.{Told}
@@ -26,11 +26,11 @@ use Rattle.closures.specs.Seen.{nameIn}
 use Rattle.closures.specs.Represents.{heads, boundIn, Represents}
 use Rattle.closures.specs.Lent.{stretch, kindsIn, startsIn, stateIn}
 use Rattle.closures.proofs.Copying.{length-stretch, getD-stretch}
-use Rattle.walk.specs.Pieces.{Piece, Room, Divides}
+use Rattle.walk.specs.Pieces.{Room, Divides}
 use Rattle.closures.specs.declared.State.{State}
-use Rattle.decision.specs.Walk.{Count, Setting, says, onYes, onNo, ifAny, look, counted, walk}
+use Rattle.decision.specs.Walk.{says, ifAny, look, counted, walk}
 use Rattle.decision.specs.Walk as spec
-use Rattle.decision.specs.ClosureWalk.{closureSpace, only, isVoid}
+use Rattle.decision.specs.ClosureWalk.{closureSpace, only}
 use Rattle.walk.specs.Visits.{countOf, walkedOf, settingOf, indices, Later, nameSaid, Lendable, Scene, here, visits, Visits, Looks, Splits}
 use Rattle.walk.specs.declared.Counts.{Counts}
 use Rattle.walk.specs.declared.Limits.{Limits}

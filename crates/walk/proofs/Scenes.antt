@@ -1,18 +1,18 @@
 -- The scenes that the members of the walk's cycle hand on: of a rule inside the one that is visited, on the same closure, on
 -- a piece of it, under a chosen name, after a move, and inside a new ambient. Assumes nothing.
-use Prim.Native.Nat.{ℕ, zero, suc, _+_, _-_, _≤_, _<_}
-use mathlib.Core.Bool.{Bool, true, false, cond}
-use mathlib.Core.List.{List, [], _∷_, _++_}
+use Prim.Native.Nat.{ℕ, suc, _+_, _-_, _≤_, _<_}
+use mathlib.Core.Bool.{true}
+use mathlib.Core.List.{List, _∷_}
 use mathlib.Core.Path.{_≡_, refl, sym, ap, _∙_, subst}
 use native.Mathlib.Omega.{arith}
-use lib.Dec.{eqb, ltb}
+use lib.Dec.{eqb}
 use mathlib.Core.Option.{some}
 use lib.ListN.{getD, length}
 use borrow.Author.Tests.{lt-ltb, eqb-true, eqb-false, ne-eqb, eq-eqb}
 use Rattle.sets.specs.Sets.{members}
-use Rattle.messages.specs.Words.{kind, operand, member}
+use Rattle.messages.specs.Words.{kind, member}
 use Rattle.messages.specs.Message.{name}
-use Rattle.scripts.specs.Tree.{ambient, close, part, one, sum, tops, count}
+use Rattle.scripts.specs.Tree.{ambient, close, part, sum, tops, count}
 use Rattle.scripts.specs.Represents.{bodyIn}
 use Rattle.machine.specs.Moves.{Moved}
 use Rattle.machine.proofs.Options.{byTest}
@@ -21,12 +21,12 @@ use Rattle.rules.specs.Ruled.{Ruled, Said}
 use Rattle.rules.specs.RuleTable.{termWord}
 use Rattle.rules.specs.declared.RuleTerm.the-variants as terms
 use Rattle.rules.proofs.Inversion.{Told, rule-told, rule-inside, constant-said, chosen-said}
-use Rattle.closure_machine.specs.Closure.{Action, Closure, Bindings, closureMove}
+use Rattle.closure_machine.specs.Closure.{Action, Closure, closureMove}
 use Rattle.closures.specs.Represents.{heads, boundIn, Represents}
 use Rattle.closures.specs.Lent.{stretch, kindsIn, startsIn, stateIn}
 use Rattle.closures.proofs.Copying.{length-stretch}
 use Rattle.walk.specs.Pieces.{Piece}
-use Rattle.walk.specs.Visits.{indices, Chosen, Later, Stage, nameSaid, Lendable, Loaded, Scene}
+use Rattle.walk.specs.Visits.{indices, Chosen, Later, Stage, nameSaid, Lendable, Scene}
 use Rattle.walk.specs.declared.Limits.{Limits}
 use Rattle.walk.proofs.Focused.{ready-top, stage-piece}
 use Rattle.walk.proofs.Targeted.{move-low}

@@ -1,10 +1,8 @@
 -- The loops of the walk's members, turn by turn: what is left of a loop answers what the whole of it does. For each loop it
 -- holds at the start, again after a turn that says no, and tells the answer where a turn ends it or none is left.
 -- Assumes nothing.
-use Prim.Native.Nat.{ℕ, zero, suc, _+_, _-_, _^_, _≤_, _<_}
-use mathlib.Core.Bool.{Bool, true, false}
-use mathlib.Core.List.{List, [], _∷_, _++_, map}
-use mathlib.Core.Option.{Option, none, some}
+use Prim.Native.Nat.{ℕ, suc, _+_, _-_, _^_, _≤_, _<_}
+use mathlib.Core.List.{List, [], _∷_, map}
 use mathlib.Core.Path.{_≡_, refl, sym, ap, _∙_, subst}
 use native.Mathlib.Omega.{arith}
 use lib.ListN.{getD, length}
@@ -16,21 +14,19 @@ use Rattle.sets.proofs.Members.{members-step, first-below}
 use Rattle.sets.proofs.Divisions.{share-first}
 use Rattle.scripts.specs.Tree.{tops, count}
 use Rattle.scripts.specs.Represents.{bodyIn}
-use Rattle.machine.specs.Moves.{Moved}
 use Rattle.rules.specs.Rule.{Names, Rule, beside, some-name, sometime, somewhere, ruleIndex}
 use Rattle.rules.specs.Ruled.{Ruled}
 use Rattle.rules.proofs.Inversion.{Told}
-use Rattle.closure_machine.specs.Closure.{Action, Closure, ClosureHead, ClosureMachine, Bindings, closureMove}
+use Rattle.closure_machine.specs.Closure.{Closure, ClosureHead, ClosureMachine, Bindings, closureMove}
 use Rattle.closures.specs.Searches.{place, Located}
 use Rattle.closures.specs.Targets.{isSome, TargetsOf}
 use Rattle.closures.specs.Makes.{Moves}
-use Rattle.closures.specs.Represents.{heads, boundIn, Represents}
+use Rattle.closures.specs.Represents.{heads, boundIn}
 use Rattle.closures.specs.Lent.{stretch, kindsIn, startsIn, stateIn}
 use Rattle.closures.specs.declared.State.{State}
 use Rattle.closures.proofs.Copying.{length-stretch, getD-stretch}
 use Rattle.closures.proofs.Aiming.{state-places, state-targets}
-use Rattle.walk.specs.Pieces.{Piece, Room, Divides}
-use Rattle.decision.specs.Walk.{Count, Setting, says, range, onYes, onNo, firstYes, look, movesTo, movesFrom, lastName}
+use Rattle.decision.specs.Walk.{Count, range, onYes, onNo, firstYes, look, movesTo, movesFrom, lastName}
 use Rattle.decision.specs.Walk as spec
 use Rattle.decision.specs.ClosureWalk.{closureSpace, divisions, shares, insides, nexts}
 use Rattle.decision.specs.ClosureWalk as over
@@ -38,13 +34,13 @@ use Rattle.walk.specs.Visits.{countOf, walkedOf, settingOf, indices, Lat
 use Rattle.walk.specs.declared.Counts.{Counts}
 use Rattle.walk.specs.declared.Limits.{Limits}
 use Rattle.walk.specs.declared.Walked.{Walked}
-use Rattle.walk.specs.declared.Walked.the-variants.{Yes, No, Stopped}
+use Rattle.walk.specs.declared.Walked.the-variants.{No}
 use Rattle.walk.proofs.Loops.{NotNo, no-goes, no-stops, first-none, first-goes, first-stops, first-last, first-append, range-first, range-none}
 use Rattle.walk.proofs.Focused.{top-told, lent-told}
 use Rattle.walk.proofs.Divided.{Shared, shared-last, shared-next, remaining, remaining-all, remaining-first, remaining-none}
 use Rattle.walk.proofs.Rooms.{Rooms, rooms-first, rooms-none, rooms-told}
 use Rattle.walk.proofs.Targeted.{Each, to-first, to-end, from-first, from-end, after, nexts-all, after-members, after-made, after-is}
-use Rattle.walk.proofs.Scenes.{scene-low, scene-told, scene-piece, scene-inner, scene-chosen, scene-moved, Inside}
+use Rattle.walk.proofs.Scenes.{scene-told, scene-piece, scene-inner, scene-chosen, scene-moved, Inside}
 
 -- a loop over the members of a set: its first member, and that the others are fewer
 module _ (m i others : ℕ) (small : m < 2 ^ 64) (some-left : m ≡ 0 → ⊥) (first : i ≡ headOr 64 (members m)) (rest : members others ≡ tail (members m)) where

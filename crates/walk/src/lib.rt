@@ -32,6 +32,7 @@ ghost use Rattle.closures.specs.Targets.{TargetsOf};
 ghost use Rattle.closures.specs.Makes.{Moves};
 ghost use Rattle.closures.specs.Represents.{boundIn, Ready, Represents};
 ghost use Rattle.closures.specs.Lent.{Small, stretch, kindsIn, startsIn, stateIn};
+ghost use Rattle.walk.specs.declared.Step.the-variants.{Move, Place};
 ghost use Rattle.decision.specs.Walk.{turned as reversed, says};
 ghost use Rattle.walk.specs.Visits.{countOf, walkedOf, nameSaid, Lendable};
 ghost use Rattle.walk.specs.Visits.{Visits as Answers, Looks as Finds, Splits, Tries, Walks};
@@ -68,6 +69,12 @@ pub struct Standing {
     pub sets: [u64; 131],
     pub numbers: [u32; 481],
     pub top: u64,
+}
+
+// What changes a state: a move of an actor to a target, or a new part of that name around the top parts.
+pub enum Step {
+    Move(usize, usize),
+    Place(usize, u32),
 }
 
 // The counts after one more visit, at that depth.
@@ -241,6 +248,26 @@ fn place_within<'a>(
     let with_kind = p.kinds;
     let with_start = p.starts;
     lend_state(with_kind, with_start, p.state)
+}
+
+// The state after that step, for lending. Moves and PLACED share it, so that it is not put into the frames of a deep walk.
+fn next_state<'a>(
+    script: &'a [u32],
+    sets: &'a [u64; 131],
+    numbers: &'a [u32; 481],
+    top: u64,
+    places: &'a [usize; 64],
+    step: Step,
+) -> Standing
+    requires { ⌜ ((a t : ℕ) → step ≡ Move a t → (a < 64) × (t < 64)) × ((i n : ℕ) → step ≡ Place i n → (i < 64) × (n < 65536)) × Lendable (now script) (now sets) (now numbers) top ⌝ }
+    ensures lends { λ r. ⌜ Lendable (now (script .entry)) (r .sets) (r .numbers) (r .top) ⌝ }
+    ensures made { λ r. ⌜ ((a t : ℕ) → step ≡ Move a t → (kindsIn (r .numbers) ≡ kindsIn (now (numbers .entry))) × (startsIn (r .numbers) ≡ startsIn (now (numbers .entry))) × Moves (now (script .entry)) (kindsIn (now (numbers .entry))) (startsIn (now (numbers .entry))) (stateIn (now (sets .entry)) (now (numbers .entry)) top) (stateIn (r .sets) (r .numbers) (r .top)) (λ i. getD (now (places .entry)) i 0) a t) ⌝ }
+    ensures placed { λ r. ⌜ ((i n : ℕ) → step ≡ Place i n → (boundIn (now (script .entry)) (stateIn (r .sets) (r .numbers) (r .top)) ≡ boundIn (now (script .entry)) (stateIn (now (sets .entry)) (now (numbers .entry)) top)) × ((weight spent : ℕ) (b : Closure) → Represents (now (script .entry)) (kindsIn (now (numbers .entry))) (startsIn (now (numbers .entry))) weight spent (stateIn (now (sets .entry)) (now (numbers .entry)) top) b → count i b ≡ 0 → weight < 64 → Represents (now (script .entry)) (kindsIn (r .numbers)) (startsIn (r .numbers)) (weight + 1) spent (stateIn (r .sets) (r .numbers) (r .top)) (part i (ambient (called n)) b close))) ⌝ }
+{
+    match step {
+        Step::Move(a, t) => after_move(script, sets, numbers, top, places, a, t),
+        Step::Place(i, name) => place_within(script, sets, numbers, top, i, name),
+    }
 }
 
 // A visit at the word at, with `left` depths left, this one counted.
@@ -685,7 +712,8 @@ fn moves_of<'a>(
     while rest != 0 {
         let t = sets::first(rest);
         let others = sets::rest(rest);
-        let s = after_move(script, sets, numbers, top, places, a, t);
+        let step = Step::Move(a, t);
+        let s = next_state(script, sets, numbers, top, places, step);
         let w = visit(
             program,
             script,
@@ -862,7 +890,9 @@ fn placed_in<'a>(
     if 65536 <= name {
         return Walked::Stopped(8, at, c.visits);
     }
-    let s = place_within(script, sets, numbers, top, i, name);
+    let nowhere: [usize; 64] = [65; 64];
+    let step = Step::Place(i, name);
+    let s = next_state(script, sets, numbers, top, &nowhere, step);
     visit(
         program,
         script,

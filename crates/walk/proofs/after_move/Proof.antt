@@ -1,14 +1,12 @@
 -- `after_move` meets its contract: the state is borrowed, moved and lent. Assumes nothing.
 use Prim.Native.Nat.{ℕ}
 use mathlib.Core.List.{List}
-use mathlib.Core.Path.{_≡_, refl, sym, ap, _∙_, subst}
-use native.Mathlib.Omega.{arith}
+use mathlib.Core.Path.{sym, _∙_, subst}
 use lib.ListN.{getD}
 use Rattle.closures.specs.Makes.{Moves}
 use Rattle.closures.specs.Represents.{Ready}
 use Rattle.closures.specs.Lent.{kindsIn, startsIn, stateIn}
 use Rattle.closures.specs.declared.State.{State}
-use Rattle.walk.specs.Visits.{Lendable}
 use Rattle.walk.proofs.Lendings.{carried}
 use borrow.Author.Needs.{needs}
 use Rattle.walk.proofs.after_move.Statement.{statement}

@@ -1,5 +1,5 @@
 -- `is_called` meets its contract: a part that has a name, and whose name is that one. Assumes nothing.
-use mathlib.Core.Path.{_≡_, refl, sym, ap, _∙_, subst}
+use mathlib.Core.Path.{sym, _∙_}
 use native.Mathlib.Omega.{arith}
 use Rattle.walk.proofs.Lendings.{called-named, called-none}
 use borrow.Author.Needs.{needs}

@@ -1,6 +1,6 @@
 -- `loaded` meets its contract, entry by entry. Assumes nothing.
-use Prim.Native.Nat.{ℕ, _-_, _≤_, _<_}
-use mathlib.Core.Path.{_≡_, refl, sym, ap, _∙_, subst}
+use Prim.Native.Nat.{_-_, _≤_}
+use mathlib.Core.Path.{refl}
 use native.Mathlib.Omega.{arith}
 use Rattle.walk.proofs.Lendings.{Loading, loading-more}
 use borrow.Author.Needs.{needs}

@@ -1,5 +1,5 @@
 -- `name_said` meets its contract: a name, or the one chosen. Assumes nothing.
-use mathlib.Core.Path.{_≡_, refl, sym, ap, _∙_, subst}
+use mathlib.Core.Path.{sym, _∙_}
 use native.Mathlib.Omega.{arith}
 use Rattle.walk.proofs.Lendings.{said-constant, said-chosen, said-none}
 use borrow.Author.Needs.{needs}

@@ -1,15 +1,11 @@
 -- `place_within` meets its contract: the state is borrowed, put inside a new ambient and lent. Assumes nothing.
-use Prim.Native.Nat.{ℕ, _+_, _<_}
+use Prim.Native.Nat.{ℕ, _+_}
 use mathlib.Core.List.{List}
-use mathlib.Core.Path.{_≡_, refl, sym, ap, _∙_, subst}
-use native.Mathlib.Omega.{arith}
+use mathlib.Core.Path.{ap, _∙_}
 use Rattle.messages.specs.Message.{name as called}
-use Rattle.scripts.specs.Tree.{ambient, close, part, count}
-use Rattle.closure_machine.specs.Closure.{Closure, Bindings}
+use Rattle.scripts.specs.Tree.{ambient, close, part}
 use Rattle.closures.specs.Represents.{boundIn, Ready, Represents}
-use Rattle.closures.specs.Lent.{kindsIn, startsIn, stateIn}
 use Rattle.closures.specs.declared.State.{State}
-use Rattle.walk.specs.Visits.{Lendable}
 use Rattle.walk.proofs.Lendings.{carried}
 use borrow.Author.Needs.{needs}
 use Rattle.walk.proofs.place_within.Statement.{statement}

@@ -1,8 +1,5 @@
 -- `replaced` meets its contract. Assumes nothing.
-use mathlib.Core.Path.{_≡_}
-use native.Mathlib.Omega.{arith}
-use lib.ListN.{length}
-use lib.Seq.{getD-set-same, getD-set-other}
+use lib.Seq.{getD-set-other}
 use borrow.Author.Needs.{needs}
 use Rattle.walk.proofs.replaced.Statement.{statement}
 use Rattle.walk.proofs.replaced.Tie as tie

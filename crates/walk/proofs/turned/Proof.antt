@@ -1,6 +1,5 @@
 -- `turned` meets its contract, case by case. Assumes nothing.
-use mathlib.Core.Path.{_≡_, refl, sym, ap, _∙_, subst}
-use native.Mathlib.Omega.{arith}
+use mathlib.Core.Path.{sym, ap}
 use Rattle.walk.specs.Visits.{walkedOf}
 use Rattle.decision.specs.Walk as spec
 use Rattle.walk.specs.declared.Walked.{Walked}

@@ -1,14 +1,10 @@
 -- `void_rule` meets its contract. Assumes nothing.
-use mathlib.Core.Path.{_≡_, refl, sym, ap, _∙_, subst}
-use native.Mathlib.Omega.{arith}
+use mathlib.Core.Path.{sym, ap}
 use Rattle.walk.specs.Visits.{walkedOf}
 use Rattle.decision.specs.Walk as spec
-use Rattle.walk.specs.declared.Walked.{Walked}
-use lib.Dec.{eqb}
 use mathlib.Core.Bool.{Bool}
 use borrow.Author.Tests.{eq-eqb, ne-eqb}
 use Rattle.walk.specs.Visits.{countOf}
-use borrow.Author.Needs.{needs}
 use Rattle.walk.proofs.void_rule.Statement.{statement}
 use Rattle.walk.proofs.void_rule.Tie as tie
 use Rattle.walk.proofs.void_rule.Reads as reads

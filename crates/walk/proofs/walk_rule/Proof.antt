@@ -1,7 +1,7 @@
 -- `walk_rule` meets its contract: the rule is loaded, the state lent, and the first word visited. Assumes nothing.
 use Prim.Native.Nat.{ℕ}
 use mathlib.Core.List.{List}
-use mathlib.Core.Path.{_≡_, refl, sym, ap, _∙_, subst}
+use mathlib.Core.Path.{refl}
 use native.Mathlib.Omega.{arith}
 use Rattle.closures.specs.Represents.{Ready}
 use Rattle.closures.specs.declared.State.{State}

@@ -32,12 +32,11 @@ use Rattle.sets.proofs.intersection.Reads as intersection-reads
 use Rattle.sets.proofs.is_single.Reads as is-single-reads
 use Rattle.sets.proofs.next_share.Reads as next-share-reads
 use Rattle.sets.proofs.rest.Reads as rest-reads
-use Rattle.walk.proofs.after_move.Reads as after-move-reads
 use Rattle.walk.proofs.all_targets.Reads as all-targets-reads
 use Rattle.walk.proofs.is_called.Reads as is-called-reads
 use Rattle.walk.proofs.name_said.Reads as name-said-reads
 use Rattle.walk.proofs.next_count.Reads as next-count-reads
-use Rattle.walk.proofs.place_within.Reads as place-within-reads
+use Rattle.walk.proofs.next_state.Reads as next-state-reads
 use Rattle.walk.proofs.turned.Reads as turned-reads
 use Rattle.walk.proofs.void_rule.Reads as void-rule-reads
 use Rattle.walk.proofs.with_name.Reads as with-name-reads
@@ -162,13 +161,13 @@ abbrev pub either-claims : ℕ → either-lts.Claims
 either-claims t = (visit-below t, visit.Post, wide-reads.Asked, wide-reads.Learnt)
 
 abbrev pub moves-of-claims : ℕ → moves-of-lts.Claims
-moves-of-claims t = (first-reads.Asked, first-reads.Learnt, rest-reads.Asked, rest-reads.Learnt, after-move-reads.Asked, after-move-reads.Learnt, visit-below t, visit.Post)
+moves-of-claims t = (first-reads.Asked, first-reads.Learnt, rest-reads.Asked, rest-reads.Learnt, next-state-reads.Asked, next-state-reads.Learnt, visit-below t, visit.Post)
 
 abbrev pub negation-claims : ℕ → negation-lts.Claims
 negation-claims t = (visit-below t, visit.Post, turned-reads.Asked, turned-reads.Learnt)
 
 abbrev pub placed-in-claims : ℕ → placed-in-lts.Claims
-placed-in-claims t = (wide-reads.Asked, wide-reads.Learnt, name-said-reads.Asked, name-said-reads.Learnt, place-within-reads.Asked, place-within-reads.Learnt, visit-below t, visit.Post)
+placed-in-claims t = (wide-reads.Asked, wide-reads.Learnt, name-said-reads.Asked, name-said-reads.Learnt, next-state-reads.Asked, next-state-reads.Learnt, visit-below t, visit.Post)
 
 abbrev pub some-name-claims : ℕ → some-name-lts.Claims
 some-name-claims t = (with-name-reads.Asked, with-name-reads.Learnt, visit-below t, visit.Post)

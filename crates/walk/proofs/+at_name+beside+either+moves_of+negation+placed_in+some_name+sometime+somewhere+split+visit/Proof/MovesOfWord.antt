@@ -1,12 +1,13 @@
 -- `moves_of` meets its contract. Assumes nothing.
-use Prim.Native.Nat.{ℕ, _+_, _-_, _*_, _^_, _≤_, _<_}
-use mathlib.Core.Path.{_≡_, refl, sym, ap, _∙_, subst}
+use Prim.Native.Nat.{ℕ, _-_, _^_, _<_}
+use mathlib.Core.Path.{refl}
 use native.Mathlib.Omega.{arith}
 use borrow.Author.Needs.{needs}
 use lib.ListN.{length}
 use Rattle.sets.specs.Sets.{members}
 use Rattle.sets.proofs.Members.{not-none}
 use Rattle.walk.proofs.Turns.{first-low, rest-shorter, Trying, trying-holds, trying-again, trying-stops, trying-ends}
+use Rattle.walk.proofs.Lendings.{step-moves, step-apart}
 use Rattle.walk.proofs.+at_name+beside+either+moves_of+negation+placed_in+some_name+sometime+somewhere+split+visit.Lts-moves_of as lts
 use Rattle.walk.proofs.moves_of.Reads as reads
 use Rattle.walk.proofs.+at_name+beside+either+moves_of+negation+placed_in+some_name+sometime+somewhere+split+visit.Proof.Measures.{moves-of-at, moves-of-claims}
@@ -27,23 +28,23 @@ module _ (t : ℕ) where
   pub rest-requires : lts.Need-rest-requires (moves-of-claims t) (moves-of-at t) reads.Post Inv-loop μ-loop
   rest-requires c κs = not-none _ (c .before .before .loop .inv .0) (c .before .loop-test .taken)
 
-  pub after-move-requires : lts.Need-after-move-requires (moves-of-claims t) (moves-of-at t) reads.Post Inv-loop μ-loop
-  after-move-requires c κs = (c .before .before .before .before .before .pre .1 .0, first-low _ _ _ (c .before .before .before .loop .inv .0) (c .before .before .loop-test .taken) (c .before .first .ensures) (c .rest .ensures), c .before .before .before .before .before .pre .1 .7)
+  pub next-state-requires : lts.Need-next-state-requires (moves-of-claims t) (moves-of-at t) reads.Post Inv-loop μ-loop
+  next-state-requires c κs = (λ b u e. step-moves (λ (y : ℕ) (z : ℕ). (y < 64) × (z < 64)) _ _ b u e (c .before .before .before .before .before .pre .1 .0, first-low _ _ _ (c .before .before .before .loop .inv .0) (c .before .before .loop-test .taken) (c .before .first .ensures) (c .rest .ensures)), λ i n e. absurd (step-apart _ _ i n e), c .before .before .before .before .before .pre .1 .7)
 
   pub visit-requires : lts.Need-visit-requires (moves-of-claims t) (moves-of-at t) reads.Post Inv-loop μ-loop
-  visit-requires c κs = (omega (arith, c .before .before .before .before .before .before .before .before .before .pre .0), (omega (arith, c .before .before .before .before .before .before .before .before .before .pre .1 .2), c .before .before .before .before .before .before .before .before .before .pre .1 .3, c .before .before .before .before .before .before .before .before .before .pre .1 .4, c .before .before .before .before .before .before .before .before .before .pre .1 .5, c .before .before .before .before .before .before .before .before .before .pre .1 .6, c .before .before .before .after-move .ensures .0))
+  visit-requires c κs = (omega (arith, c .before .before .before .before .before .before .before .before .before .pre .0), (omega (arith, c .before .before .before .before .before .before .before .before .before .pre .1 .2), c .before .before .before .before .before .before .before .before .before .pre .1 .3, c .before .before .before .before .before .before .before .before .before .pre .1 .4, c .before .before .before .before .before .before .before .before .before .pre .1 .5, c .before .before .before .before .before .before .before .before .before .pre .1 .6, c .before .before .before .next-state .ensures .0))
 
   pub enum-known-w : lts.Need-enum-known-w (moves-of-claims t) (moves-of-at t) reads.Post Inv-loop μ-loop
   enum-known-w c = search needs
 
   pub returns : lts.Need-returns (moves-of-claims t) (moves-of-at t) reads.Post Inv-loop μ-loop
-  returns c = let x = c .before .before .before .before .before .before .before .before .before .before .before .args in trying-stops (x .program .now) (x .script .now) (x .sets .now) (x .numbers .now) (x .chosen .now) (x .top) (x .somes) (x .left) (x .at) (x .limits) (x .places .now) (x .a) (x .aim) _ _ _ _ _ (c .before .before .before .before .before .before .before .before .before .loop .inv .1) (c .before .before .before .before .before .before .before .before .before .loop .inv .0) (c .before .before .before .before .before .before .before .before .loop-test .taken) (c .before .before .before .before .before .before .before .first .ensures) (c .before .before .before .before .before .before .rest .ensures) _ _ _ (c .before .before .before .before .before .after-move .ensures .0) (c .before .before .before .before .before .after-move .ensures .1 .0 .0) (c .before .before .before .before .before .after-move .ensures .1 .0 .1) (c .before .before .before .before .before .after-move .ensures .1 .1) _ (c .before .visit .ensures) (c .match .keys2)
+  returns c = let x = c .before .before .before .before .before .before .before .before .before .before .before .args in trying-stops (x .program .now) (x .script .now) (x .sets .now) (x .numbers .now) (x .chosen .now) (x .top) (x .somes) (x .left) (x .at) (x .limits) (x .places .now) (x .a) (x .aim) _ _ _ _ _ (c .before .before .before .before .before .before .before .before .before .loop .inv .1) (c .before .before .before .before .before .before .before .before .before .loop .inv .0) (c .before .before .before .before .before .before .before .before .loop-test .taken) (c .before .before .before .before .before .before .before .first .ensures) (c .before .before .before .before .before .before .rest .ensures) _ _ _ (c .before .before .before .before .before .next-state .ensures .0) (c .before .before .before .before .before .next-state .ensures .1 .0 _ _ refl .0) (c .before .before .before .before .before .next-state .ensures .1 .0 _ _ refl .1) (c .before .before .before .before .before .next-state .ensures .1 .0 _ _ refl .2) _ (c .before .visit .ensures) (c .match .keys2)
 
   pub loop-less : lts.Need-loop-less (moves-of-claims t) (moves-of-at t) reads.Post Inv-loop μ-loop
   loop-less c = rest-shorter _ _ _ (c .before .before .before .before .before .before .before .before .before .before .before .loop .inv .0) (c .before .before .before .before .before .before .before .before .before .before .loop-test .taken) (c .before .before .before .before .before .before .before .before .before .first .ensures) (c .before .before .before .before .before .before .before .before .rest .ensures)
 
   pub loop-again : lts.Need-loop-again (moves-of-claims t) (moves-of-at t) reads.Post Inv-loop μ-loop
-  loop-again c = let x = c .before .before .before .before .before .before .before .before .before .before .before .before .before .args in (c .before .before .before .before .before .before .before .before .rest .ok, trying-again (x .program .now) (x .script .now) (x .sets .now) (x .numbers .now) (x .chosen .now) (x .top) (x .somes) (x .left) (x .at) (x .limits) (x .places .now) (x .a) (x .aim) _ _ _ _ _ (c .before .before .before .before .before .before .before .before .before .before .before .loop .inv .1) (c .before .before .before .before .before .before .before .before .before .before .before .loop .inv .0) (c .before .before .before .before .before .before .before .before .before .before .loop-test .taken) (c .before .before .before .before .before .before .before .before .before .first .ensures) (c .before .before .before .before .before .before .before .before .rest .ensures) _ _ _ (c .before .before .before .before .before .before .before .after-move .ensures .0) (c .before .before .before .before .before .before .before .after-move .ensures .1 .0 .0) (c .before .before .before .before .before .before .before .after-move .ensures .1 .0 .1) (c .before .before .before .before .before .before .before .after-move .ensures .1 .1) _ (c .before .before .before .visit .ensures) _ (c .before .w .given .1))
+  loop-again c = let x = c .before .before .before .before .before .before .before .before .before .before .before .before .before .args in (c .before .before .before .before .before .before .before .before .rest .ok, trying-again (x .program .now) (x .script .now) (x .sets .now) (x .numbers .now) (x .chosen .now) (x .top) (x .somes) (x .left) (x .at) (x .limits) (x .places .now) (x .a) (x .aim) _ _ _ _ _ (c .before .before .before .before .before .before .before .before .before .before .before .loop .inv .1) (c .before .before .before .before .before .before .before .before .before .before .before .loop .inv .0) (c .before .before .before .before .before .before .before .before .before .before .loop-test .taken) (c .before .before .before .before .before .before .before .before .before .first .ensures) (c .before .before .before .before .before .before .before .before .rest .ensures) _ _ _ (c .before .before .before .before .before .before .before .next-state .ensures .0) (c .before .before .before .before .before .before .before .next-state .ensures .1 .0 _ _ refl .0) (c .before .before .before .before .before .before .before .next-state .ensures .1 .0 _ _ refl .1) (c .before .before .before .before .before .before .before .next-state .ensures .1 .0 _ _ refl .2) _ (c .before .before .before .visit .ensures) _ (c .before .w .given .1))
 
   pub returns-2 : lts.Need-returns-2 (moves-of-claims t) (moves-of-at t) reads.Post Inv-loop μ-loop
   returns-2 c = let x = c .before .before .before .args in trying-ends (x .program .now) (x .script .now) (x .sets .now) (x .numbers .now) (x .chosen .now) (x .top) (x .somes) (x .left) (x .at) (x .limits) (x .places .now) (x .a) (x .aim) _ _ _ (c .before .loop .inv .1) (c .loop-test .left)

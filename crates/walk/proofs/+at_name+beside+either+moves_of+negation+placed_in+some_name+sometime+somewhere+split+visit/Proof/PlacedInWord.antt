@@ -1,9 +1,10 @@
 -- `placed_in` meets its contract. Assumes nothing.
-use Prim.Native.Nat.{ℕ, _+_, _-_, _*_, _^_, _≤_, _<_}
-use mathlib.Core.Path.{_≡_, refl, sym, ap, _∙_, subst}
+use Prim.Native.Nat.{ℕ, _+_, _-_, _<_}
+use mathlib.Core.Path.{refl, sym, ap}
 use native.Mathlib.Omega.{arith}
 use borrow.Author.Needs.{needs}
 use Rattle.walk.proofs.Members.{placed-number, placed-far, placed-name, placed-goes}
+use Rattle.walk.proofs.Lendings.{step-places, step-apart}
 use Rattle.walk.proofs.+at_name+beside+either+moves_of+negation+placed_in+some_name+sometime+somewhere+split+visit.Lts-placed_in as lts
 use Rattle.walk.proofs.placed_in.Reads as reads
 use Rattle.walk.proofs.+at_name+beside+either+moves_of+negation+placed_in+some_name+sometime+somewhere+split+visit.Proof.Measures.{placed-in-at, placed-in-claims}
@@ -42,14 +43,14 @@ module _ (t : ℕ) where
   pub returns-3 : lts.Need-returns-3 (placed-in-claims t) (placed-in-at t) reads.Post
   returns-3 c = let x = c .before .before .before .before .before .before .before .before .before .args in placed-name (x .program .now) (x .script .now) (x .sets .now) (x .numbers .now) (x .chosen .now) (x .top) (x .somes) (x .left) (x .at) (x .limits) (x .c) (c .before .before .before .before .before .before .before .before .before .pre .1 .2) _ (c .before .before .name-said .ensures) (c .if3 .taken) _
 
-  pub place-within-requires : lts.Need-place-within-requires (placed-in-claims t) (placed-in-at t) reads.Post
-  place-within-requires c κs = (omega (arith, c .before .if2 .left), omega (arith, c .if3 .left), c .before .before .before .before .before .before .before .before .before .pre .1 .6)
+  pub next-state-requires : lts.Need-next-state-requires (placed-in-claims t) (placed-in-at t) reads.Post
+  next-state-requires c κs = (λ b u e. absurd (step-apart b u _ _ (sym e)), λ j n e. step-places (λ (y : ℕ) (z : ℕ). (y < 64) × (z < 65536)) _ _ j n e (omega (arith, c .before .before .if2 .left), omega (arith, c .before .if3 .left)), c .before .before .before .before .before .before .before .before .before .before .pre .1 .6)
 
   pub add-visit : lts.Need-add-visit (placed-in-claims t) (placed-in-at t) reads.Post
   add-visit c = search needs
 
   pub visit-requires : lts.Need-visit-requires (placed-in-claims t) (placed-in-at t) reads.Post
-  visit-requires c κs = (omega (arith, c .before .before .before .before .before .before .before .before .before .before .before .before .before .pre .0), (omega (arith, c .before .before .before .before .before .before .before .before .before .before .before .before .before .pre .1 .1), c .before .before .before .before .before .before .before .before .before .before .before .before .before .pre .1 .2, c .before .before .before .before .before .before .before .before .before .before .before .before .before .pre .1 .3, c .before .before .before .before .before .before .before .before .before .before .before .before .before .pre .1 .4, c .before .before .before .before .before .before .before .before .before .before .before .before .before .pre .1 .5, c .before .before .before .place-within .ensures .0))
+  visit-requires c κs = (omega (arith, c .before .before .before .before .before .before .before .before .before .before .before .before .before .before .pre .0), (omega (arith, c .before .before .before .before .before .before .before .before .before .before .before .before .before .before .pre .1 .1), c .before .before .before .before .before .before .before .before .before .before .before .before .before .before .pre .1 .2, c .before .before .before .before .before .before .before .before .before .before .before .before .before .before .pre .1 .3, c .before .before .before .before .before .before .before .before .before .before .before .before .before .before .pre .1 .4, c .before .before .before .before .before .before .before .before .before .before .before .before .before .before .pre .1 .5, c .before .before .before .next-state .ensures .0))
 
   pub returns-4 : lts.Need-returns-4 (placed-in-claims t) (placed-in-at t) reads.Post
-  returns-4 c = let x = c .before .before .before .before .before .before .before .before .before .before .before .before .before .before .args in placed-goes (x .program .now) (x .script .now) (x .sets .now) (x .numbers .now) (x .chosen .now) (x .top) (x .somes) (x .left) (x .at) (x .limits) (x .c) (c .before .before .before .before .before .before .before .before .before .before .before .before .before .before .pre .1 .2) _ (c .before .before .before .before .before .before .before .name-said .ensures) _ (ap (λ (y : ℕ). x .limits .parts + y) (c .before .before .before .before .before .before .before .before .before .before .before .wide .ensures)) _ _ _ (c .before .before .before .before .place-within .ensures .0) (c .before .before .before .before .place-within .ensures .1 .0) (c .before .before .before .before .place-within .ensures .1 .1) _ (c .visit .ensures)
+  returns-4 c = let x = c .before .before .before .before .before .before .before .before .before .before .before .before .before .before .before .args in placed-goes (x .program .now) (x .script .now) (x .sets .now) (x .numbers .now) (x .chosen .now) (x .top) (x .somes) (x .left) (x .at) (x .limits) (x .c) (c .before .before .before .before .before .before .before .before .before .before .before .before .before .before .before .pre .1 .2) _ (c .before .before .before .before .before .before .before .before .name-said .ensures) _ (ap (λ (y : ℕ). x .limits .parts + y) (c .before .before .before .before .before .before .before .before .before .before .before .before .wide .ensures)) _ _ _ (c .before .before .before .before .next-state .ensures .0) (c .before .before .before .before .next-state .ensures .1 .1 _ _ refl .0) (c .before .before .before .before .next-state .ensures .1 .1 _ _ refl .1) _ (c .visit .ensures)
