@@ -71,11 +71,6 @@ module _ (σ : Bindings) (k k₁ : ℕ → List ℕ) (w : ℕ → ClosureHead) (
         λ j c. same j,
       )
 
-  pub settle-none : left ≡ [] → R ≡ [] → ((j : ℕ) → k j ≡ k₁ j) → Settles σ k k₁ w left R fuel
-  unfolding settleBy tops
-  settle-none z y same close e h once m = (y, tt, λ j c. same j)
-  settle-none z y same (part i g s r) e h once m = absurd (no-cons i (tops r) (sym e ∙ z))
-
   pub settle-no-fuel : (x : ℕ) (l : List ℕ) → left ≡ x ∷ l → fuel ≡ 0 → Settles σ k k₁ w left R fuel
   unfolding tops sum
   settle-no-fuel x l z d close e h once m = absurd (no-cons x l (sym z ∙ e))

@@ -38,7 +38,7 @@ targets-requires : tie.Need-targets-requires
 targets-requires c κs = c .before .before .before .before .before .before .before .before .before .before .before .pre .0
 
 has-requires : tie.Need-has-requires
-has-requires c κs = c .before .before .before .before .before .before .before .before .before .before .before .before .pre .1
+has-requires c κs = omega (arith, c .before .before .before .before .before .before .before .before .before .before .before .before .pre .0, c .before .before .before .before .before .before .before .before .before .before .before .before .pre .1)
 
 make-move-requires : tie.Need-make-move-requires
 make-move-requires c κs = (c .before .before .before .before .before .before .before .before .before .before .before .before .before .before .before .pre .0, c .before .before .before .before .before .before .before .before .before .before .before .before .before .before .before .pre .1, c .before .before .before .before .before .before .before .before .before .before .before .before .before .before .before .pre .2)
