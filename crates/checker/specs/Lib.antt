@@ -3,5 +3,6 @@ pub mod Call
 pub mod Standing
 pub mod ClosureCall
 pub mod Running
+pub mod Calling
 pub mod Answering
 pub mod Examples

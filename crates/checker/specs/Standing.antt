@@ -1,6 +1,7 @@
 -- What a call's yes or no is about (demand 2), and what its moves keep to (demand 3's weight and bound). Not the walk: the
 -- script and the rule as read, and the tree that stands after the moves. Assumes nothing: these are definitions.
 use Prim.Native.Nat.{ℕ, _≤_}
+use mathlib.Core.Bool.{true, false}
 use mathlib.Core.List.{List, []}
 use mathlib.Core.Path.{_≡_}
 use lib.ListN.{length, take}
@@ -13,7 +14,7 @@ use Rattle.rules.specs.Rule.{Rule}
 use Rattle.rules.specs.ReadRule.{readWholeRule}
 use Rattle.calculus.specs.Satisfaction.{Sat}
 use Rattle.calculus.specs.Calculus.{Satisfies, process}
-use Rattle.checker.specs.Call.{Call, Ran, moved, run, begun, answer}
+use Rattle.checker.specs.Call.{Call, Verdict, accepted, refused, Ran, moved, run, begun, answer}
 
 -- what stands when the walk begins
 pub record Standing (c : Call) : Type 0 where
@@ -31,6 +32,12 @@ Meets c s = Sat (s .script .1 .number) [] (s .rule .0) (s .machine .tree)
 -- the process of the tree that stands satisfies the rule, by the paper's own relation
 abbrev pub Holds : (c : Call) → Standing c → Type 0
 Holds c s = Satisfies [] (process (s .machine .tree)) (s .rule .0)
+
+-- demand 2: yes only where the process that stands satisfies the rule, no only where it does not
+abbrev pub Decides : (c : Call) → Verdict → Type 0
+Decides c (accepted true) = (s : Standing c) × Holds c s
+Decides c (accepted false) = (s : Standing c) × ¬ Holds c s
+Decides c (refused q i) = Unit {0}
 
 -- the machine after the first k moves of the list
 abbrev pub After : (c : Call) → Script × Cursor → ℕ → Machine → Type 0

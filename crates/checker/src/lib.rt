@@ -1,26 +1,42 @@
 // The call. It rests on the promises of all layers below.
 use bindings::tail;
 use closures::State;
+use closures::first_state;
 use closures::try_move;
 use closures::weigh;
+use messages::Outcome;
+use rules::RuleTable;
+use rules::greatest_rule_name;
+use rules::read_whole_rule;
+use scripts::Table;
+use scripts::greatest_name;
+use scripts::read_script;
+use walk::Limits;
 use walk::Walked;
+use walk::walk_rule;
 use writer::Fitting;
 use writer::write_tree;
 ghost use mathlib.Core.Path.{_≡_};
 ghost use mathlib.Core.Bool.{Bool, cond};
 ghost use mathlib.Core.List.{List, []};
-ghost use Prim.Native.Nat.{ℕ, _≤_, _<_};
+ghost use Prim.Native.Nat.{ℕ, _+_, _≤_, _<_, max};
 ghost use lib.ListN.{length, getD};
+ghost use Rattle.messages.specs.Reading.{Cursor, got};
+ghost use Rattle.scripts.specs.Script.{Script, readScript};
+ghost use Rattle.scripts.specs.Measures.{greatestName, movesBound};
+ghost use Rattle.rules.specs.Rule.{greatestRuleName};
 ghost use Rattle.closure_machine.specs.Closure.{Closure, unfolded, unfoldMachine};
 ghost use Rattle.closures.specs.Represents.{boundIn, Ready, Represents};
 ghost use Rattle.walk.specs.Visits.{walkedOf};
 ghost use Rattle.writer.specs.Bodies.{Scripted};
 ghost use Rattle.writer.specs.Buffer.{answered, buffered};
 ghost use Rattle.writer.specs.Write.{write};
-ghost use Rattle.checker.specs.Call.{actor, target, moveFits, accepted, refusal, walked};
+ghost use Rattle.checker.specs.Call.{actor, target, moveFits, accepted, refusal, walked, answer};
 ghost use Rattle.checker.specs.Call.{finish as finished};
 ghost use Rattle.checker.specs.Answering.{verdictOf, answerOf, callOf};
 ghost use Rattle.checker.specs.Running.{Runs};
+ghost use Rattle.checker.specs.Standing.{Decides, WeightHolds};
+ghost use Rattle.checker.specs.Calling.{ScriptHeld, RuleHeld, Stands};
 
 // Yes or no, or the question that refuses the call, and its place.
 pub enum Verdict {
@@ -250,4 +266,126 @@ fn after_walk<'a, 'b>(
         ),
         Walked::Stopped(question, place, visits) => refused(question, place, moves, visits),
     }
+}
+
+// "G the greatest name in script and rule (0 if none)"
+fn greatest<'a>(script: &'a [u32], rule: &'a [u32]) -> u32
+    ensures { λ r. ⌜ (r ≡ max (greatestName (now (script .entry))) (greatestRuleName (now (rule .entry)))) × (r < 268435456) ⌝ }
+{
+    let in_script = greatest_name(script);
+    let in_rule = greatest_rule_name(rule);
+    if in_script < in_rule {
+        return in_rule;
+    }
+    in_script
+}
+
+// The walk on the tree that stands after the moves, and what follows it.
+fn with_moves<'a, 'b>(
+    script: &'a [u32],
+    parts: Table,
+    state: State,
+    moves: usize,
+    rule: &'a [u32],
+    table: RuleTable,
+    patience: u32,
+    out: &'b mut [u32],
+) -> Answer
+    requires { ⌜ Ready (now script) (parts .kinds) (parts .starts) state × Scripted (parts .starts) (state .offsets) × (parts .count + table .count ≤ 64) ⌝ }
+    ensures { λ r. ⌜ ((list : List ℕ) → moves ≡ length list → Stands (now (script .entry)) list (now (rule .entry)) patience parts table state → answerOf r (now (out .exit)) ≡ answer (callOf (now (script .entry)) list (now (rule .entry)) patience (now (out .entry)))) ⌝ }
+{
+    let kinds = parts.kinds;
+    let starts = parts.starts;
+    let limits = Limits {
+        patience,
+        greatest: greatest(script, rule),
+        parts: parts.count,
+        limit: parts.count + table.count,
+    };
+    let w = walk_rule(rule, table, script, kinds, starts, state, limits);
+    after_walk(script, &kinds, &starts, state, moves, w, out)
+}
+
+// Questions 13 to 16 and the moves, of a call whose script and rule are read.
+fn with_rule<'a, 'b>(
+    script: &'a [u32],
+    parts: Table,
+    moves: &'a [u32],
+    rule: &'a [u32],
+    table: RuleTable,
+    patience: u32,
+    out: &'b mut [u32],
+) -> Answer
+    requires { ⌜ ScriptHeld (now script) parts × RuleHeld (parts .count) (now rule) table ⌝ }
+    ensures { λ r. ⌜ answerOf r (now (out .exit)) ≡ answer (callOf (now (script .entry)) (now (moves .entry)) (now (rule .entry)) patience (now (out .entry))) ⌝ }
+{
+    if patience == 0 {
+        return refused(13, 0, 0, 0);
+    }
+    if 16777216 < patience {
+        return refused(13, 0, 0, 0);
+    }
+    if 4096 < moves.len() {
+        return refused(14, 0, 0, 0);
+    }
+    let kinds = parts.kinds;
+    let starts = parts.starts;
+    let kids = parts.kids;
+    let begun = first_state(script, &kinds, &starts, kids);
+    let run = run_list(script, &kinds, &starts, begun, moves, parts.count);
+    let ended = run.ended;
+    let Ended::Halted { question, place } = ended else {
+        return with_moves(
+            script,
+            parts,
+            run.state,
+            moves.len(),
+            rule,
+            table,
+            patience,
+            out,
+        );
+    };
+    refused(question, place, place, 0)
+}
+
+// Questions 7 to 19, of a call whose script is read.
+fn with_script<'a, 'b>(
+    script: &'a [u32],
+    parts: Table,
+    moves: &'a [u32],
+    rule: &'a [u32],
+    patience: u32,
+    out: &'b mut [u32],
+) -> Answer
+    requires { ⌜ ScriptHeld (now script) parts ⌝ }
+    ensures { λ r. ⌜ answerOf r (now (out .exit)) ≡ answer (callOf (now (script .entry)) (now (moves .entry)) (now (rule .entry)) patience (now (out .entry))) ⌝ }
+{
+    let scan = read_whole_rule(rule, parts.count);
+    let outcome = scan.outcome;
+    let Outcome::Refused { question, place } = outcome else {
+        return with_rule(script, parts, moves, rule, scan.table, patience, out);
+    };
+    refused(question, place, 0, 0)
+}
+
+// The whole call: the questions at the door in their order, the moves, the walk, and the tree that then stands.
+pub fn call<'a, 'b>(
+    script: &'a [u32],
+    moves: &'a [u32],
+    rule: &'a [u32],
+    patience: u32,
+    out: &'b mut [u32],
+) -> Answer
+    ensures answered { λ r. ⌜ answerOf r (now (out .exit)) ≡ answer (callOf (now (script .entry)) (now (moves .entry)) (now (rule .entry)) patience (now (out .entry))) ⌝ }
+    ensures decided { λ r. ⌜ Decides (callOf (now (script .entry)) (now (moves .entry)) (now (rule .entry)) patience (now (out .entry))) (verdictOf (r .verdict)) ⌝ }
+    ensures bounded { λ r. ⌜ ((p : Script × Cursor) → readScript (now (script .entry)) ≡ got p → r .moves ≤ movesBound (p .0)) ⌝ }
+    ensures weighed { λ r. ⌜ WeightHolds (callOf (now (script .entry)) (now (moves .entry)) (now (rule .entry)) patience (now (out .entry))) ⌝ }
+{
+    let scan = read_script(script);
+    let outcome = scan.outcome;
+    let Outcome::Refused { question, place } = outcome else {
+        return with_script(script, scan.table, moves, rule, patience, out);
+    };
+    refused(question, place, 0, 0)
 }
