@@ -7,7 +7,7 @@ use mathlib.Core.Path.{_≡_, refl, sym, ap, _∙_, subst}
 use native.Mathlib.Omega.{arith}
 use lib.Dec.{leb, ltb, eqb}
 use lib.ListN.{length}
-use borrow.Author.Tests.{leb-true}
+use borrow.Author.Tests.{leb-true, le-leb}
 use Rattle.messages.specs.Words.{kind, operand}
 use Rattle.messages.specs.Reading.{Cursor, Reading, refuse, got, outcome}
 use Rattle.messages.specs.declared.Outcome.the-variants.{Read, Refused}
@@ -57,6 +57,17 @@ pub rule-names : (ws : List ℕ) → greatestRuleName ws < 268435456
 unfolding greatestRuleName
 rule-names [] = omega arith
 rule-names (w ∷ ws) = omega (arith, rule-name w, rule-names ws)
+
+-- ---- question 13
+
+pub calm : (p : ℕ) → 1 ≤ p → p ≤ 16777216 → (leb 1 p && leb p 16777216) ≡ true
+calm p l h = rw (le-leb 1 p l, le-leb p 16777216 h)
+
+pub restless : (p : ℕ) → (1 ≤ p → p ≤ 16777216 → ⊥) → (leb 1 p && leb p 16777216) ≡ false
+restless p f =
+    byTest (leb 1 p)
+    (λ l. byTest (leb p 16777216) (λ h. absurd (f (leb-true 1 p l) (leb-true p 16777216 h))) (λ h. rw (l, h)))
+    (λ l. rw l)
 
 -- ---- what a reader's outcome says
 
@@ -145,7 +156,7 @@ module _ (script moves words : List ℕ) (patience : ℕ) (buffer : List ℕ) (t
       says-many e = answers-many c (H .read) (H .reads) (R .read) reads calm e
 
       module _ (few : leb (length moves) 4096 ≡ true)
-        (s : State) (first : Represents script (t .kinds) (t .starts) (parts (H .read .0)) 0 s (settleUnder [] (closureOf (H .read .0)))) (none : boundIn script s ≡ []) (r : State) where
+          (s : State) (first : Represents script (t .kinds) (t .starts) (parts (H .read .0)) 0 s (settleUnder [] (closureOf (H .read .0)))) (none : boundIn script s ≡ []) (r : State) where
         -- the list as the engine begins it is the closure machine's
         run-is : closureRun (t .count) 0 moves (record { tree = settleUnder [] (closureOf (H .read .0)); bindings = boundIn script s }) ≡ closureRun (t .count) 0 moves (begun (H .read .0))
         run-is = ap (λ (σ : Bindings). closureRun (t .count) 0 moves (record { tree = settleUnder [] (closureOf (H .read .0)); bindings = σ })) none

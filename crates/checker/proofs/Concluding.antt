@@ -8,9 +8,10 @@ use native.Mathlib.Omega.{arith}
 use lib.Dec.{eqb}
 use lib.ListN.{length}
 use borrow.Author.Tests.{leb-true}
-use Rattle.messages.specs.Reading.{got}
-use Rattle.scripts.specs.Tree.{one, count, parts}
-use Rattle.scripts.specs.Measures.{greatestName}
+use Rattle.messages.specs.Reading.{Cursor, got}
+use Rattle.scripts.specs.Tree.{one, count}
+use Rattle.scripts.specs.Script.{Script, readScript}
+use Rattle.scripts.specs.Measures.{greatestName, movesBound}
 use Rattle.scripts.specs.declared.Table.{Table}
 use Rattle.machine.proofs.Sums.{map-sum}
 use Rattle.rules.specs.Rule.{greatestRuleName}
@@ -26,11 +27,14 @@ use Rattle.walk.specs.Visits.{walkedOf, Walks}
 use Rattle.walk.specs.declared.Walked.{Walked}
 use Rattle.walk.proofs.Order.{rule-ordered}
 use Rattle.checker.specs.Call.{Call, Verdict, accepted, refused, walked, setting, answer}
+use Rattle.checker.specs.Call as plain
 use Rattle.checker.specs.ClosureCall.{moved, closureRun, unfoldRan, begun}
-use Rattle.checker.specs.Answering.{callOf}
+use Rattle.checker.specs.Answering.{verdictOf, answerOf, callOf}
+use Rattle.checker.specs.declared.Answer.{Answer}
 use Rattle.checker.specs.Calling.{Stands}
-use Rattle.checker.specs.Standing.{Standing, Decides}
-use Rattle.checker.proofs.ClosureRuns.{started-unfolded}
+use Rattle.checker.specs.Standing.{Standing, Decides, WeightHolds}
+use Rattle.checker.proofs.ClosureRuns.{started-unfolded, moves-bounded}
+use Rattle.checker.proofs.Runs.{weight-holds}
 use Rattle.checker.proofs.Called.{answers-walked}
 use Rattle.checker.proofs.Verdicts.{answer-stands, standing-good, verdict-yes, verdict-no}
 use Rattle.checker.proofs.Calling.{number-is}
@@ -95,3 +99,13 @@ pub decides : (c : Call) (v : Verdict) → answer c .verdict ≡ v → Decides c
 decides c (accepted true) e = let s = answer-stands c true e in (s, verdict-yes c s e)
 decides c (accepted false) e = let s = answer-stands c false e in (s, verdict-no c s e)
 decides c (refused q i) e = tt
+
+-- THEOREM: an answer that is the plain machine's, with the buffer, is decided by the paper's own relation and keeps the bound
+-- and the weight.
+pub call-kept : (c : Call) (r : Answer) (b : List ℕ) → answerOf r b ≡ answer c
+    → (answerOf r b ≡ answer c) × (Decides c (verdictOf (r .verdict)) × (((p : Script × Cursor) → readScript (c .script) ≡ got p → r .moves ≤ movesBound (p .0)) × WeightHolds c))
+unfolding answerOf
+call-kept c r b e =
+    let d : Decides c (verdictOf (r .verdict)) = decides c (verdictOf (r .verdict)) (sym (ap (λ (a : plain.Answer). a .verdict) e)) in
+    let m : (p : Script × Cursor) → readScript (c .script) ≡ got p → r .moves ≤ movesBound (p .0) = λ p x. subst (λ (k : ℕ). k ≤ movesBound (p .0)) (sym (ap (λ (a : plain.Answer). a .moves) e)) (moves-bounded c p x) in
+    (e, (d, (m, weight-holds c)))

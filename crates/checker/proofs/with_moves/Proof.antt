@@ -1,37 +1,21 @@
+-- `with_moves` meets its contract: the walk on the tree that stands. Assumes nothing.
+use mathlib.Core.Path.{_∙_}
+use native.Mathlib.Omega.{arith}
+use lib.ListN.{length}
+use Rattle.checker.proofs.Concluding.{walk-answers}
 use borrow.Author.Needs.{needs}
 use Rattle.checker.proofs.with_moves.Statement.{statement}
 use Rattle.checker.proofs.with_moves.Tie as tie
-use Rattle.checker.proofs.with_moves.Reads as reads
-use Rattle.checker.proofs.with_moves.Lts as lts
-use Rattle.checker.proofs.after_walk.Reads as after-walk-reads
-use Rattle.checker.proofs.greatest.Reads as greatest-reads
-use Rattle.walk.proofs.walk_rule.Reads as walk-rule-reads
 
--- src/lib.rt:301:19
-greatest-requires : tie.Need-greatest-requires
-greatest-requires c κs = search needs
-
--- src/lib.rt:303:16
-add-t14 : tie.Need-add-t14
-add-t14 c = search needs
-
--- src/lib.rt:305:9
 walk-rule-requires : tie.Need-walk-rule-requires
-walk-rule-requires c κs = ?
+walk-rule-requires c κs = (c .before .before .before .before .before .before .before .before .pre .2, omega (arith, c .before .before .before .before .before .before .before .before .pre .2), c .before .before .greatest .ensures .1, c .before .before .before .before .before .before .before .before .pre .0)
 
--- src/lib.rt:306:5
-after-walk-requires : tie.Need-after-walk-requires
-after-walk-requires c κs = search needs
-
--- src/lib.rt:284:1
-same-length : tie.Need-same-length
-same-length c = search needs
-
--- src/lib.rt:284:1
 returns : tie.Need-returns
-returns c = ?
+returns c list em S =
+    c .before .before .after-walk .ensures list (c .before .before .before .before .before .before .before .before .before .before .before .before .before .before .before .args .rule .now) (c .before .before .before .before .before .before .before .before .before .before .before .before .before .before .before .args .patience) (c .before .before .before .before .before .before .before .before .before .before .before .before .before .before .before .args .parts .count) (length list) (S .machine .tree) em (S .stands)
+    ∙ walk-answers (c .before .before .before .before .before .before .before .before .before .before .before .before .before .before .before .args .script .now) list (c .before .before .before .before .before .before .before .before .before .before .before .before .before .before .before .args .rule .now) (c .before .before .before .before .before .before .before .before .before .before .before .before .before .before .before .args .patience) (c .before .before .before .before .before .before .before .before .before .before .before .before .before .before .before .args .out .now) (c .before .before .before .before .before .before .before .before .before .before .before .before .before .before .before .args .parts) (c .before .before .before .before .before .before .before .before .before .before .before .before .before .before .before .args .table) (c .before .before .before .before .before .before .before .before .before .before .before .before .before .before .before .args .state) S (c .before .before .before .before .before .before .before .before .before .greatest .result) (c .before .before .before .before .before .before .before .before .before .greatest .ensures .0) (c .before .before .before .before .before .before .walk-rule .result) (c .before .before .before .before .before .before .walk-rule .ensures)
 
 pub with-moves-spec : {M : Type 1} → statement M
 with-moves-spec =
     tie.close
-    (tie.spec greatest-requires add-t14 walk-rule-requires after-walk-requires same-length returns)
+    (tie.spec (λ c κs. search needs) (λ c. search needs) walk-rule-requires (λ c κs. search needs) (λ c. search needs) returns)

@@ -1,53 +1,26 @@
+-- `with_script` meets its contract: questions 7 to 12. Assumes nothing.
+use mathlib.Core.Path.{sym, _∙_}
+use Rattle.checker.proofs.Calling.{rule-refused, rule-held, says-rule}
 use borrow.Author.Needs.{needs}
 use Rattle.checker.proofs.with_script.Statement.{statement}
 use Rattle.checker.proofs.with_script.Tie as tie
-use Rattle.checker.proofs.with_script.Reads as reads
-use Rattle.checker.proofs.with_script.Lts as lts
-use Rattle.checker.proofs.refused.Reads as refused-reads
-use Rattle.checker.proofs.with_rule.Reads as with-rule-reads
-use Rattle.rules.proofs.read_whole_rule.Reads as read-whole-rule-reads
 
--- src/lib.rt:364:9
-read-whole-rule-requires : tie.Need-read-whole-rule-requires
-read-whole-rule-requires c κs = search needs
-
--- src/lib.rt:366:28
-enum-known-outcome : tie.Need-enum-known-outcome
-enum-known-outcome c = search needs
-
--- src/lib.rt:367:76
-enum-told : tie.Need-enum-told
-enum-told c = search needs
-
--- src/lib.rt:367:9
 with-rule-requires : tie.Need-with-rule-requires
-with-rule-requires c κs = ?
+with-rule-requires c κs = (c .before .before .before .before .before .before .before .before .pre, rule-held (c .before .before .before .before .before .before .before .before .args .parts .count) (c .before .before .before .before .before .before .before .before .args .rule .now) (c .before .before .before .read-whole-rule .result) (c .before .before .before .read-whole-rule .ensures .0) (c .before .enum-told .given .0 .0) (c .before .enum-told .given .1) (c .before .before .before .read-whole-rule .ensures .1))
 
--- src/lib.rt:367:9
-same-length : tie.Need-same-length
-same-length c = search needs
-
--- src/lib.rt:367:9
-returns : tie.Need-returns
-returns c = search needs
-
--- src/lib.rt:369:5
-refused-requires : tie.Need-refused-requires
-refused-requires c κs = search needs
-
--- src/lib.rt:353:1
 returns-2 : tie.Need-returns-2
-returns-2 c = ?
+returns-2 c = c .refused .ensures (c .before .before .before .before .before .before .before .before .before .args .out .now)
+    ∙ sym (says-rule (c .before .before .before .before .before .before .before .before .before .args .script .now) (c .before .before .before .before .before .before .before .before .before .args .moves .now) (c .before .before .before .before .before .before .before .before .before .args .rule .now) (c .before .before .before .before .before .before .before .before .before .args .patience) (c .before .before .before .before .before .before .before .before .before .args .out .now) (c .before .before .before .before .before .before .before .before .before .args .parts) (c .before .before .before .before .before .before .before .before .before .pre) (c .before .before .outcome .given .0 .0) (c .before .before .outcome .given .0 .1 .0) (rule-refused (c .before .before .before .before .before .before .before .before .before .args .parts .count) (c .before .before .before .before .before .before .before .before .before .args .rule .now) (c .before .before .before .before .read-whole-rule .result) (c .before .before .before .before .read-whole-rule .ensures .0) (c .before .before .outcome .given .0 .0) (c .before .before .outcome .given .0 .1 .0) (c .before .before .outcome .given .1)))
 
 pub with-script-spec : {M : Type 1} → statement M
 with-script-spec =
     tie.close
     (tie.spec
-    read-whole-rule-requires
-    enum-known-outcome
-    enum-told
+    (λ c κs. search needs)
+    (λ c. search needs)
+    (λ c. search needs)
     with-rule-requires
-    same-length
-    returns
-    refused-requires
+    (λ c. search needs)
+    (λ c. search needs)
+    (λ c κs. search needs)
     returns-2)
