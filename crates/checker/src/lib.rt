@@ -31,11 +31,11 @@ ghost use Rattle.walk.specs.Visits.{walkedOf};
 ghost use Rattle.writer.specs.Bodies.{Scripted};
 ghost use Rattle.writer.specs.Buffer.{answered, buffered};
 ghost use Rattle.writer.specs.Write.{write};
-ghost use Rattle.checker.specs.Call.{actor, target, moveFits, accepted, refusal, walked, answer};
-ghost use Rattle.checker.specs.Call.{finish as finished};
+ghost use Rattle.plain_call.specs.Call.{actor, target, moveFits, accepted, refusal, walked, answer};
+ghost use Rattle.plain_call.specs.Call.{finish as finished};
 ghost use Rattle.checker.specs.Answering.{verdictOf, answerOf, callOf};
 ghost use Rattle.checker.specs.Running.{Runs};
-ghost use Rattle.checker.specs.Standing.{Decides, WeightHolds};
+ghost use Rattle.plain_call.specs.Standing.{Decides, WeightHolds};
 ghost use Rattle.checker.specs.Calling.{ScriptHeld, RuleHeld, Stands};
 
 // Yes or no, or the question that refuses the call, and its place.

@@ -14,12 +14,12 @@ use Rattle.calculus.proofs.Agreement.{agree}
 use Rattle.decision.specs.Walk.{says}
 use Rattle.decision.proofs.Fits.{Fits, fits-more, rule-more, move-fits}
 use Rattle.decision.proofs.Deciding.{Known, walk-yes, walk-no}
-use Rattle.checker.specs.Call.{Call, accepted, answer, setting, begun}
-use Rattle.checker.specs.Standing.{Standing, Meets, Holds}
-use Rattle.checker.proofs.Runs.{run-keeps}
-use Rattle.checker.proofs.Door.{script-fits, rule-fits}
-use Rattle.checker.proofs.Begun.{script-good, rule-places}
-use Rattle.checker.proofs.Answers.{Says, answer-inv, same}
+use Rattle.plain_call.specs.Call.{Call, accepted, answer, setting, begun}
+use Rattle.plain_call.specs.Standing.{Standing, Meets, Holds}
+use Rattle.plain_call.proofs.Runs.{run-keeps}
+use Rattle.plain_call.proofs.Door.{script-fits, rule-fits}
+use Rattle.plain_call.proofs.Begun.{script-good, rule-places}
+use Rattle.plain_call.proofs.Answers.{Says, answer-inv, same}
 
 -- The premises of the walk's theorem hold of every call.
 known : (c : Call) (s : Standing c) → Known (s .script .1 .number + s .rule .1 .number) (setting c (s .script .1 .number)) [] (s .rule .0) (s .machine .tree)

@@ -12,8 +12,8 @@ use Rattle.machine.specs.Moves.{Moved}
 use Rattle.machine.specs.PlainMachine.{move, Machine, weightOf}
 use Rattle.machine.proofs.Options.{byTest}
 use Rattle.machine.proofs.Sums.{map-sum, settle-sum, weight}
-use Rattle.checker.specs.Call.{Call, halted, moved, actor, target, moveFits, afterMove, ifMade, run, begun}
-use Rattle.checker.specs.Standing.{WeightHolds}
+use Rattle.plain_call.specs.Call.{Call, halted, moved, actor, target, moveFits, afterMove, ifMade, run, begun}
+use Rattle.plain_call.specs.Standing.{WeightHolds}
 
 pub halted≢moved : {B : Type 0} {q i : ℕ} {m : Machine} → halted q i ≡ moved m → B
 halted≢moved e = let z : _≡_ {A = ℕ} 0 1 = cc in absurd (let w : ⊥ = omega arith in w)

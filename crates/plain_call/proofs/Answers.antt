@@ -15,9 +15,9 @@ use Rattle.rules.specs.Rule.{Rule}
 use Rattle.rules.specs.ReadRule.{readWholeRule}
 use Rattle.decision.specs.Walk.{Count, Walked, stopped, says, walkFrom}
 use Rattle.decision.specs.PlainWalk.{plainSpace}
-use Rattle.checker.specs.Call.{Call, accepted, refused, refusal, Ran, halted, moved, run, begun, written, finish, walked, setting, ruleRun, ruleRead, scriptRead, answer}
-use Rattle.checker.specs.Standing.{Standing}
-use Rattle.checker.proofs.Runs.{moved-is}
+use Rattle.plain_call.specs.Call.{Call, accepted, refused, refusal, Ran, halted, moved, run, begun, written, finish, walked, setting, ruleRun, ruleRead, scriptRead, answer}
+use Rattle.plain_call.specs.Standing.{Standing}
+use Rattle.plain_call.proofs.Runs.{moved-is}
 
 refused≢accepted : {B : Type 0} {q i : ℕ} {a : Bool} → refused q i ≡ accepted a → B
 refused≢accepted e = let z : _≡_ {A = ℕ} 0 1 = cc in absurd (let w : ⊥ = omega arith in w)

@@ -7,8 +7,8 @@ use mathlib.Core.Option.{Option, none, some}
 use Rattle.scripts.specs.Script.{Script}
 use Rattle.machine.specs.Moves.{Moved}
 use Rattle.closure_machine.specs.Closure.{Action, settleUnder, closureMove, ClosureMachine, unfoldMachine, closureOf}
-use Rattle.checker.specs.Call.{Ran, actor, target, moveFits}
-use Rattle.checker.specs.Call as plain
+use Rattle.plain_call.specs.Call.{Ran, actor, target, moveFits}
+use Rattle.plain_call.specs.Call as plain
 
 pub data ClosureRan : Type 0 where
   halted : (question place : ℕ) → ClosureRan

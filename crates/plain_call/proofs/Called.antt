@@ -19,9 +19,9 @@ use Rattle.rules.specs.ReadRule.{readWholeRule}
 use Rattle.decision.specs.Walk.{walkFrom}
 use Rattle.decision.specs.ClosureWalk.{closureSpace}
 use Rattle.decision.proofs.Closures.{walk-unfolded}
-use Rattle.checker.specs.Call.{Call, actor, target, moveFits, refusal, walked, setting, ruleRun, ruleRead, scriptRead, answer}
-use Rattle.checker.specs.ClosureCall.{ClosureRan, halted, moved, afterMove, ifMade, closureRun, unfoldRan, begun}
-use Rattle.checker.proofs.ClosureRuns.{GoodMachine, started-unfolded}
+use Rattle.plain_call.specs.Call.{Call, actor, target, moveFits, refusal, walked, setting, ruleRun, ruleRead, scriptRead, answer}
+use Rattle.plain_call.specs.ClosureCall.{ClosureRan, halted, moved, afterMove, ifMade, closureRun, unfoldRan, begun}
+use Rattle.plain_call.proofs.ClosureRuns.{GoodMachine, started-unfolded}
 
 -- ---- what a run leaves is good
 

@@ -25,10 +25,10 @@ use Rattle.rules.specs.Rule.{Rule}
 use Rattle.rules.specs.ReadRule.{readWholeRule}
 use Rattle.decision.specs.Walk.{Count, Walked, stopped, says, walkFrom}
 use Rattle.decision.specs.PlainWalk.{plainSpace}
-use Rattle.checker.specs.Call.{Call, Ran, actor, target, moveFits, run, refusal, written, finish, walked, setting, ruleRun, ruleRead, scriptRead, answer}
-use Rattle.checker.specs.Call as plain
-use Rattle.checker.specs.ClosureCall.{ClosureRan, halted, moved, afterMove, ifMade, closureRun, unfoldRan, begun}
-use Rattle.checker.specs.Standing.{BoundHolds, MovesBounded}
+use Rattle.plain_call.specs.Call.{Call, Ran, actor, target, moveFits, run, refusal, written, finish, walked, setting, ruleRun, ruleRead, scriptRead, answer}
+use Rattle.plain_call.specs.Call as plain
+use Rattle.plain_call.specs.ClosureCall.{ClosureRan, halted, moved, afterMove, ifMade, closureRun, unfoldRan, begun}
+use Rattle.plain_call.specs.Standing.{BoundHolds, MovesBounded}
 
 -- the invariant, of a machine
 abbrev pub GoodMachine : ClosureMachine → Type 0

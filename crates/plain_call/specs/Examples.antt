@@ -23,8 +23,8 @@ use Rattle.rules.specs.Rule
 use Rattle.rules.specs.ReadRule
 use Rattle.decision.specs.Walk
 use Rattle.decision.specs.PlainWalk
-use Rattle.checker.specs.Call.{Call, Answer, Verdict, accepted, refused, answer}
-use Rattle.checker.specs.Call
+use Rattle.plain_call.specs.Call.{Call, Answer, Verdict, accepted, refused, answer}
+use Rattle.plain_call.specs.Call
 
 abbrev pub row : List ℕ → List ℕ → List ℕ → ℕ → Call
 row s m r p = record { script = s; moves = m; rule = r; patience = p; buffer = replicate 12 7 }
