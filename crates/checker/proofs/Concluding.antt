@@ -25,7 +25,7 @@ use Rattle.decision.specs.Walk.{walkFrom}
 use Rattle.decision.specs.ClosureWalk.{closureSpace}
 use Rattle.walk.specs.Visits.{walkedOf, Walks}
 use Rattle.walk.specs.declared.Walked.{Walked}
-use Rattle.walk.proofs.Order.{rule-ordered}
+use Rattle.rules.proofs.Order.{rule-ordered}
 use Rattle.plain_call.specs.Call.{Call, Verdict, accepted, refused, walked, setting, answer}
 use Rattle.plain_call.specs.Call as plain
 use Rattle.plain_call.specs.ClosureCall.{moved, closureRun, unfoldRan, begun}

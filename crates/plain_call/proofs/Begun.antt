@@ -1,5 +1,5 @@
 -- The tree that a script begins with is good: settled, its parts numbered apart and below the number of parts, its receipts'
--- variables apart, and no variable free; and a rule's PLACED words have their places from 0 up. Assumes nothing.
+-- variables apart, and no variable free. Assumes nothing.
 use Prim.Native.Nat.{ℕ, _+_, _≤_}
 use mathlib.Core.Bool.{true, false}
 use mathlib.Core.List.{List, _∷_}
@@ -19,16 +19,12 @@ use Rattle.scripts.proofs.Cases as body
 use Rattle.scripts.proofs.Tabled.{script-tabled, script-number}
 use Rattle.machine.proofs.Options.{byTest}
 use Rattle.machine.proofs.Sums.{map-sum, settle-sum}
-use Rattle.rules.specs.Rule.{Rule, always, negation, either, void, at, beside, some-name, sometime, somewhere, placed}
-use Rattle.rules.specs.ReadRule.{readWholeRule}
-use Rattle.rules.proofs.Cases as rule
 use Rattle.calculus.specs.Calculus.{Process, _∣_, action, input, piece, process, prefix, mentions}
 use Rattle.calculus.proofs.Variables.{free, free-same, free-other, mentions-other}
 use Rattle.calculus.proofs.Congruences.{action-items}
 use Rattle.calculus.proofs.Substitutions.{free-cong, closed-cong}
 use Rattle.calculus.proofs.Processes.{binds, bindings, settle-process}
 use Rattle.calculus.proofs.Kept.{Good, compounds-items, untidy, settle-settled}
-use Rattle.calculus.proofs.Agreement.{Places}
 use Rattle.calculus.specs.Calculus as calculus
 
 -- ---- variables
@@ -145,48 +141,3 @@ script-good ws p e =
       once = λ v. omega (arith, settle-sum (λ i h. binds v h) bare (hold (p .0)), B .receipts v .once);
       unbound = closed-cong (calculus.Symm (settle-process (hold (p .0)) (λ k. held k .once))) (λ v. B .bound v refl);
     }
-
--- ---- the rule
-
-places-down : (r : Rule) (p q : ℕ) → p ≤ q → Places q r → Places p r
-places-down (always i) p q l w = tt
-places-down (negation i r) p q l w = places-down r p q l w
-places-down (either i r s) p q l w = (places-down r p q l (w .0), places-down s p q l (w .1))
-places-down (void i) p q l w = tt
-places-down (at i t r) p q l w = places-down r p q l w
-places-down (beside i r s) p q l w = (places-down r p q l (w .0), places-down s p q l (w .1))
-places-down (some-name i r) p q l w = places-down r p q l w
-places-down (sometime i r) p q l w = places-down r p q l w
-places-down (somewhere i r) p q l w = places-down r p q l w
-places-down (placed i j t r) p q l w = (omega (arith, w .0), w .1)
-
-record Placing (somes : List ℕ) (c : Cursor) (p : Rule × Cursor) : Type 0 where
-  rises : c .number ≤ p .1 .number
-  places : Places (c .number) (p .0)
-
-module _ (c : Cursor) (q : ℕ × Cursor) (x : Next c q) where
-  -- the places of the rules behind the word are from its number up
-  down : (r : Rule) → Places (q .1 .number) r → Places (c .number) r
-  down r w = places-down r (c .number) (q .1 .number) (omega (arith, x .number)) w
-
-rule-placing : rule.Cases Placing
-rule-placing = record {
-  leaves = λ somes c q x. ((λ k. record { rises = omega (arith, x .number); places = tt }), (λ k. record { rises = omega (arith, x .number); places = tt }));
-  ones = λ somes c q p x h. (
-    (λ k. record { rises = omega (arith, x .number, h .rises); places = down c q x (p .0) (h .places) }),
-    (λ k. record { rises = omega (arith, x .number, h .rises); places = down c q x (p .0) (h .places) }),
-    (λ k. record { rises = omega (arith, x .number, h .rises); places = down c q x (p .0) (h .places) }),
-  );
-  twos = λ somes c q p r x h g.
-      let w : Places (c .number) (r .0) = places-down (r .0) (c .number) (p .1 .number) (omega (arith, x .number, h .rises)) (g .places) in (
-        (λ k. record { rises = omega (arith, x .number, h .rises, g .rises); places = (down c q x (p .0) (h .places), w) }),
-        (λ k. record { rises = omega (arith, x .number, h .rises, g .rises); places = (down c q x (p .0) (h .places), w) }),
-      );
-  ats = λ somes c q p x e o h. record { rises = omega (arith, x .number, h .rises); places = down c q x (p .0) (h .places) };
-  chooses = λ somes c q p x k l h. record { rises = omega (arith, x .number, h .rises); places = down c q x (p .0) (h .places) };
-  places = λ somes c q p x e o h. record { rises = omega (arith, x .number, h .rises); places = (omega (arith, x .number), h .places) };
-}
-
--- THEOREM: a rule that is read has its PLACED words' places from 0 up.
-pub rule-places : (n : ℕ) (ws : List ℕ) (p : Rule × Cursor) → readWholeRule n ws ≡ got p → Places 0 (p .0)
-rule-places n ws p e = rule.whole-rule-case Placing rule-placing n ws p e .places

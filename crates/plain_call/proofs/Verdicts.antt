@@ -7,6 +7,7 @@ use mathlib.Core.Path.{_≡_, subst}
 use mathlib.Core.Logic.{_↔_}
 use native.Mathlib.Omega.{arith}
 use Rattle.scripts.specs.Measures.{greatestName}
+use Rattle.rules.proofs.Order.{rule-ordered}
 use Rattle.calculus.specs.Satisfaction.{Sat}
 use Rattle.calculus.specs.Calculus.{process}
 use Rattle.calculus.proofs.Kept.{Good, good-move}
@@ -18,7 +19,7 @@ use Rattle.plain_call.specs.Call.{Call, accepted, answer, setting, begun
 use Rattle.plain_call.specs.Standing.{Standing, Meets, Holds}
 use Rattle.plain_call.proofs.Runs.{run-keeps}
 use Rattle.plain_call.proofs.Door.{script-fits, rule-fits}
-use Rattle.plain_call.proofs.Begun.{script-good, rule-places}
+use Rattle.plain_call.proofs.Begun.{script-good}
 use Rattle.plain_call.proofs.Answers.{Says, answer-inv, same}
 
 -- The premises of the walk's theorem hold of every call.
@@ -63,7 +64,7 @@ pub meets-holds : (c : Call) (s : Standing c) → Meets c s ↔ Holds c s
 meets-holds c s =
     let n : ℕ = s .script .1 .number in
     let z : n ≡ n + 0 = omega arith in
-    agree n (s .rule .0) 0 (rule-places n (c .rule) (s .rule) (s .rule-read)) [] (s .machine .tree) (subst (λ (k : ℕ). Good k (s .machine .tree)) z (standing-good c s))
+    agree n (s .rule .0) 0 (rule-ordered n (c .rule) (s .rule) (s .rule-read)) [] (s .machine .tree) (subst (λ (k : ℕ). Good k (s .machine .tree)) z (standing-good c s))
 
 -- THEOREM: the call's yes and no are those of the paper's own relation.
 pub verdict-yes : (c : Call) (s : Standing c) → answer c .verdict ≡ accepted true → Holds c s

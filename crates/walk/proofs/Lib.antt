@@ -11,4 +11,3 @@ pub mod Members
 pub mod Turns
 pub mod Lendings
 pub mod Begun
-pub mod Order

@@ -5,10 +5,9 @@ use mathlib.Core.Path.{_≡_, subst}
 use native.Mathlib.Omega.{arith}
 use Rattle.messages.specs.Reading.{Cursor, cursor, got}
 use Rattle.messages.proofs.Readings.{Next}
-use Rattle.rules.specs.Rule.{Rule, always, negation, either, void, at, beside, some-name, sometime, somewhere, placed}
+use Rattle.rules.specs.Rule.{Rule, Later, always, negation, either, void, at, beside, some-name, sometime, somewhere, placed}
 use Rattle.rules.specs.ReadRule.{readRule, readWholeRule}
 use Rattle.rules.proofs.Cases.{Cases, rule-case, whole-rule-case}
-use Rattle.walk.specs.Visits.{Later}
 
 pub later-down : (m n : ℕ) (r : Rule) → m ≤ n → Later n r → Later m r
 later-down m n (always i) l h = tt
