@@ -197,11 +197,10 @@ fn lend_state(kinds: [u8; 64], starts: [u32; 64], state: State) -> Standing
     let l = lend(kinds, starts, state);
     let sets = l.sets;
     let numbers = l.numbers;
-    let kids = state.kids;
     Standing {
         sets,
         numbers,
-        top: kids[64],
+        top: sets[64],
     }
 }
 
@@ -220,11 +219,15 @@ fn after_move<'a>(
     ensures table { λ r. ⌜ (kindsIn (r .numbers) ≡ kindsIn (now (numbers .entry))) × (startsIn (r .numbers) ≡ startsIn (now (numbers .entry))) ⌝ }
     ensures made { λ r. ⌜ Moves (now (script .entry)) (kindsIn (now (numbers .entry))) (startsIn (now (numbers .entry))) (stateIn (now (sets .entry)) (now (numbers .entry)) top) (stateIn (r .sets) (r .numbers) (r .top)) (λ i. getD (now (places .entry)) i 0) a t ⌝ }
 {
-    let b = borrowed(sets, numbers, top);
-    let kinds = b.kinds;
-    let starts = b.starts;
-    let s = make_move(script, &kinds, &starts, b.state, places, a, t);
-    lend_state(kinds, starts, s)
+    let mut next_sets = *sets;
+    let mut next_numbers = *numbers;
+    next_sets[64] = top;
+    make_move(script, &mut next_sets, &mut next_numbers, places, a, t);
+    Standing {
+        sets: next_sets,
+        numbers: next_numbers,
+        top: next_sets[64],
+    }
 }
 
 // The state with its top parts as the body of a new part i, an ambient of that name, for lending.
