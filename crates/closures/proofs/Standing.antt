@@ -13,12 +13,11 @@ use Rattle.sets.specs.Sets.{members, elem, insert, remove}
 use Rattle.scripts.specs.Tree.{count}
 use Rattle.scripts.specs.Represents.{bodyIn}
 use Rattle.bindings.specs.Held.{bindingsOf}
-use Rattle.bindings.specs.declared.Bindings as arrays
 use Rattle.machine.specs.Moves.{firstOf}
 use Rattle.machine.proofs.Options.{byTest}
 use Rattle.closure_machine.specs.Closure.{Closure, under}
 use Rattle.closures.specs.Seen.{nameIn, actOf, aimOf, busyOf, Seen}
-use Rattle.closures.specs.Represents.{headOf, heads, boundIn, Counted, Ready}
+use Rattle.closures.specs.Represents.{headOf, heads, boundIn, Counted}
 use Rattle.closures.specs.Lent.{stretch, kindsIn, startsIn, bindingsAt, stateIn, standing, Small, Lends}
 use Rattle.closures.specs.declared.State.{State}
 use Rattle.closures.specs.declared.Deed.{Deed}
@@ -44,10 +43,10 @@ stretch-set at n i j v l e m w = ext-getD 0 (stretch at n (set l j v)) (set (str
     (λ t.
     let q : at + x ≡ j = omega (arith, eqb-true x i t) in
     ap (λ (y : ℕ). getD (set l j v) y 0) q ∙ getD-set-same l j v 0 (omega arith)
-        ∙ sym (ap (λ (y : ℕ). getD (set (stretch at n l) i v) y 0) (eqb-true x i t) ∙ getD-set-same (stretch at n l) i v 0 (omega (arith, length-stretch at n l))))
+    ∙ sym (ap (λ (y : ℕ). getD (set (stretch at n l) i v) y 0) (eqb-true x i t) ∙ getD-set-same (stretch at n l) i v 0 (omega (arith, length-stretch at n l))))
     (λ t.
     getD-set-other l j (at + x) v 0 (λ q. let z : ⊥ = omega (arith, eqb-false x i t) in z) ∙ sym (getD-stretch at n x l u)
-        ∙ sym (getD-set-other (stretch at n l) i x v 0 (eqb-false x i t))))
+    ∙ sym (getD-set-other (stretch at n l) i x v 0 (eqb-false x i t))))
 
 -- ---- the bodies
 
@@ -192,7 +191,7 @@ module _ (sets numbers : List ℕ) (a o act aim busy : ℕ) (low : a < 64) (long
     seen-next small = seen-spent script (kindsIn numbers) (startsIn numbers) (s .offsets) (boundIn script s) a (s .looks) (r .looks) d item within kind-is
         (L .ready .seen (λ i. lower (s .offsets) a i within small))
         (first (omega (arith, raised-is, raised-low (s .offsets) a within small))
-            ∙ (λ q. firstOf (under (boundIn script s)) (headOf script (sym kind-is q) (sym (getD-stretch 64 64 a numbers low) q) (raised-is q))))
+        ∙ (λ q. firstOf (under (boundIn script s)) (headOf script (sym kind-is q) (sym (getD-stretch 64 64 a numbers low) q) (raised-is q))))
         deed
         (kept-set (s .looks) (r .looks) a d (omega (arith, length-stretch 256 64 numbers)) (omega (arith, length-stretch 65 64 sets)) acts aims busies)
         (kept-other (s .looks) (r .looks) a d acts aims busies)

@@ -674,12 +674,7 @@ fn item_under(script: &[u32], start: u32, offset: u32, numbers: &[u32; 481]) -> 
 }
 
 // What the action a does first, at the next offset.
-fn spend<'a, 'b>(
-    script: &'a [u32],
-    sets: &'b mut [u64; 131],
-    numbers: &'b mut [u32; 481],
-    a: usize,
-)
+fn spend<'a, 'b>(script: &'a [u32], sets: &'b mut [u64; 131], numbers: &'b mut [u32; 481], a: usize)
     requires { ⌜ (a < 64) × Lends (now script) (now sets) (now numbers) ⌝ }
     ensures lends { λ r. ⌜ Lends (now (script .entry)) (now (sets .exit)) (now (numbers .exit)) ⌝ }
     ensures table { λ r. ⌜ (kindsIn (now (numbers .exit)) ≡ kindsIn (now (numbers .entry))) × (startsIn (now (numbers .exit)) ≡ startsIn (now (numbers .entry))) ⌝ }

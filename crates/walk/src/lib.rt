@@ -191,7 +191,7 @@ fn all_targets<'a>(sets: &'a [u64; 131], numbers: &'a [u32; 481], top: u64) -> F
 // The state for lending.
 fn lend_state(kinds: [u8; 64], starts: [u32; 64], state: State) -> Standing
     requires { ⌜ state .bindings .first ≤ 32 ⌝ }
-    ensures tables { λ r. ⌜ (kindsIn (r .numbers) ≡ kinds) × (startsIn (r .numbers) ≡ starts) × Small (r .numbers) ⌝ }
+    ensures tables { λ r. ⌜ (kindsIn (r .numbers) ≡ kinds) × (startsIn (r .numbers) ≡ starts) × Small (r .numbers) × (length (r .sets) ≡ 131) × (length (r .numbers) ≡ 481) ⌝ }
     ensures state { λ r. ⌜ stateIn (r .sets) (r .numbers) (r .top) ≡ state ⌝ }
 {
     let l = lend(kinds, starts, state);

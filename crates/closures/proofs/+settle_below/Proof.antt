@@ -145,11 +145,11 @@ module _ (t : ℕ) where
         length-set (y .last .0) i (y .result) ∙ y .ensures .0,
         (
           λ j l. getD-set-other (y .last .0) i j (y .result) 0 (λ e. let z : ⊥ = omega (arith, low (first c₁)) in z) ∙ y .ensures .1 .0 j l ∙ c₁ .settle-below .ensures .1 .0 j l,
-        λ σ w busy ambients.
-            let a : isAmbient (w i) ≡ true = sym (ambients i (low (c .before .before .before .before .before .before .before .before .before .before .before))) ∙ eq-eqb _ 1 (c .before .if4 .taken) in
-            settle-enters σ (k (c .before .before .before .before .before .before .before .before .before .before .before .before .before .before .before)) (k₁ (c .before .before .before .before .before .before .before .before)) w (left (c .before .before .before .before .before .before .before .before .before .before .before .before .before .before .before)) (others (c .before .before .before .before .before .before .before .before)) (c .before .before .before .before .before .before .before .before .before .before .before .before .before .before .before .args .fuel) i (tail (left (c .before .before .before .before .before .before .before .before .before .before .before .before .before .before .before))) (members (c .with .result)) (split (c .before .before .before .before .before .before .before .before .before .before .before)) (beside (c .before .before .before .before .before .before .before .before) σ w busy ambients)
-            (bodyIn (y .last .0)) (members (y .result)) (y .ensures .1 .1 σ w busy ambients) (bodyIn (set (y .last .0) i (y .result))) (busy-ambient σ (w i) a) a (c .with .ensures)
-            (ap members (getD-set-same (y .last .0) i (y .result) 0 (omega (arith, y .ensures .0, low (c .before .before .before .before .before .before .before .before .before .before .before))))) (λ j d. sym (ap members (getD-set-other (y .last .0) i j (y .result) 0 d))),
+          λ σ w busy ambients.
+              let a : isAmbient (w i) ≡ true = sym (ambients i (low (c .before .before .before .before .before .before .before .before .before .before .before))) ∙ eq-eqb _ 1 (c .before .if4 .taken) in
+              settle-enters σ (k (c .before .before .before .before .before .before .before .before .before .before .before .before .before .before .before)) (k₁ (c .before .before .before .before .before .before .before .before)) w (left (c .before .before .before .before .before .before .before .before .before .before .before .before .before .before .before)) (others (c .before .before .before .before .before .before .before .before)) (c .before .before .before .before .before .before .before .before .before .before .before .before .before .before .before .args .fuel) i (tail (left (c .before .before .before .before .before .before .before .before .before .before .before .before .before .before .before))) (members (c .with .result)) (split (c .before .before .before .before .before .before .before .before .before .before .before)) (beside (c .before .before .before .before .before .before .before .before) σ w busy ambients)
+              (bodyIn (y .last .0)) (members (y .result)) (y .ensures .1 .1 σ w busy ambients) (bodyIn (set (y .last .0) i (y .result))) (busy-ambient σ (w i) a) a (c .with .ensures)
+              (ap members (getD-set-same (y .last .0) i (y .result) 0 (omega (arith, y .ensures .0, low (c .before .before .before .before .before .before .before .before .before .before .before))))) (λ j d. sym (ap members (getD-set-other (y .last .0) i j (y .result) 0 d))),
         ),
       )
 
@@ -164,11 +164,11 @@ module _ (t : ℕ) where
         y .ensures .0,
         (
           λ j l. y .ensures .1 .0 j l ∙ c₁ .settle-below .ensures .1 .0 j l,
-        λ σ w busy ambients.
-            let b : busyUnder σ (w i) ≡ true = sym (busy i (low (c .before .before .before .before .before .before .before .before .before .before .before))) ∙ sym (c .before .before .before .before .before .before .before .has .ensures) ∙ c .before .before .before .before .before .before .if3 .taken in
-            let n : isAmbient (w i) ≡ false = sym (ambients i (low (c .before .before .before .before .before .before .before .before .before .before .before))) ∙ ne-eqb _ 1 (c .before .if4 .left) in
-            settle-melts σ (k (c .before .before .before .before .before .before .before .before .before .before .before .before .before .before .before)) (k₁ (c .before .before .before .before .before .before .before .before)) w (left (c .before .before .before .before .before .before .before .before .before .before .before .before .before .before .before)) (others (c .before .before .before .before .before .before .before .before)) (c .before .before .before .before .before .before .before .before .before .before .before .before .before .before .before .args .fuel) i (tail (left (c .before .before .before .before .before .before .before .before .before .before .before .before .before .before .before))) (members (c .union .result)) (split (c .before .before .before .before .before .before .before .before .before .before .before)) (beside (c .before .before .before .before .before .before .before .before) σ w busy ambients)
-            (bodyIn (y .last .0)) (members (y .result)) (y .ensures .1 .1 σ w busy ambients) (busy-spent σ (w i) b n) (c .union .ensures),
+          λ σ w busy ambients.
+              let b : busyUnder σ (w i) ≡ true = sym (busy i (low (c .before .before .before .before .before .before .before .before .before .before .before))) ∙ sym (c .before .before .before .before .before .before .before .has .ensures) ∙ c .before .before .before .before .before .before .if3 .taken in
+              let n : isAmbient (w i) ≡ false = sym (ambients i (low (c .before .before .before .before .before .before .before .before .before .before .before))) ∙ ne-eqb _ 1 (c .before .if4 .left) in
+              settle-melts σ (k (c .before .before .before .before .before .before .before .before .before .before .before .before .before .before .before)) (k₁ (c .before .before .before .before .before .before .before .before)) w (left (c .before .before .before .before .before .before .before .before .before .before .before .before .before .before .before)) (others (c .before .before .before .before .before .before .before .before)) (c .before .before .before .before .before .before .before .before .before .before .before .before .before .before .before .args .fuel) i (tail (left (c .before .before .before .before .before .before .before .before .before .before .before .before .before .before .before))) (members (c .union .result)) (split (c .before .before .before .before .before .before .before .before .before .before .before)) (beside (c .before .before .before .before .before .before .before .before) σ w busy ambients)
+              (bodyIn (y .last .0)) (members (y .result)) (y .ensures .1 .1 σ w busy ambients) (busy-spent σ (w i) b n) (c .union .ensures),
         ),
       )
 
@@ -181,9 +181,9 @@ module _ (t : ℕ) where
         c .before .before .before .settle-below .ensures .0,
         (
           λ j l. c .before .before .before .settle-below .ensures .1 .0 j l,
-        λ σ w busy ambients.
-            let (bare, amb) = not-busy σ (w i) (sym (busy i (low (c .before .before .before .before .before .before))) ∙ sym (c .before .before .has .ensures) ∙ c .before .if3 .left) in
-            settle-keeps σ (k (c .before .before .before .before .before .before .before .before .before .before)) (k₁ (c .before .before .before)) w (left (c .before .before .before .before .before .before .before .before .before .before)) (others (c .before .before .before)) (c .before .before .before .before .before .before .before .before .before .before .args .fuel) i (tail (left (c .before .before .before .before .before .before .before .before .before .before))) (members (c .with2 .result)) (split (c .before .before .before .before .before .before)) (beside (c .before .before .before) σ w busy ambients) bare amb (c .with2 .ensures),
+          λ σ w busy ambients.
+              let (bare, amb) = not-busy σ (w i) (sym (busy i (low (c .before .before .before .before .before .before))) ∙ sym (c .before .before .has .ensures) ∙ c .before .if3 .left) in
+              settle-keeps σ (k (c .before .before .before .before .before .before .before .before .before .before)) (k₁ (c .before .before .before)) w (left (c .before .before .before .before .before .before .before .before .before .before)) (others (c .before .before .before)) (c .before .before .before .before .before .before .before .before .before .before .args .fuel) i (tail (left (c .before .before .before .before .before .before .before .before .before .before))) (members (c .with2 .result)) (split (c .before .before .before .before .before .before)) (beside (c .before .before .before) σ w busy ambients) bare amb (c .with2 .ensures),
         ),
       )
 

@@ -1,6 +1,5 @@
 -- `first_state` meets its contract: the table's parts with nothing spent and nothing bound, settled. Assumes nothing.
-use Prim.Native.Nat.{ℕ}
-use mathlib.Core.List.{List, []}
+use mathlib.Core.List.{[]}
 use mathlib.Core.Path.{_≡_, refl, sym, ap, _∙_, subst, transport}
 use native.Mathlib.Omega.{arith}
 use Rattle.bindings.specs.Held.{bindingsOf}
@@ -15,41 +14,12 @@ use Rattle.closures.proofs.Settled.{begun, ready-same}
 use borrow.Author.Needs.{needs}
 use Rattle.closures.proofs.first_state.Statement.{statement}
 use Rattle.closures.proofs.first_state.Tie as tie
-use Rattle.closures.proofs.first_state.Reads as reads
-use Rattle.closures.proofs.first_state.Lts as lts
-use Rattle.bindings.proofs.none.Reads as none-reads
-use Rattle.closures.proofs.borrowed.Reads as borrowed-reads
-use Rattle.closures.proofs.lend.Reads as lend-reads
-use Rattle.closures.proofs.looked.Reads as looked-reads
-use Rattle.closures.proofs.settle.Reads as settle-reads
 
--- src/lib.rt:719:62
-none-requires : tie.Need-none-requires
-none-requires c κs = search needs
-
--- src/lib.rt:719:9
 looked-requires : tie.Need-looked-requires
 looked-requires c κs = c .none .ensures (c .before .before .args .script .now) .0
 
--- src/lib.rt:720:9
-lend-requires : tie.Need-lend-requires
-lend-requires c κs = search needs
-
--- src/lib.rt:723:5
-settle-requires : tie.Need-settle-requires
-settle-requires c κs = search needs
-
--- src/lib.rt:724:15
-array-read-top : tie.Need-array-read-top
-array-read-top c = search needs
-
--- src/lib.rt:725:9
-borrowed-requires : tie.Need-borrowed-requires
-borrowed-requires c κs = search needs
-
--- src/lib.rt:710:1
 returns : tie.Need-returns
-returns c = 
+returns c =
     let x = c .before .before .before .before .before .before .before .before .before .before .before .before .before .before .before .args in
     let n = c .before .before .before .before .before .before .before .before .before .before .before .before .before .none .ensures (x .script .now) in
     let s = c .before .before .before .before .before .before .before .before .before .before .before .before .looked .result in
@@ -79,10 +49,10 @@ pub first-state-spec : {M : Type 1} → statement M
 first-state-spec =
     tie.close
     (tie.spec
-    none-requires
+    (λ c κs. search needs)
     looked-requires
-    lend-requires
-    settle-requires
-    array-read-top
-    borrowed-requires
+    (λ c κs. search needs)
+    (λ c κs. search needs)
+    (λ c. search needs)
+    (λ c κs. search needs)
     returns)

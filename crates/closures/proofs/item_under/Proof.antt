@@ -11,15 +11,9 @@ use Rattle.closures.specs.Represents.{headOf}
 use borrow.Author.Needs.{needs}
 use Rattle.closures.proofs.item_under.Statement.{statement}
 use Rattle.closures.proofs.item_under.Tie as tie
-use Rattle.closures.proofs.item_under.Reads as reads
-use Rattle.closures.proofs.item_under.Lts as lts
-use Rattle.bindings.proofs.tail.Reads as tail-reads
-use Rattle.bindings.proofs.wide.Reads as wide-reads
-use Rattle.closures.proofs.numbers_32.Reads as numbers-32-reads
-use Rattle.closures.proofs.part_item.Reads as part-item-reads
 
 part-item-requires : tie.Need-part-item-requires
-part-item-requires c κs = 
+part-item-requires c κs =
     let n = c .before .before .before .before .before .before .before .before .before .before .before .before .args .numbers .now in
     let v : c .before .before .before .before .tail .result .now ≡ drop (getD n 480 0) (stretch 320 32 n) = c .before .before .before .before .tail .ensures ∙ (λ q. drop (c .before .before .before .before .before .before .wide .ensures q) (c .before .before .before .before .before .before .before .before .before .before .numbers-32 .ensures q)) in
     let p : c .before .before .tail2 .result .now ≡ drop (getD n 480 0) (stretch 352 32 n) = c .before .before .tail2 .ensures ∙ (λ q. drop (c .before .before .before .before .before .before .wide .ensures q) (c .before .before .before .before .before .before .before .before .before .numbers-322 .ensures q)) in
@@ -28,7 +22,7 @@ part-item-requires c κs =
 
 returns : tie.Need-returns
 unfolding bindingsOf
-returns c low = 
+returns c low =
     let x = c .before .before .before .before .before .before .before .before .before .before .before .before .before .args in
     let n = x .numbers .now in
     let v : c .before .before .before .before .before .tail .result .now ≡ drop (getD n 480 0) (stretch 320 32 n) = c .before .before .before .before .before .tail .ensures ∙ (λ q. drop (c .before .before .before .before .before .before .before .wide .ensures q) (c .before .before .before .before .before .before .before .before .before .before .before .numbers-32 .ensures q)) in

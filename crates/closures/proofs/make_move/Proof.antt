@@ -1,6 +1,6 @@
 -- `make_move` meets its contract: what the actor does first tells the move. Assumes nothing.
 use Prim.Native.Nat.{ℕ, _+_, _<_}
-use mathlib.Core.Bool.{true, false, true≢false}
+use mathlib.Core.Bool.{true, true≢false}
 use mathlib.Core.Path.{_≡_, refl, sym, _∙_, subst}
 use native.Mathlib.Omega.{arith}
 use lib.Dec.{eqb}
@@ -16,23 +16,9 @@ use Rattle.closures.proofs.Dispatch.{nowhere, can, to-open, to-receive,
 use borrow.Author.Needs.{needs}
 use Rattle.closures.proofs.make_move.Statement.{statement}
 use Rattle.closures.proofs.make_move.Tie as tie
-use Rattle.closures.proofs.make_move.Reads as reads
-use Rattle.closures.proofs.make_move.Lts as lts
-use Rattle.closures.proofs.carry_around.Reads as carry-around-reads
-use Rattle.closures.proofs.open_part.Reads as open-part-reads
-use Rattle.closures.proofs.receive_part.Reads as receive-part-reads
 
--- src/lib.rt:1014:13
-mul-p : tie.Need-mul-p
-mul-p c = search needs
-
--- src/lib.rt:1014:13
-element-copy-out-p : tie.Need-element-copy-out-p
-element-copy-out-p c = search needs
-
--- src/lib.rt:1016:9
 returns : tie.Need-returns
-returns c = 
+returns c =
     let y = c .before .before .before .args in
     let k = kindsIn (y .numbers .now) in
     let l = startsIn (y .numbers .now) in
@@ -43,25 +29,8 @@ returns c =
       ((refl, refl), λ weight spent b few R x. absurd (true≢false (sym (can (y .script .now) k l weight spent s b R (c .before .before .before .pre .2 .ready) few at (x .0) (y .a) (y .t) (c .before .before .before .pre .0) (x .1)) ∙ nowhere _ _ _ _ _ _ _ (c .if1 .taken)))),
     )
 
--- src/lib.rt:1018:23
-add-act : tie.Need-add-act
-add-act c = search needs
-
--- src/lib.rt:1018:15
-mul-act : tie.Need-mul-act
-mul-act c = search needs
-
--- src/lib.rt:1018:15
-element-copy-out-act : tie.Need-element-copy-out-act
-element-copy-out-act c = search needs
-
--- src/lib.rt:1020:9
-open-part-requires : tie.Need-open-part-requires
-open-part-requires c κs = search needs
-
--- src/lib.rt:1020:9
 returns-2 : tie.Need-returns-2
-returns-2 c = 
+returns-2 c =
     let y = c .before .before .before .before .before .before .before .before .args in
     let k = kindsIn (y .numbers .now) in
     let l = startsIn (y .numbers .now) in
@@ -72,13 +41,8 @@ returns-2 c =
       (c .open-part .ensures .1 .0, λ weight spent b few R x. c .open-part .ensures .1 .1 weight spent b few R (sym (x .0 (y .a) (c .before .before .before .before .before .before .before .before .pre .0)), to-open (y .script .now) k l weight spent s b R (c .before .before .before .before .before .before .before .before .pre .2 .ready) few at (x .0) (y .a) (y .t) (c .before .before .before .before .before .before .before .before .pre .0) (x .1) (e ∙ c .before .before .before .if2 .taken))),
     )
 
--- src/lib.rt:1023:9
-receive-part-requires : tie.Need-receive-part-requires
-receive-part-requires c κs = search needs
-
--- src/lib.rt:1023:9
 returns-3 : tie.Need-returns-3
-returns-3 c = 
+returns-3 c =
     let y = c .before .before .before .before .before .before .before .before .before .args in
     let k = kindsIn (y .numbers .now) in
     let l = startsIn (y .numbers .now) in
@@ -89,9 +53,8 @@ returns-3 c =
       (c .receive-part .ensures .1 .0, λ weight spent b few R x. c .receive-part .ensures .1 .1 weight spent b few R (sym (x .0 (y .a) (c .before .before .before .before .before .before .before .before .before .pre .0)), to-receive (y .script .now) k l weight spent s b R (c .before .before .before .before .before .before .before .before .before .pre .2 .ready) few at (x .0) (y .a) (y .t) (c .before .before .before .before .before .before .before .before .before .pre .0) (x .1) (e ∙ c .before .before .before .if3 .taken))),
     )
 
--- src/lib.rt:1026:9
 returns-4 : tie.Need-returns-4
-returns-4 c = 
+returns-4 c =
     let y = c .before .before .before .before .before .before .before .args in
     let k = kindsIn (y .numbers .now) in
     let l = startsIn (y .numbers .now) in
@@ -102,13 +65,8 @@ returns-4 c =
       ((refl, refl), λ weight spent b few R x. absurd (let z : ⊥ = omega (arith, c .if4 .taken, inside-some (y .script .now) k l weight spent s b R (c .before .before .before .before .before .before .before .pre .2 .ready) few at (x .0) (y .a) (y .t) (c .before .before .before .before .before .before .before .pre .0) (x .1) (λ u. c .before .before .if2 .left (sym e ∙ u)) (λ u. c .before .if3 .left (sym e ∙ u))) in z)),
     )
 
--- src/lib.rt:1028:5
-carry-around-requires : tie.Need-carry-around-requires
-carry-around-requires c κs = search needs
-
--- src/lib.rt:1001:1
 returns-5 : tie.Need-returns-5
-returns-5 c = 
+returns-5 c =
     let y = c .before .before .before .before .before .before .before .before .before .before .args in
     let k = kindsIn (y .numbers .now) in
     let l = startsIn (y .numbers .now) in
@@ -141,16 +99,16 @@ pub make-move-spec : {M : Type 1} → statement M
 make-move-spec =
     tie.close
     (tie.spec
-    mul-p
-    element-copy-out-p
+    (λ c. search needs)
+    (λ c. search needs)
     returns
-    add-act
-    mul-act
-    element-copy-out-act
-    open-part-requires
+    (λ c. search needs)
+    (λ c. search needs)
+    (λ c. search needs)
+    (λ c κs. search needs)
     returns-2
-    receive-part-requires
+    (λ c κs. search needs)
     returns-3
     returns-4
-    carry-around-requires
+    (λ c κs. search needs)
     returns-5)

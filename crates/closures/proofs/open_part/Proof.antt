@@ -7,56 +7,12 @@ use Rattle.closures.proofs.LentMoves.{lends-bodies, lends-set, opened}
 use borrow.Author.Needs.{needs}
 use Rattle.closures.proofs.open_part.Statement.{statement}
 use Rattle.closures.proofs.open_part.Tie as tie
-use Rattle.closures.proofs.open_part.Reads as reads
-use Rattle.closures.proofs.open_part.Lts as lts
-use Rattle.closures.proofs.settle.Reads as settle-reads
-use Rattle.closures.proofs.spend.Reads as spend-reads
-use Rattle.sets.proofs.union.Reads as union-reads
-use Rattle.sets.proofs.without.Reads as without-reads
 
--- src/lib.rt:881:16
-mul-here : tie.Need-mul-here
-mul-here c = search needs
-
--- src/lib.rt:881:16
-element-copy-out-here : tie.Need-element-copy-out-here
-element-copy-out-here c = search needs
-
--- src/lib.rt:882:18
-mul-inside : tie.Need-mul-inside
-mul-inside c = search needs
-
--- src/lib.rt:882:18
-element-copy-out-inside : tie.Need-element-copy-out-inside
-element-copy-out-inside c = search needs
-
--- src/lib.rt:883:35
-without-requires : tie.Need-without-requires
-without-requires c κs = search needs
-
--- src/lib.rt:883:15
-union-requires : tie.Need-union-requires
-union-requires c κs = search needs
-
--- src/lib.rt:883:5
-mul-sets : tie.Need-mul-sets
-mul-sets c = search needs
-
--- src/lib.rt:883:5
-element-write-sets : tie.Need-element-write-sets
-element-write-sets c = search needs
-
--- src/lib.rt:884:5
 spend-requires : tie.Need-spend-requires
 spend-requires c κs = (c .before .before .before .before .before .before .before .pre .1, lends-set (c .before .before .before .before .before .before .before .args .script .now) (c .before .before .before .before .before .before .before .args .sets .now) (c .before .before .before .before .before .before .before .args .numbers .now) (c .before .before .before .before .before .before .before .args .p) (c .before .before .union .result) (c .before .before .before .before .before .before .before .pre .0) (c .before .before .before .before .before .before .before .pre .3))
 
--- src/lib.rt:885:5
-settle-requires : tie.Need-settle-requires
-settle-requires c κs = search needs
-
--- src/lib.rt:868:1
 returns : tie.Need-returns
-returns c = 
+returns c =
     let x = c .before .before .before .before .before .before .before .before .before .before .before .args in
     let y = c .before .before .before .spend .ensures in
     let z = c .settle .ensures in
@@ -77,14 +33,14 @@ pub open-part-spec : {M : Type 1} → statement M
 open-part-spec =
     tie.close
     (tie.spec
-    mul-here
-    element-copy-out-here
-    mul-inside
-    element-copy-out-inside
-    without-requires
-    union-requires
-    mul-sets
-    element-write-sets
+    (λ c. search needs)
+    (λ c. search needs)
+    (λ c. search needs)
+    (λ c. search needs)
+    (λ c κs. search needs)
+    (λ c κs. search needs)
+    (λ c. search needs)
+    (λ c. search needs)
     spend-requires
-    settle-requires
+    (λ c κs. search needs)
     returns)

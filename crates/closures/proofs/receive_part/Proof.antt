@@ -1,6 +1,4 @@
 -- `receive_part` meets its contract: the state is borrowed, its variable is bound, and it is lent and settled. Assumes nothing.
-use Prim.Native.Nat.{ℕ}
-use mathlib.Core.List.{List}
 use mathlib.Core.Path.{_≡_, sym, ap, _∙_, subst, transport}
 use native.Mathlib.Omega.{arith}
 use lib.ListN.{length}
@@ -29,51 +27,23 @@ long-sets s = search needs
 long-numbers : (s : Lends) → length (s .lend .result .numbers) ≡ 481
 long-numbers s = search needs
 
--- src/lib.rt:956:15
-element-copy-out-top : tie.Need-element-copy-out-top
-element-copy-out-top c = search needs
-
--- src/lib.rt:957:9
-borrowed-requires : tie.Need-borrowed-requires
-borrowed-requires c κs = search needs
-
--- src/lib.rt:960:9
 received-requires : tie.Need-received-requires
-received-requires c κs = 
+received-requires c κs =
     let y = c .before .before .before .before .borrowed .ensures (c .before .before .before .before .before .before .before .before .before .pre .3 .small) in
     (c .before .before .before .before .before .before .before .before .before .pre .0, c .before .before .before .before .before .before .before .before .before .pre .1, c .before .before .before .before .before .before .before .before .before .pre .2, transport (λ q. Ready (c .before .before .before .before .before .before .before .before .before .args .script .now) (sym (y .0) q) (sym (y .1) q) (sym (y .2) q)) (c .before .before .before .before .before .before .before .before .before .pre .3 .ready))
 
--- src/lib.rt:961:9
-lend-requires : tie.Need-lend-requires
-lend-requires c κs = search needs
-
--- src/lib.rt:964:23
-slice-aggregate-put-sets : tie.Need-slice-aggregate-put-sets
-slice-aggregate-put-sets c = search needs
-
--- src/lib.rt:964:5
 put-sets-requires : tie.Need-put-sets-requires
-put-sets-requires c κs = 
+put-sets-requires c κs =
     let l : length (c .before .before .before .before .lend .result .sets) ≡ 131 = search needs in
     (c .before .before .before .before .before .before .before .before .before .before .before .before .before .before .before .pre .3 .sets-long, omega (arith, l))
 
--- src/lib.rt:965:29
-slice-aggregate-put-numbers : tie.Need-slice-aggregate-put-numbers
-slice-aggregate-put-numbers c = search needs
-
--- src/lib.rt:965:5
 put-numbers-requires : tie.Need-put-numbers-requires
-put-numbers-requires c κs = 
+put-numbers-requires c κs =
     let l : length (c .before .before .before .before .before .before .before .lend .result .numbers) ≡ 481 = search needs in
     (c .before .before .before .before .before .before .before .before .before .before .before .before .before .before .before .before .before .before .pre .3 .numbers-long, omega (arith, l))
 
--- src/lib.rt:966:5
-settle-requires : tie.Need-settle-requires
-settle-requires c κs = search needs
-
--- src/lib.rt:943:1
 returns : tie.Need-returns
-returns c = 
+returns c =
     let x = c .before .before .before .before .before .before .before .before .before .before .before .before .before .before .before .before .before .before .before .before .before .before .args in
     let L = c .before .before .before .before .before .before .before .before .before .before .before .before .before .before .before .before .before .before .before .before .before .before .pre .3 in
     let y = c .before .before .before .before .before .before .before .before .before .before .before .before .before .before .before .before .before .borrowed .ensures (L .small) in
@@ -106,13 +76,13 @@ pub receive-part-spec : {M : Type 1} → statement M
 receive-part-spec =
     tie.close
     (tie.spec
-    element-copy-out-top
-    borrowed-requires
+    (λ c. search needs)
+    (λ c κs. search needs)
     received-requires
-    lend-requires
-    slice-aggregate-put-sets
+    (λ c κs. search needs)
+    (λ c. search needs)
     put-sets-requires
-    slice-aggregate-put-numbers
+    (λ c. search needs)
     put-numbers-requires
-    settle-requires
+    (λ c κs. search needs)
     returns)

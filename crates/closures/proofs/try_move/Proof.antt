@@ -48,25 +48,11 @@ told c weight spent b few R =
     let x = c .before .before .before .before .before .before .before .before .before .before .before .before .args in
     state-targets (x .script .now) (x .kinds .now) (x .starts .now) weight spent (x .state) b (c .before .before .before .before .before .before .before .before .before .before .before .before .pre .2) (omega arith) R (λ i. getD (c .before .before .before .before .before .locate .result) i 0) (c .before .before .before .before .before .locate .ensures) (x .a) (c .before .before .before .before .before .before .before .before .before .before .before .before .pre .0) (members (c .targets .result)) (c .targets .ensures) (x .t) (c .before .before .before .before .before .before .before .before .before .before .before .before .pre .1)
 
--- src/lib.rt:1056:18
-locate-requires : tie.Need-locate-requires
-locate-requires c κs = search needs
-
--- src/lib.rt:1057:9
-targets-requires : tie.Need-targets-requires
-targets-requires c κs = search needs
-
--- src/lib.rt:1058:8
 has-requires : tie.Need-has-requires
 has-requires c κs = omega (arith, c .before .before .before .before .before .before .before .before .before .before .before .before .pre .0, c .before .before .before .before .before .before .before .before .before .before .before .before .pre .1)
 
--- src/lib.rt:1059:13
-lend-requires : tie.Need-lend-requires
-lend-requires c κs = search needs
-
--- src/lib.rt:1062:9
 make-move-requires : tie.Need-make-move-requires
-make-move-requires c κs = 
+make-move-requires c κs =
     let z = c .before .before .before .before .before .lend .ensures in (
       c .before .before .before .before .before .before .before .before .before .before .before .before .before .before .before .before .before .before .before .before .before .before .pre .0,
       c .before .before .before .before .before .before .before .before .before .before .before .before .before .before .before .before .before .before .before .before .before .before .pre .1,
@@ -78,48 +64,38 @@ make-move-requires c κs =
       },
     )
 
--- src/lib.rt:1063:19
-array-read-top : tie.Need-array-read-top
-array-read-top c = search needs
-
--- src/lib.rt:1064:13
-borrowed-requires : tie.Need-borrowed-requires
-borrowed-requires c κs = search needs
-
--- src/lib.rt:1066:9
 returns : tie.Need-returns
-returns c = 
+returns c =
     let x = c .before .before .before .before .before .before .before .before .before .before .before .before .before .before .before .before .before .before .before .before .before .before .before .before .before .before .before .args in
     let z = c .before .before .before .before .before .before .before .before .before .before .lend .ensures in
     let m = c .before .before .before .before .make-move .ensures in
     let new : c .before .borrowed .result .state ≡ standing (c .before .before .before .before .make-move .last .1 .0) (c .before .before .before .before .make-move .last .1 .1 .0) = c .before .borrowed .ensures (m .0 .small) .2 in
     let made : Moves (x .script .now) (x .kinds .now) (x .starts .now) (x .state) (c .before .borrowed .result .state) (λ i. getD (c .before .before .before .before .before .before .before .before .before .before .before .before .before .before .before .before .before .before .before .before .locate .result) i 0) (x .a) (x .t) =
-        transport (λ q. Moves (x .script .now) (z .0 .0 q) (z .0 .1 q) (z .1 q) (sym new q) (λ i. getD (c .before .before .before .before .before .before .before .before .before .before .before .before .before .before .before .before .before .before .before .before .locate .result) i 0) (x .a) (x .t)) (m .1 .1) in (
+    transport (λ q. Moves (x .script .now) (z .0 .0 q) (z .0 .1 q) (z .1 q) (sym new q) (λ i. getD (c .before .before .before .before .before .before .before .before .before .before .before .before .before .before .before .before .before .before .before .before .locate .result) i 0) (x .a) (x .t)) (m .1 .1) in (
       transport (λ q. Ready (x .script .now) ((m .1 .0 .0 ∙ z .0 .0) q) ((m .1 .0 .1 ∙ z .0 .1) q) (sym new q)) (m .0 .ready),
       λ weight spent b few R.
           let can : true ≡ isSome (closureMove (boundIn (x .script .now) (x .state)) (x .a) (x .t) b) = sym (c .before .before .before .before .before .before .before .before .before .before .before .before .before .if1 .taken) ∙ c .before .before .before .before .before .before .before .before .before .before .before .before .before .before .has .ensures ∙ told (c .before .before .before .before .before .before .before .before .before .before .before .before .before .before .before) weight spent b few R in
           (can, λ e. made weight spent b few R (found (c .before .before .before .before .before .before .before .before .before .before .before .before .before .before .before) weight spent b few R, sym can)),
     )
 
--- src/lib.rt:1040:1
 returns-2 : tie.Need-returns-2
 returns-2 c = (
-      c .before .before .before .before .before .before .before .before .before .before .before .before .before .before .pre .2,
-      λ weight spent b few R.
-          let cannot : false ≡ isSome (closureMove (boundIn (c .before .before .before .before .before .before .before .before .before .before .before .before .before .before .args .script .now) (c .before .before .before .before .before .before .before .before .before .before .before .before .before .before .args .state)) (c .before .before .before .before .before .before .before .before .before .before .before .before .before .before .args .a) (c .before .before .before .before .before .before .before .before .before .before .before .before .before .before .args .t) b) = sym (c .if1 .left) ∙ c .before .has .ensures ∙ told (c .before .before) weight spent b few R in
-          (cannot, λ e. absurd (true≢false (sym e))),
-    )
+  c .before .before .before .before .before .before .before .before .before .before .before .before .before .before .pre .2,
+  λ weight spent b few R.
+      let cannot : false ≡ isSome (closureMove (boundIn (c .before .before .before .before .before .before .before .before .before .before .before .before .before .before .args .script .now) (c .before .before .before .before .before .before .before .before .before .before .before .before .before .before .args .state)) (c .before .before .before .before .before .before .before .before .before .before .before .before .before .before .args .a) (c .before .before .before .before .before .before .before .before .before .before .before .before .before .before .args .t) b) = sym (c .if1 .left) ∙ c .before .has .ensures ∙ told (c .before .before) weight spent b few R in
+      (cannot, λ e. absurd (true≢false (sym e))),
+)
 
 pub try-move-spec : {M : Type 1} → statement M
 try-move-spec =
     tie.close
     (tie.spec
-    locate-requires
-    targets-requires
+    (λ c κs. search needs)
+    (λ c κs. search needs)
     has-requires
-    lend-requires
+    (λ c κs. search needs)
     make-move-requires
-    array-read-top
-    borrowed-requires
+    (λ c. search needs)
+    (λ c κs. search needs)
     returns
     returns-2)

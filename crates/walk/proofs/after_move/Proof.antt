@@ -1,0 +1,43 @@
+-- `after_move` meets its contract: the arrays are copied, their top parts set, and the move is made on them. Assumes nothing.
+use mathlib.Core.Path.{_≡_, sym, _∙_, subst}
+use lib.ListN.{getD, length, length-set}
+use Rattle.closures.specs.Makes.{Moves}
+use Rattle.closures.specs.Represents.{Ready}
+use Rattle.closures.specs.Lent.{kindsIn, startsIn, standing}
+use Rattle.closures.specs.declared.State.{State}
+use Rattle.closures.proofs.Standing.{standing-top}
+use borrow.Author.Needs.{needs}
+use Rattle.walk.proofs.after_move.Statement.{statement}
+use Rattle.walk.proofs.after_move.Tie as tie
+
+make-move-requires : tie.Need-make-move-requires
+make-move-requires c κs =
+    let x = c .before .before .before .before .before .args in
+    let L = c .before .before .before .before .before .pre .2 in
+    let d : length (x .sets .now) ≡ 131 = L .sets-long in (
+      c .before .before .before .before .before .pre .0,
+      c .before .before .before .before .before .pre .1,
+      record {
+        sets-long = length-set (x .sets .now) 64 (x .top) ∙ d;
+        numbers-long = L .numbers-long;
+        small = L .small;
+        ready = subst (Ready (x .script .now) (kindsIn (x .numbers .now)) (startsIn (x .numbers .now))) (sym (standing-top (x .sets .now) (x .numbers .now) (x .top) d)) (L .ready);
+      },
+    )
+
+returns : tie.Need-returns
+returns c =
+    let x = c .before .before .before .before .before .before .args in
+    let L = c .before .before .before .before .before .before .pre .2 in
+    let m = c .make-move .ensures in
+    let r = standing (c .make-move .last .1 .0) (c .make-move .last .1 .1 .0) in (
+      record { sets-long = m .0 .sets-long; numbers-long = m .0 .numbers-long; small = m .0 .small; ready = m .0 .ready },
+      (
+        m .1 .0,
+        subst (λ (s : State). Moves (x .script .now) (kindsIn (x .numbers .now)) (startsIn (x .numbers .now)) s r (λ i. getD (x .places .now) i 0) (x .a) (x .t)) (standing-top (x .sets .now) (x .numbers .now) (x .top) (L .sets-long)) (m .1 .1),
+      ),
+    )
+
+pub after-move-spec : {M : Type 1} → statement M
+after-move-spec =
+    tie.close (tie.spec (λ c. search needs) make-move-requires (λ c. search needs) returns)
