@@ -464,7 +464,7 @@ fn either<'a>(
     requires { ⌜ (at < 256) × (left ≤ 255) × (somes ≤ 8) × (limits .limit ≤ 64) × (limits .parts ≤ 64) × (limits .greatest < 268435456) × Lendable (now script) (now sets) (now numbers) top ⌝ }
     ensures { λ r. ⌜ Finds (now (program .entry)) (now (script .entry)) (now (sets .entry)) (now (numbers .entry)) (now (chosen .entry)) top somes left at limits c r 2 ⌝ }
 {
-    let w = visit(
+    let on_left = visit(
         program,
         script,
         sets,
@@ -477,8 +477,8 @@ fn either<'a>(
         limits,
         c,
     );
-    let Walked::No(c2) = w else {
-        return w;
+    let Walked::No(c2) = on_left else {
+        return on_left;
     };
     let right = wide(program[256 + at]);
     visit(
@@ -756,12 +756,13 @@ fn sometime<'a>(
     requires { ⌜ (at < 256) × (left ≤ 255) × (somes ≤ 8) × (limits .limit ≤ 64) × (limits .parts ≤ 64) × (limits .greatest < 268435456) × Lendable (now script) (now sets) (now numbers) top ⌝ }
     ensures { λ r. ⌜ Finds (now (program .entry)) (now (script .entry)) (now (sets .entry)) (now (numbers .entry)) (now (chosen .entry)) top somes left at limits c r 7 ⌝ }
 {
+    let inner = at + 1;
     let w = visit(
         program,
         script,
         sets,
         numbers,
-        at + 1,
+        inner,
         top,
         chosen,
         somes,

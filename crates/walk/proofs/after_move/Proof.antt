@@ -1,11 +1,13 @@
 -- `after_move` meets its contract: the arrays are copied, their top parts set, and the move is made on them. Assumes nothing.
-use mathlib.Core.Path.{_≡_, sym, _∙_, subst}
-use lib.ListN.{getD, length, length-set}
+use mathlib.Core.Path.{refl, subst}
+use native.Mathlib.Omega.{arith}
+use lib.ListN.{getD}
 use Rattle.closures.specs.Makes.{Moves}
-use Rattle.closures.specs.Represents.{Ready}
-use Rattle.closures.specs.Lent.{kindsIn, startsIn, standing}
+use Rattle.closures.specs.Lent.{kindsIn, startsIn, stateIn, standing}
 use Rattle.closures.specs.declared.State.{State}
 use Rattle.closures.proofs.Standing.{standing-top}
+use Rattle.closures.proofs.LentMoves.{lends-set}
+use Rattle.closures.proofs.Settled.{ready-same}
 use borrow.Author.Needs.{needs}
 use Rattle.walk.proofs.after_move.Statement.{statement}
 use Rattle.walk.proofs.after_move.Tie as tie
@@ -14,15 +16,16 @@ make-move-requires : tie.Need-make-move-requires
 make-move-requires c κs =
     let x = c .before .before .before .before .before .args in
     let L = c .before .before .before .before .before .pre .2 in
-    let d : length (x .sets .now) ≡ 131 = L .sets-long in (
+    let k = kindsIn (x .numbers .now) in
+    let l = startsIn (x .numbers .now) in (
       c .before .before .before .before .before .pre .0,
       c .before .before .before .before .before .pre .1,
-      record {
-        sets-long = length-set (x .sets .now) 64 (x .top) ∙ d;
+      lends-set (x .script .now) (x .sets .now) (x .numbers .now) 64 _ (omega arith) (record {
+        sets-long = L .sets-long;
         numbers-long = L .numbers-long;
         small = L .small;
-        ready = subst (Ready (x .script .now) (kindsIn (x .numbers .now)) (startsIn (x .numbers .now))) (sym (standing-top (x .sets .now) (x .numbers .now) (x .top) d)) (L .ready);
-      },
+        ready = ready-same (x .script .now) k l (stateIn (x .sets .now) (x .numbers .now) (x .top)) (standing (x .sets .now) (x .numbers .now)) refl refl refl (L .ready);
+      }),
     )
 
 returns : tie.Need-returns
