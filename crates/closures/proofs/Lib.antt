@@ -19,8 +19,10 @@ pub mod Possible
 pub mod Aiming
 pub mod Arrays
 pub mod Copying
+pub mod Standing
 pub mod Placing
 pub mod Weighing
 pub mod Making
 pub mod Finishing
 pub mod Dispatch
+pub mod LentMoves

@@ -1,6 +1,6 @@
 -- A state that is settled, and the first state of a script, stand for the closures that the definitions make.
 -- Assumes nothing.
-use Prim.Native.Nat.{ℕ, _-_, _≤_, _<_}
+use Prim.Native.Nat.{ℕ, _+_, _-_, _≤_, _<_}
 use mathlib.Core.List.{List}
 use mathlib.Core.Path.{_≡_, refl, sym, ap, _∙_, subst}
 use native.Mathlib.Omega.{arith}
@@ -21,6 +21,7 @@ use Rattle.machine.proofs.Naturality.{tops-map}
 use Rattle.closure_machine.specs.Closure.{ClosureHead, Closure, Bindings, allSpent, settleUnder, wholeHead, closureOf}
 use Rattle.closures.specs.Represents.{headOf, heads, boundIn, Counted, Ready, Represents}
 use Rattle.closures.specs.Searches.{SettlesBy}
+use Rattle.closures.specs.Lent.{kindsIn, standing}
 use Rattle.bindings.specs.declared.Bindings as arrays
 use Rattle.bindings.specs.Held.{bindingsOf}
 use Rattle.closures.specs.Seen.{Seen}
@@ -29,25 +30,30 @@ use Rattle.closures.specs.declared.State.{State}
 use Rattle.closures.proofs.Holding.{differ, frame}
 use Rattle.closures.proofs.Heads.{kind-ambient}
 use Rattle.closures.proofs.Settling.{settled-count}
+use Rattle.closures.proofs.Copying.{getD-stretch}
+use Rattle.closures.proofs.Standing.{below-64, body-in}
 
 -- the state after its parts are settled from the top
-pub settled-is : (script kinds starts : List ℕ) (weight spent : ℕ) (s : State) (b : Closure) (kids : List ℕ) (m : ℕ) → Ready script kinds starts s → spent < 4294967295
-    → Represents script kinds starts weight spent s b → length kids ≡ 65
-    → SettlesBy (members (s .looks .busy)) kinds (bodyIn (s .kids)) (bodyIn kids) (bodyIn (s .kids) 64) (members m) 64
-    → Represents script kinds starts weight spent (record { kids = set kids 64 m; offsets = s .offsets; looks = s .looks; bindings = s .bindings }) (settleUnder (boundIn script s) b)
-settled-is script kinds starts weight spent s b kids m ready few R l S =
+pub settled-is : (script kinds starts : List ℕ) (weight spent : ℕ) (sets numbers : List ℕ) (b : Closure) (after : List ℕ) (m : ℕ) → kindsIn numbers ≡ kinds → Ready script kinds starts (standing sets numbers)
+    → spent < 4294967295 → Represents script kinds starts weight spent (standing sets numbers) b → length after ≡ 131
+    → SettlesBy (members (getD sets 130 0)) numbers (bodyIn sets) (bodyIn after) (bodyIn sets 64) (members m) 64
+    → Represents script kinds starts weight spent (standing (set after 64 m) numbers) (settleUnder (boundIn script (standing sets numbers)) b)
+settled-is script kinds starts weight spent sets numbers b after m ek ready few R l S =
+    let s = standing sets numbers in
     let τ = boundIn script s in
     let w = heads script kinds starts (s .offsets) in
     let seen = ready .seen (λ i. omega (arith, R .spends i)) in
-    let q = S τ w (λ i n. seen .deeds i n .settles) (λ i n. kind-ambient script (getD kinds i 0) (getD starts i 0) (getD (s .offsets) i 0)) b (R .top) (R .held) (R .once) (omega (arith, R .weighs, R .light)) in
-    let none : count 64 (settleUnder τ b) ≡ 0 = omega (arith, settled-count τ 64 b, R .inside 64 (omega arith)) in
+    let held : Held (bodyIn sets) w b = frame (bodyIn (s .kids)) (bodyIn sets) w w b (R .held) (λ i c. let low : i < 64 = below-64 b (R .inside) i c in (body-in sets i (omega arith), refl)) in
+    let kind : (i : ℕ) → i < 64 → getD numbers i 0 ≡ getD kinds i 0 = λ i n. let e : i ≡ 0 + i = omega arith in ap (λ (x : ℕ). getD numbers x 0) e ∙ sym (getD-stretch 0 64 i numbers n) ∙ ap (λ (x : List ℕ). getD x i 0) ek in
+    let q = S τ w (λ i n. seen .deeds i n .settles) (λ i n. ap (λ (x : ℕ). eqb x 1) (kind i n) ∙ kind-ambient script (getD kinds i 0) (getD starts i 0) (getD (s .offsets) i 0)) b (sym (body-in sets 64 (omega arith)) ∙ R .top) held (R .once) (omega (arith, R .weighs, R .light)) in
+    let inside : (i : ℕ) → 64 ≤ i → count i (settleUnder τ b) ≡ 0 = λ i h. omega (arith, settled-count τ i b, R .inside i h) in
     record {
-      top = ap members (getD-set-same kids 64 m 0 (omega arith)) ∙ q .0;
+      top = body-in (set after 64 m) 64 (omega arith) ∙ ap members (getD-set-same after 64 m 0 (omega arith)) ∙ q .0;
       held =
-          frame (bodyIn kids) (bodyIn (set kids 64 m)) w w (settleUnder τ b) (q .1)
-          (λ i c. (sym (ap members (getD-set-other kids 64 i m 0 (differ i 64 (settleUnder τ b) c none))), refl));
+          frame (bodyIn after) (bodyIn (standing (set after 64 m) numbers .kids)) w w (settleUnder τ b) (q .1)
+          (λ i c. let low : i < 64 = below-64 (settleUnder τ b) inside i c in (sym (body-in (set after 64 m) i (omega arith) ∙ ap members (getD-set-other after 64 i m 0 (differ i 64 (settleUnder τ b) c (inside 64 (omega arith))))), refl));
       once = λ i. omega (arith, settled-count τ i b, R .once i);
-      inside = λ i h. omega (arith, settled-count τ i b, R .inside i h);
+      inside = inside;
       light = R .light;
       weighs = omega (arith, settle-sum (λ i h. 1) (allSpent τ) b, R .weighs);
       spends = R .spends;

@@ -301,6 +301,8 @@ name-told words somes i (chosen k) S greatest d e choices es C g s =
 -- what is lent serves with any set of top parts
 pub lendable-top : (script sets numbers : List ℕ) (top m : ℕ) → Lendable script sets numbers top → Lendable script sets numbers m
 lendable-top script sets numbers top m L = record {
+  sets-long = L .sets-long;
+  numbers-long = L .numbers-long;
   small = L .small;
   ready = ready-top script (kindsIn numbers) (startsIn numbers) (stateIn sets numbers top) (stretch 0 65 sets) m (L .ready);
 }

@@ -81,6 +81,8 @@ nameSaid names (chosen i) = cond (ltb i 256) (getD names i 0) 0
 
 -- The lent arrays hold a state of which the bindings are counted, and what is kept of the parts is right.
 pub record Lendable (script sets numbers : List ℕ) (top : ℕ) : Type 0 where
+  pub sets-long : length sets ≡ 131
+  pub numbers-long : length numbers ≡ 481
   pub small : Small numbers
   pub ready : Ready script (kindsIn numbers) (startsIn numbers) (stateIn sets numbers top)
 

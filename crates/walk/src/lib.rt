@@ -191,17 +191,16 @@ fn all_targets<'a>(sets: &'a [u64; 131], numbers: &'a [u32; 481], top: u64) -> F
 // The state for lending.
 fn lend_state(kinds: [u8; 64], starts: [u32; 64], state: State) -> Standing
     requires { ⌜ state .bindings .first ≤ 32 ⌝ }
-    ensures tables { λ r. ⌜ (kindsIn (r .numbers) ≡ kinds) × (startsIn (r .numbers) ≡ starts) × Small (r .numbers) ⌝ }
+    ensures tables { λ r. ⌜ (kindsIn (r .numbers) ≡ kinds) × (startsIn (r .numbers) ≡ starts) × Small (r .numbers) × (length (r .sets) ≡ 131) × (length (r .numbers) ≡ 481) ⌝ }
     ensures state { λ r. ⌜ stateIn (r .sets) (r .numbers) (r .top) ≡ state ⌝ }
 {
     let l = lend(kinds, starts, state);
     let sets = l.sets;
     let numbers = l.numbers;
-    let kids = state.kids;
     Standing {
         sets,
         numbers,
-        top: kids[64],
+        top: sets[64],
     }
 }
 
@@ -220,11 +219,15 @@ fn after_move<'a>(
     ensures table { λ r. ⌜ (kindsIn (r .numbers) ≡ kindsIn (now (numbers .entry))) × (startsIn (r .numbers) ≡ startsIn (now (numbers .entry))) ⌝ }
     ensures made { λ r. ⌜ Moves (now (script .entry)) (kindsIn (now (numbers .entry))) (startsIn (now (numbers .entry))) (stateIn (now (sets .entry)) (now (numbers .entry)) top) (stateIn (r .sets) (r .numbers) (r .top)) (λ i. getD (now (places .entry)) i 0) a t ⌝ }
 {
-    let b = borrowed(sets, numbers, top);
-    let kinds = b.kinds;
-    let starts = b.starts;
-    let s = make_move(script, &kinds, &starts, b.state, places, a, t);
-    lend_state(kinds, starts, s)
+    let mut next_sets = *sets;
+    let mut next_numbers = *numbers;
+    next_sets[64] = top;
+    make_move(script, &mut next_sets, &mut next_numbers, places, a, t);
+    Standing {
+        sets: next_sets,
+        numbers: next_numbers,
+        top: next_sets[64],
+    }
 }
 
 // The state with its top parts as the body of a new part i, an ambient of that name, for lending.
@@ -461,7 +464,7 @@ fn either<'a>(
     requires { ⌜ (at < 256) × (left ≤ 255) × (somes ≤ 8) × (limits .limit ≤ 64) × (limits .parts ≤ 64) × (limits .greatest < 268435456) × Lendable (now script) (now sets) (now numbers) top ⌝ }
     ensures { λ r. ⌜ Finds (now (program .entry)) (now (script .entry)) (now (sets .entry)) (now (numbers .entry)) (now (chosen .entry)) top somes left at limits c r 2 ⌝ }
 {
-    let w = visit(
+    let on_left = visit(
         program,
         script,
         sets,
@@ -474,8 +477,8 @@ fn either<'a>(
         limits,
         c,
     );
-    let Walked::No(c2) = w else {
-        return w;
+    let Walked::No(c2) = on_left else {
+        return on_left;
     };
     let right = wide(program[256 + at]);
     visit(
@@ -753,12 +756,13 @@ fn sometime<'a>(
     requires { ⌜ (at < 256) × (left ≤ 255) × (somes ≤ 8) × (limits .limit ≤ 64) × (limits .parts ≤ 64) × (limits .greatest < 268435456) × Lendable (now script) (now sets) (now numbers) top ⌝ }
     ensures { λ r. ⌜ Finds (now (program .entry)) (now (script .entry)) (now (sets .entry)) (now (numbers .entry)) (now (chosen .entry)) top somes left at limits c r 7 ⌝ }
 {
+    let inner = at + 1;
     let w = visit(
         program,
         script,
         sets,
         numbers,
-        at + 1,
+        inner,
         top,
         chosen,
         somes,

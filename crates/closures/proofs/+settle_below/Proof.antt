@@ -54,7 +54,7 @@ module _ (t : ℕ) where
   Beside = settle-below-lts.After-settle-below (claims t) (settle-below-at t) settle-below.Post
 
   abbrev k : Start → ℕ → List ℕ
-  k s = bodyIn (s .args .kids .now)
+  k s = bodyIn (s .args .sets .now)
 
   abbrev left : Start → List ℕ
   left s = members (s .args .left)
@@ -80,20 +80,20 @@ module _ (t : ℕ) where
   abbrev others : Beside → List ℕ
   others c = members (c .settle-below .result)
 
-  beside : (c : Beside) (σ : Bindings) (w : ℕ → ClosureHead) → Busy σ w (members (start (first c) .args .busy)) → Ambients w (start (first c) .args .kinds .now)
+  beside : (c : Beside) (σ : Bindings) (w : ℕ → ClosureHead) → Busy σ w (members (start (first c) .args .busy)) → Ambients w (start (first c) .args .numbers .now)
       → Settles σ (k (start (first c))) (k₁ c) w (tail (left (start (first c)))) (others c) (start (first c) .args .fuel - 1)
   beside c σ w busy ambients = subst
       (λ (l : List ℕ). Settles σ (k (start (first c))) (k₁ c) w l (others c) (start (first c) .args .fuel - 1))
-      (c .before .before .rest .ensures) (c .settle-below .ensures .1 σ w busy ambients)
+      (c .before .before .rest .ensures) (c .settle-below .ensures .1 .1 σ w busy ambients)
 
   settle-below-intersection-requires : settle-below-lts.Need-intersection-requires (claims t) (settle-below-at t) settle-below.Post
   settle-below-intersection-requires c κs = search needs
 
   settle-below-returns : settle-below-lts.Need-returns (claims t) (settle-below-at t) settle-below.Post
-  settle-below-returns c = (c .before .before .pre .1, λ σ w busy ambients. settle-quiet σ (k (c .before .before)) (k (c .before .before)) w (left (c .before .before)) (left (c .before .before)) (c .before .before .args .fuel) (members-rising (c .before .before .args .left)) (none-busy (c .before .before .args .left) (c .before .before .args .busy) (c .before .intersection .result) (c .before .intersection .ok) (c .before .intersection .ensures) σ w busy (c .if1 .taken)) refl (λ j. refl))
+  settle-below-returns c = (c .before .before .pre .1, (λ j l. refl, λ σ w busy ambients. settle-quiet σ (k (c .before .before)) (k (c .before .before)) w (left (c .before .before)) (left (c .before .before)) (c .before .before .args .fuel) (members-rising (c .before .before .args .left)) (none-busy (c .before .before .args .left) (c .before .before .args .busy) (c .before .intersection .result) (c .before .intersection .ok) (c .before .intersection .ensures) σ w busy (c .if1 .taken)) refl (λ j. refl)))
 
   settle-below-returns-2 : settle-below-lts.Need-returns-2 (claims t) (settle-below-at t) settle-below.Post
-  settle-below-returns-2 c = (c .before .before .before .pre .1, λ σ w busy ambients. settle-no-fuel σ (k (c .before .before .before)) (k (c .before .before .before)) w (left (c .before .before .before)) (members 0) (c .before .before .before .args .fuel) _ _ (first-and-rest (c .before .before .before .args .left) (c .before .before .before .fits .left .fits) (some-busy (c .before .before .before .args .left) (c .before .before .before .args .busy) (c .before .before .intersection .result) (c .before .before .intersection .ok) (c .before .before .intersection .ensures) (c .before .if1 .left))) (c .if2 .taken))
+  settle-below-returns-2 c = (c .before .before .before .pre .1, (λ j l. refl, λ σ w busy ambients. settle-no-fuel σ (k (c .before .before .before)) (k (c .before .before .before)) w (left (c .before .before .before)) (members 0) (c .before .before .before .args .fuel) _ _ (first-and-rest (c .before .before .before .args .left) (c .before .before .before .fits .left .fits) (some-busy (c .before .before .before .args .left) (c .before .before .before .args .busy) (c .before .before .intersection .result) (c .before .before .intersection .ok) (c .before .before .intersection .ensures) (c .before .if1 .left))) (c .if2 .taken)))
 
   settle-below-first-requires : settle-below-lts.Need-first-requires (claims t) (settle-below-at t) settle-below.Post
   settle-below-first-requires c κs = search needs
@@ -122,14 +122,17 @@ module _ (t : ℕ) where
   settle-below-settle-below-requires-2 : settle-below-lts.Need-settle-below-requires-2 (claims t) (settle-below-at t) settle-below.Post
   settle-below-settle-below-requires-2 c κs = (omega (arith, c .before .before .before .before .before .before .before .before .before .before .before .pre .0, c .before .before .before .before .before .before .before .before .if2 .left), c .before .before .before .before .settle-below .ensures .0)
 
+  settle-below-mul-kind : settle-below-lts.Need-mul-kind (claims t) (settle-below-at t) settle-below.Post
+  settle-below-mul-kind c = omega (arith, low (c .before .before .before .before .before .before .before .before))
+
   settle-below-element-copy-out-kind : settle-below-lts.Need-element-copy-out-kind (claims t) (settle-below-at t) settle-below.Post
-  settle-below-element-copy-out-kind c = low (c .before .before .before .before .before .before .before .before)
+  settle-below-element-copy-out-kind c = omega (arith, low (c .before .before .before .before .before .before .before .before))
 
-  settle-below-mul-kids : settle-below-lts.Need-mul-kids (claims t) (settle-below-at t) settle-below.Post
-  settle-below-mul-kids c = omega (arith, low (c .before .before .before .before .before .before .before .before .before .before))
+  settle-below-mul-sets : settle-below-lts.Need-mul-sets (claims t) (settle-below-at t) settle-below.Post
+  settle-below-mul-sets c = omega (arith, low (c .before .before .before .before .before .before .before .before .before .before))
 
-  settle-below-element-write-kids : settle-below-lts.Need-element-write-kids (claims t) (settle-below-at t) settle-below.Post
-  settle-below-element-write-kids c = omega (arith, low (c .before .before .before .before .before .before .before .before .before .before))
+  settle-below-element-write-sets : settle-below-lts.Need-element-write-sets (claims t) (settle-below-at t) settle-below.Post
+  settle-below-element-write-sets c = omega (arith, low (c .before .before .before .before .before .before .before .before .before .before))
 
   settle-below-with-requires : settle-below-lts.Need-with-requires (claims t) (settle-below-at t) settle-below.Post
   settle-below-with-requires c κs = low (c .before .before .before .before .before .before .before .before .before .before)
@@ -137,13 +140,17 @@ module _ (t : ℕ) where
   settle-below-returns-3 : settle-below-lts.Need-returns-3 (claims t) (settle-below-at t) settle-below.Post
   settle-below-returns-3 c =
       let y = c .before .before .before .settle-below2 in
+      let c₁ : Beside = c .before .before .before .before .before .before .before .before in
       let i = c .before .before .before .before .before .before .before .before .before .before .before .first .result in (
         length-set (y .last .0) i (y .result) ∙ y .ensures .0,
-        λ σ w busy ambients.
-            let a : isAmbient (w i) ≡ true = sym (ambients i (low (c .before .before .before .before .before .before .before .before .before .before .before))) ∙ eq-eqb _ 1 (c .before .if4 .taken) in
-            settle-enters σ (k (c .before .before .before .before .before .before .before .before .before .before .before .before .before .before .before)) (k₁ (c .before .before .before .before .before .before .before .before)) w (left (c .before .before .before .before .before .before .before .before .before .before .before .before .before .before .before)) (others (c .before .before .before .before .before .before .before .before)) (c .before .before .before .before .before .before .before .before .before .before .before .before .before .before .before .args .fuel) i (tail (left (c .before .before .before .before .before .before .before .before .before .before .before .before .before .before .before))) (members (c .with .result)) (split (c .before .before .before .before .before .before .before .before .before .before .before)) (beside (c .before .before .before .before .before .before .before .before) σ w busy ambients)
-            (bodyIn (y .last .0)) (members (y .result)) (y .ensures .1 σ w busy ambients) (bodyIn (set (y .last .0) i (y .result))) (busy-ambient σ (w i) a) a (c .with .ensures)
-            (ap members (getD-set-same (y .last .0) i (y .result) 0 (omega (arith, y .ensures .0, low (c .before .before .before .before .before .before .before .before .before .before .before))))) (λ j d. sym (ap members (getD-set-other (y .last .0) i j (y .result) 0 d))),
+        (
+          λ j l. getD-set-other (y .last .0) i j (y .result) 0 (λ e. let z : ⊥ = omega (arith, low (first c₁)) in z) ∙ y .ensures .1 .0 j l ∙ c₁ .settle-below .ensures .1 .0 j l,
+          λ σ w busy ambients.
+              let a : isAmbient (w i) ≡ true = sym (ambients i (low (c .before .before .before .before .before .before .before .before .before .before .before))) ∙ eq-eqb _ 1 (c .before .if4 .taken) in
+              settle-enters σ (k (c .before .before .before .before .before .before .before .before .before .before .before .before .before .before .before)) (k₁ (c .before .before .before .before .before .before .before .before)) w (left (c .before .before .before .before .before .before .before .before .before .before .before .before .before .before .before)) (others (c .before .before .before .before .before .before .before .before)) (c .before .before .before .before .before .before .before .before .before .before .before .before .before .before .before .args .fuel) i (tail (left (c .before .before .before .before .before .before .before .before .before .before .before .before .before .before .before))) (members (c .with .result)) (split (c .before .before .before .before .before .before .before .before .before .before .before)) (beside (c .before .before .before .before .before .before .before .before) σ w busy ambients)
+              (bodyIn (y .last .0)) (members (y .result)) (y .ensures .1 .1 σ w busy ambients) (bodyIn (set (y .last .0) i (y .result))) (busy-ambient σ (w i) a) a (c .with .ensures)
+              (ap members (getD-set-same (y .last .0) i (y .result) 0 (omega (arith, y .ensures .0, low (c .before .before .before .before .before .before .before .before .before .before .before))))) (λ j d. sym (ap members (getD-set-other (y .last .0) i j (y .result) 0 d))),
+        ),
       )
 
   settle-below-union-requires : settle-below-lts.Need-union-requires (claims t) (settle-below-at t) settle-below.Post
@@ -152,13 +159,17 @@ module _ (t : ℕ) where
   settle-below-returns-4 : settle-below-lts.Need-returns-4 (claims t) (settle-below-at t) settle-below.Post
   settle-below-returns-4 c =
       let y = c .before .before .before .settle-below2 in
+      let c₁ : Beside = c .before .before .before .before .before .before .before .before in
       let i = c .before .before .before .before .before .before .before .before .before .before .before .first .result in (
         y .ensures .0,
-        λ σ w busy ambients.
-            let b : busyUnder σ (w i) ≡ true = sym (busy i (low (c .before .before .before .before .before .before .before .before .before .before .before))) ∙ sym (c .before .before .before .before .before .before .before .has .ensures) ∙ c .before .before .before .before .before .before .if3 .taken in
-            let n : isAmbient (w i) ≡ false = sym (ambients i (low (c .before .before .before .before .before .before .before .before .before .before .before))) ∙ ne-eqb _ 1 (c .before .if4 .left) in
-            settle-melts σ (k (c .before .before .before .before .before .before .before .before .before .before .before .before .before .before .before)) (k₁ (c .before .before .before .before .before .before .before .before)) w (left (c .before .before .before .before .before .before .before .before .before .before .before .before .before .before .before)) (others (c .before .before .before .before .before .before .before .before)) (c .before .before .before .before .before .before .before .before .before .before .before .before .before .before .before .args .fuel) i (tail (left (c .before .before .before .before .before .before .before .before .before .before .before .before .before .before .before))) (members (c .union .result)) (split (c .before .before .before .before .before .before .before .before .before .before .before)) (beside (c .before .before .before .before .before .before .before .before) σ w busy ambients)
-            (bodyIn (y .last .0)) (members (y .result)) (y .ensures .1 σ w busy ambients) (busy-spent σ (w i) b n) (c .union .ensures),
+        (
+          λ j l. y .ensures .1 .0 j l ∙ c₁ .settle-below .ensures .1 .0 j l,
+          λ σ w busy ambients.
+              let b : busyUnder σ (w i) ≡ true = sym (busy i (low (c .before .before .before .before .before .before .before .before .before .before .before))) ∙ sym (c .before .before .before .before .before .before .before .has .ensures) ∙ c .before .before .before .before .before .before .if3 .taken in
+              let n : isAmbient (w i) ≡ false = sym (ambients i (low (c .before .before .before .before .before .before .before .before .before .before .before))) ∙ ne-eqb _ 1 (c .before .if4 .left) in
+              settle-melts σ (k (c .before .before .before .before .before .before .before .before .before .before .before .before .before .before .before)) (k₁ (c .before .before .before .before .before .before .before .before)) w (left (c .before .before .before .before .before .before .before .before .before .before .before .before .before .before .before)) (others (c .before .before .before .before .before .before .before .before)) (c .before .before .before .before .before .before .before .before .before .before .before .before .before .before .before .args .fuel) i (tail (left (c .before .before .before .before .before .before .before .before .before .before .before .before .before .before .before))) (members (c .union .result)) (split (c .before .before .before .before .before .before .before .before .before .before .before)) (beside (c .before .before .before .before .before .before .before .before) σ w busy ambients)
+              (bodyIn (y .last .0)) (members (y .result)) (y .ensures .1 .1 σ w busy ambients) (busy-spent σ (w i) b n) (c .union .ensures),
+        ),
       )
 
   settle-below-with-requires-2 : settle-below-lts.Need-with-requires-2 (claims t) (settle-below-at t) settle-below.Post
@@ -168,9 +179,12 @@ module _ (t : ℕ) where
   settle-below-returns-5 c =
       let i = c .before .before .before .before .before .before .first .result in (
         c .before .before .before .settle-below .ensures .0,
-        λ σ w busy ambients.
-            let (bare, amb) = not-busy σ (w i) (sym (busy i (low (c .before .before .before .before .before .before))) ∙ sym (c .before .before .has .ensures) ∙ c .before .if3 .left) in
-            settle-keeps σ (k (c .before .before .before .before .before .before .before .before .before .before)) (k₁ (c .before .before .before)) w (left (c .before .before .before .before .before .before .before .before .before .before)) (others (c .before .before .before)) (c .before .before .before .before .before .before .before .before .before .before .args .fuel) i (tail (left (c .before .before .before .before .before .before .before .before .before .before))) (members (c .with2 .result)) (split (c .before .before .before .before .before .before)) (beside (c .before .before .before) σ w busy ambients) bare amb (c .with2 .ensures),
+        (
+          λ j l. c .before .before .before .settle-below .ensures .1 .0 j l,
+          λ σ w busy ambients.
+              let (bare, amb) = not-busy σ (w i) (sym (busy i (low (c .before .before .before .before .before .before))) ∙ sym (c .before .before .has .ensures) ∙ c .before .if3 .left) in
+              settle-keeps σ (k (c .before .before .before .before .before .before .before .before .before .before)) (k₁ (c .before .before .before)) w (left (c .before .before .before .before .before .before .before .before .before .before)) (others (c .before .before .before)) (c .before .before .before .before .before .before .before .before .before .before .args .fuel) i (tail (left (c .before .before .before .before .before .before .before .before .before .before))) (members (c .with2 .result)) (split (c .before .before .before .before .before .before)) (beside (c .before .before .before) σ w busy ambients) bare amb (c .with2 .ensures),
+        ),
       )
 
 pub +settle-below-spec : {M : Type 1} → statement M
@@ -193,9 +207,10 @@ pub +settle-below-spec : {M : Type 1} → statement M
     (settle-below-element-copy-out-inside t)
     (settle-below-sub-settle-below-2 t)
     (settle-below-settle-below-requires-2 t)
+    (settle-below-mul-kind t)
     (settle-below-element-copy-out-kind t)
-    (settle-below-mul-kids t)
-    (settle-below-element-write-kids t)
+    (settle-below-mul-sets t)
+    (settle-below-element-write-sets t)
     (settle-below-with-requires t)
     (settle-below-returns-3 t)
     (settle-below-union-requires t)

@@ -1,112 +1,88 @@
--- `receive_part` meets its contract: the variable is bound, the sets are changed, all is read anew and settled. Assumes
--- nothing.
-use Prim.Native.Nat.{_+_}
-use mathlib.Core.Path.{_≡_, sym, ap, _∙_}
+-- `receive_part` meets its contract: the state is borrowed, its variable is bound, and it is lent and settled. Assumes nothing.
+use mathlib.Core.Path.{_≡_, sym, ap, _∙_, subst, transport}
 use native.Mathlib.Omega.{arith}
-use lib.ListN.{length, getD}
-use Rattle.sets.specs.Sets.{members, remove, join}
-use Rattle.closures.proofs.Settled.{ready-same}
-use Rattle.bindings.specs.Held.{bindingsOf}
-use Rattle.bindings.specs.declared.Bindings as arrays
-use Rattle.closures.proofs.Finishing.{receives, room}
-use borrow.Author.Needs.{needs}
+use lib.ListN.{length}
+use Rattle.closures.specs.Represents.{Ready}
+use Rattle.closures.specs.Lent.{kindsIn, startsIn, standing, Small}
+use Rattle.closures.proofs.LentMoves.{lends-bodies, put-whole, bound-lends, receipt-made}
 use borrow.Author.Needs.{needs}
 use Rattle.closures.proofs.receive_part.Statement.{statement}
 use Rattle.closures.proofs.receive_part.Tie as tie
 use Rattle.closures.proofs.receive_part.Reads as reads
 use Rattle.closures.proofs.receive_part.Lts as lts
-use Rattle.bindings.proofs.bind.Reads as bind-reads
-use Rattle.closures.proofs.looked.Reads as looked-reads
+use Rattle.closures.proofs.borrowed.Reads as borrowed-reads
+use Rattle.closures.proofs.lend.Reads as lend-reads
+use Rattle.closures.proofs.put_numbers.Reads as put-numbers-reads
+use Rattle.closures.proofs.put_sets.Reads as put-sets-reads
+use Rattle.closures.proofs.received.Reads as received-reads
 use Rattle.closures.proofs.settle.Reads as settle-reads
-use Rattle.sets.proofs.union.Reads as union-reads
-use Rattle.sets.proofs.without.Reads as without-reads
 
--- the sets and the offsets are arrays
-abbrev Start : Type 0
-Start = lts.Start (bind-reads.Asked, bind-reads.Learnt, without-reads.Asked, without-reads.Learnt, union-reads.Asked, union-reads.Learnt, looked-reads.Asked, looked-reads.Learnt, settle-reads.Asked, settle-reads.Learnt) reads.Pre reads.Post
+-- what is lent are arrays
+abbrev Lends : Type 0
+Lends = lts.After-lend (borrowed-reads.Asked, borrowed-reads.Learnt, received-reads.Asked, received-reads.Learnt, lend-reads.Asked, lend-reads.Learnt, put-sets-reads.Asked, put-sets-reads.Learnt, put-numbers-reads.Asked, put-numbers-reads.Learnt, settle-reads.Asked, settle-reads.Learnt) reads.Pre reads.Post
 
-long-kids : (s : Start) → length (s .args .t4 .kids) ≡ 65
-long-kids s = search needs
+long-sets : (s : Lends) → length (s .lend .result .sets) ≡ 131
+long-sets s = search needs
 
-long-offsets : (s : Start) → length (s .args .t4 .offsets) ≡ 64
-long-offsets s = search needs
+long-numbers : (s : Lends) → length (s .lend .result .numbers) ≡ 481
+long-numbers s = search needs
+
+received-requires : tie.Need-received-requires
+received-requires c κs =
+    let y = c .before .before .before .before .borrowed .ensures (c .before .before .before .before .before .before .before .before .before .pre .3 .small) in
+    (c .before .before .before .before .before .before .before .before .before .pre .0, c .before .before .before .before .before .before .before .before .before .pre .1, c .before .before .before .before .before .before .before .before .before .pre .2, transport (λ q. Ready (c .before .before .before .before .before .before .before .before .before .args .script .now) (sym (y .0) q) (sym (y .1) q) (sym (y .2) q)) (c .before .before .before .before .before .before .before .before .before .pre .3 .ready))
+
+put-sets-requires : tie.Need-put-sets-requires
+put-sets-requires c κs =
+    let l : length (c .before .before .before .before .lend .result .sets) ≡ 131 = search needs in
+    (c .before .before .before .before .before .before .before .before .before .before .before .before .before .before .before .pre .3 .sets-long, omega (arith, l))
+
+put-numbers-requires : tie.Need-put-numbers-requires
+put-numbers-requires c κs =
+    let l : length (c .before .before .before .before .before .before .before .lend .result .numbers) ≡ 481 = search needs in
+    (c .before .before .before .before .before .before .before .before .before .before .before .before .before .before .before .before .before .before .pre .3 .numbers-long, omega (arith, l))
 
 returns : tie.Need-returns
-returns c = (c .before .before .before .before .pre .3, λ weight spent b low R x. absurd (room (c .before .before .before .before .args .script .now) (c .before .before .before .before .args .kinds .now) (c .before .before .before .before .args .starts .now) (c .before .before .before .before .args .t4) weight spent b R (c .before .before .before .before .args .p) (c .before .before .before .before .args .a) (c .before .before .before .before .args .t) (x .0) (x .1) (c .if1 .taken)))
-
-mul-variable : tie.Need-mul-variable
-mul-variable c = omega (arith, c .before .before .before .before .pre .1)
-
-element-copy-out-variable : tie.Need-element-copy-out-variable
-element-copy-out-variable c = omega (arith, c .before .before .before .before .pre .1)
-
-mul-message : tie.Need-mul-message
-mul-message c = omega (arith, c .before .before .before .before .before .pre .2)
-
-element-copy-out-message : tie.Need-element-copy-out-message
-element-copy-out-message c = omega (arith, c .before .before .before .before .before .pre .2)
-
-bind-requires : tie.Need-bind-requires
-bind-requires c κs = (c .before .before .before .before .before .before .pre .3 .bound, omega (arith, c .before .before .if1 .left))
-
-mul-here : tie.Need-mul-here
-mul-here c = omega (arith, c .before .before .before .before .before .before .before .pre .0)
-
-element-copy-out-here : tie.Need-element-copy-out-here
-element-copy-out-here c = omega (arith, c .before .before .before .before .before .before .before .pre .0)
-
-mul-inside : tie.Need-mul-inside
-mul-inside c = omega (arith, c .before .before .before .before .before .before .before .before .pre .1)
-
-element-copy-out-inside : tie.Need-element-copy-out-inside
-element-copy-out-inside c = omega (arith, c .before .before .before .before .before .before .before .before .pre .1)
-
-without-requires : tie.Need-without-requires
-without-requires c κs = omega (arith, c .before .before .before .before .before .before .before .before .before .before .before .pre .1, c .before .before .before .before .before .before .before .before .before .before .before .pre .2)
-
-without-requires-2 : tie.Need-without-requires-2
-without-requires-2 c κs = omega (arith, c .before .before .before .before .before .before .before .before .before .before .before .before .pre .1, c .before .before .before .before .before .before .before .before .before .before .before .before .pre .2)
-
-mul-kids : tie.Need-mul-kids
-mul-kids c = omega (arith, c .before .before .before .before .before .before .before .before .before .before .before .before .before .before .pre .0)
-
-array-write-kids : tie.Need-array-write-kids
-array-write-kids c = omega (arith, c .before .before .before .before .before .before .before .before .before .before .before .before .before .before .pre .0)
-
-looked-requires : tie.Need-looked-requires
-looked-requires c κs = c .before .before .before .before .before .before .before .bind .ensures .0
-
-returns-2 : tie.Need-returns-2
-returns-2 c =
-    let x = c .before .before .before .before .before .before .before .before .before .before .before .before .before .before .before .before .args in
-    let y = c .settle .ensures .0 in
-    let n = c .before .looked .ensures .1 in
-    let b = c .before .before .before .before .before .before .before .before .before .bind .ensures in (
-      ready-same (x .script .now) (x .kinds .now) (x .starts .now) (c .before .looked .result) (c .settle .result) (sym (y .0)) (sym (y .1)) (sym (y .2)) (c .before .looked .ensures .0),
-      receives (x .script .now) (x .kinds .now) (x .starts .now) (x .t4) (c .before .looked .result) (c .settle .result) (y .2) (c .before .looked .ensures .0) (c .settle .ensures .1)
-          (x .p) (x .a) (x .t) (c .before .before .union .result) (n .1) (ap (λ (z : arrays.Bindings). z .first + 1) (n .2) ∙ (let e : c .before .before .before .before .before .before .before .before .before .bind .result .first + 1 ≡ x .t4 .bindings .first = omega (arith, b .2, c .before .before .before .before .before .before .before .before .before .before .before .before .if1 .left) in e)) (ap (bindingsOf (x .script .now)) (n .2) ∙ b .1)
-          (omega (arith, long-kids (c .before .before .before .before .before .before .before .before .before .before .before .before .before .before .before .before), c .before .before .before .before .before .before .before .before .before .before .before .before .before .before .before .before .pre .0)) (n .0) (c .before .before .union .ensures ∙ ap (join (members (getD (x .t4 .kids) (x .a) 0))) (c .before .before .before .without2 .ensures ∙ ap (remove (x .t)) (c .before .before .before .before .without .ensures))),
+returns c =
+    let x = c .before .before .before .before .before .before .before .before .before .before .before .before .before .before .before .before .before .before .before .before .before .before .args in
+    let L = c .before .before .before .before .before .before .before .before .before .before .before .before .before .before .before .before .before .before .before .before .before .before .pre .3 in
+    let y = c .before .before .before .before .before .before .before .before .before .before .before .before .before .before .before .before .before .borrowed .ensures (L .small) in
+    let b = c .before .before .before .before .before .before .before .before .before .before .before .before .before .before .before .before .before .borrowed .result in
+    let z = c .before .before .before .before .before .before .before .before .before .before .before .lend .ensures in
+    let l = c .before .before .before .before .before .before .before .before .before .before .before .lend .result in
+    let u = c .settle .ensures in
+    let s₁ = c .before .before .before .before .before .before .put-sets .last .0 in
+    let n₁ = c .before .before .before .put-numbers .last .0 in
+    let s₂ = c .settle .last .0 in
+    let ls : length (l .sets) ≡ 131 = long-sets (c .before .before .before .before .before .before .before .before .before .before .before) in
+    let ln : length (l .numbers) ≡ 481 = long-numbers (c .before .before .before .before .before .before .before .before .before .before .before) in
+    let es : s₁ ≡ l .sets = put-whole (l .sets) (x .sets .now) s₁ (ls ∙ sym (c .before .before .before .before .before .before .put-sets .ensures .0)) (c .before .before .before .before .before .before .put-sets .ensures .1) in
+    let en : n₁ ≡ l .numbers = put-whole (l .numbers) (x .numbers .now) n₁ (ln ∙ sym (c .before .before .before .put-numbers .ensures .0)) (c .before .before .before .put-numbers .ensures .1) in
+    let k : kindsIn n₁ ≡ b .kinds = ap kindsIn en ∙ z .0 .0 in
+    let t : startsIn n₁ ≡ b .starts = ap startsIn en ∙ z .0 .1 in
+    let small : Small n₁ = subst Small (sym en) (z .0 .2) in
+    let e : standing s₁ n₁ ≡ c .before .before .before .before .before .before .before .before .before .before .before .before .received .result = (λ q. standing (es q) (en q)) ∙ z .1 in (
+      lends-bodies (x .script .now) s₁ s₂ n₁
+          (bound-lends (x .script .now) (x .sets .now) (x .numbers .now) s₁ n₁ s₂ (b .kinds) (b .starts) (b .state) (c .before .before .before .before .before .before .before .before .before .before .before .before .received .result) L (y .0) (y .1) (y .2) (c .before .before .before .before .before .before .put-sets .ensures .0) (c .before .before .before .put-numbers .ensures .0) k t small e (c .before .before .before .before .before .before .before .before .before .before .before .before .received .ensures .0))
+          (u .0) (u .1 .0),
+      (
+        (k ∙ y .0, t ∙ y .1),
+        receipt-made (x .script .now) (x .sets .now) (x .numbers .now) s₁ n₁ s₂ (b .kinds) (b .starts) (b .state) (c .before .before .before .before .before .before .before .before .before .before .before .before .received .result) L (y .0) (y .1) (y .2) (c .before .before .before .before .before .before .put-sets .ensures .0) (c .before .before .before .put-numbers .ensures .0) k t small e (c .before .before .before .before .before .before .before .before .before .before .before .before .received .ensures .0)
+            (u .1 .1) (x .p) (x .a) (x .t) (c .before .before .before .before .before .before .before .before .before .before .before .before .before .before .before .before .before .before .before .before .before .before .pre .0) (c .before .before .before .before .before .before .before .before .before .before .before .before .received .ensures .1),
+      ),
     )
 
 pub receive-part-spec : {M : Type 1} → statement M
 receive-part-spec =
     tie.close
     (tie.spec
-    returns
-    mul-variable
-    element-copy-out-variable
-    mul-message
-    element-copy-out-message
-    bind-requires
-    mul-here
-    element-copy-out-here
-    mul-inside
-    element-copy-out-inside
-    without-requires
-    without-requires-2
+    (λ c. search needs)
     (λ c κs. search needs)
-    mul-kids
-    array-write-kids
-    looked-requires
+    received-requires
     (λ c κs. search needs)
-    returns-2)
+    (λ c. search needs)
+    put-sets-requires
+    (λ c. search needs)
+    put-numbers-requires
+    (λ c κs. search needs)
+    returns)

@@ -14,8 +14,8 @@ module _ (t : ℕ) where
   pub visit-requires : lts.Need-visit-requires (either-claims t) (either-at t) reads.Post
   visit-requires c κs = (omega (arith, c .before .pre .0), (omega (arith, c .before .pre .1 .1), c .before .pre .1 .2, c .before .pre .1 .3, c .before .pre .1 .4, c .before .pre .1 .5, c .before .pre .1 .6))
 
-  pub enum-known-w : lts.Need-enum-known-w (either-claims t) (either-at t) reads.Post
-  enum-known-w c = search needs
+  pub enum-known-on-left : lts.Need-enum-known-on-left (either-claims t) (either-at t) reads.Post
+  enum-known-on-left c = search needs
 
   pub returns : lts.Need-returns (either-claims t) (either-at t) reads.Post
   returns c = let x = c .before .before .before .args in either-stops (x .program .now) (x .script .now) (x .sets .now) (x .numbers .now) (x .chosen .now) (x .top) (x .somes) (x .left) (x .at) (x .limits) (x .c) _ (c .before .visit .ensures) (c .match .keys2)
@@ -36,4 +36,4 @@ module _ (t : ℕ) where
   visit-requires-2 c κs = (omega (arith, c .before .before .before .before .before .before .before .pre .0), (omega (arith, c .before .before .before .before .before .before .before .pre .1 .1), c .before .before .before .before .before .before .before .pre .1 .2, c .before .before .before .before .before .before .before .pre .1 .3, c .before .before .before .before .before .before .before .pre .1 .4, c .before .before .before .before .before .before .before .pre .1 .5, c .before .before .before .before .before .before .before .pre .1 .6))
 
   pub returns-2 : lts.Need-returns-2 (either-claims t) (either-at t) reads.Post
-  returns-2 c = let x = c .before .before .before .before .before .before .before .before .args in either-goes (x .program .now) (x .script .now) (x .sets .now) (x .numbers .now) (x .chosen .now) (x .top) (x .somes) (x .left) (x .at) (x .limits) (x .c) _ _ _ _ (c .before .before .before .before .before .before .visit .ensures) (c .before .before .before .before .w .given .1) (c .before .wide .ensures) (c .visit2 .ensures)
+  returns-2 c = let x = c .before .before .before .before .before .before .before .before .args in either-goes (x .program .now) (x .script .now) (x .sets .now) (x .numbers .now) (x .chosen .now) (x .top) (x .somes) (x .left) (x .at) (x .limits) (x .c) _ _ _ _ (c .before .before .before .before .before .before .visit .ensures) (c .before .before .before .before .on-left .given .1) (c .before .wide .ensures) (c .visit2 .ensures)

@@ -29,7 +29,10 @@ module _ (t : ℕ) where
   rest-requires c κs = not-none _ (c .before .before .loop .inv .0) (c .before .loop-test .taken)
 
   pub next-state-requires : lts.Need-next-state-requires (moves-of-claims t) (moves-of-at t) reads.Post Inv-loop μ-loop
-  next-state-requires c κs = (λ b u e. step-moves (λ (y : ℕ) (z : ℕ). (y < 64) × (z < 64)) _ _ b u e (c .before .before .before .before .before .pre .1 .0, first-low _ _ _ (c .before .before .before .loop .inv .0) (c .before .before .loop-test .taken) (c .before .first .ensures) (c .rest .ensures)), λ i n e. absurd (step-apart _ _ i n e), c .before .before .before .before .before .pre .1 .7)
+  next-state-requires c κs =
+      let a = c .before .before .before .before .before .pre .1 .0 in
+      let f = first-low _ _ _ (c .before .before .before .loop .inv .0) (c .before .before .loop-test .taken) (c .before .first .ensures) (c .rest .ensures) in
+      (λ b u e. step-moves (λ (y : ℕ) (z : ℕ). (y < 64) × (z < 64)) _ _ b u e (omega (arith, a, f), omega (arith, a, f)), λ i n e. absurd (step-apart _ _ i n e), c .before .before .before .before .before .pre .1 .7)
 
   pub visit-requires : lts.Need-visit-requires (moves-of-claims t) (moves-of-at t) reads.Post Inv-loop μ-loop
   visit-requires c κs = (omega (arith, c .before .before .before .before .before .before .before .before .before .pre .0), (omega (arith, c .before .before .before .before .before .before .before .before .before .pre .1 .2), c .before .before .before .before .before .before .before .before .before .pre .1 .3, c .before .before .before .before .before .before .before .before .before .pre .1 .4, c .before .before .before .before .before .before .before .before .before .pre .1 .5, c .before .before .before .before .before .before .before .before .before .pre .1 .6, c .before .before .before .next-state .ensures .0))

@@ -9,14 +9,14 @@ use Rattle.walk.proofs.sometime.Reads as reads
 use Rattle.walk.proofs.+at_name+beside+either+moves_of+negation+placed_in+some_name+sometime+somewhere+split+visit.Proof.Measures.{sometime-at, sometime-claims}
 
 abbrev pub Inv-loop : lts.InvT-loop
-Inv-loop program script sets numbers at top chosen somes left limits found limit now₀ a₀ now a = (a ≤ limit) × (limit ≡ limits .limit) × Acting program script sets numbers chosen top somes left at limits now₀ now a
+Inv-loop program script sets numbers at top chosen somes left limits inner found limit now₀ a₀ now a = (a ≤ limit) × (limit ≡ limits .limit) × Acting program script sets numbers chosen top somes left at limits now₀ now a
 
 abbrev pub μ-loop : lts.MeasureT-loop
-μ-loop program script sets numbers at top chosen somes left limits found limit now₀ a₀ now a = limit - a
+μ-loop program script sets numbers at top chosen somes left limits inner found limit now₀ a₀ now a = limit - a
 
 module _ (t : ℕ) where
-  pub add-visit : lts.Need-add-visit (sometime-claims t) (sometime-at t) reads.Post Inv-loop μ-loop
-  add-visit c = search needs
+  pub add-inner : lts.Need-add-inner (sometime-claims t) (sometime-at t) reads.Post Inv-loop μ-loop
+  add-inner c = search needs
 
   pub visit-requires : lts.Need-visit-requires (sometime-claims t) (sometime-at t) reads.Post Inv-loop μ-loop
   visit-requires c κs = (omega (arith, c .before .pre .0), (omega (arith, c .before .pre .1 .1), c .before .pre .1 .2, c .before .pre .1 .3, c .before .pre .1 .4, c .before .pre .1 .5, c .before .pre .1 .6))
