@@ -3,6 +3,8 @@
 //! The call asks nothing of its caller but that each pointer has so many words behind it and that nothing else uses the
 //! two buffers meanwhile; slices see to both.
 
+pub mod program;
+
 use second::{Answer, Verdict};
 
 extern "C" {
