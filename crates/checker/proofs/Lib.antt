@@ -8,3 +8,5 @@ pub mod ClosureRuns
 pub mod Listed
 pub mod Ending
 pub mod Called
+pub mod Calling
+pub mod Concluding

@@ -581,7 +581,7 @@ pub fn place_part(
     i: usize,
     name: u32,
 ) -> Placed
-    requires { ⌜ (i < 64) × (name < 65536) × Ready (now script) kinds starts state ⌝ }
+    requires { ⌜ (i < 64) × (name < 536870912) × Ready (now script) kinds starts state ⌝ }
     ensures ready { λ r. ⌜ Ready (now (script .entry)) (r .kinds) (r .starts) (r .state) × (boundIn (now (script .entry)) (r .state) ≡ boundIn (now (script .entry)) state) ⌝ }
     ensures placed { λ r. ⌜ ((weight spent : ℕ) (b : Closure) → Represents (now (script .entry)) kinds starts weight spent state b → count i b ≡ 0 → weight < 64 → Represents (now (script .entry)) (r .kinds) (r .starts) (weight + 1) spent (r .state) (part i (ambient (named name)) b close)) ⌝ }
 {

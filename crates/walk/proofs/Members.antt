@@ -180,7 +180,7 @@ module _ (program script sets numbers choices : List ℕ) (top somes left index 
 
   -- the name that the word says
   name-is : (X : Here) → somes ≤ 8 → (said : ℕ) → said ≡ nameSaid choices (termOf (operand (getD program index 0))) → Said (X .words) (indices (X .names)) index (termOf (operand (getD (X .words) index 0)))
-      → (said ≡ termName (X .names) (termOf (operand (getD (X .words) index 0)))) × (said ≤ 263)
+      → (said ≡ termName (X .names) (termOf (operand (getD (X .words) index 0)))) × (said < 536870912)
   name-is X d said en S =
       let t = name-told (X .words) (indices (X .names)) index (termOf (operand (getD (X .words) index 0))) S (limits .greatest) somes (X .names) choices refl (X .stage .named) (X .stage .greatest) d in
       let e : said ≡ nameSaid choices (termOf (operand (getD (X .words) index 0))) = en ∙ ap (λ (x : ℕ). nameSaid choices (termOf (operand x))) (X .loaded .word index (scene-inside program script sets numbers choices top somes (suc left) index limits X)) in
@@ -272,7 +272,7 @@ module _ (program script sets numbers choices : List ℕ) (top somes left index 
       let (q, eq, ej, R, s, low) = told X 9 e in
       absurd (let z : ⊥ = omega (arith, number-is X, low, X .stage .limited, X .stage .few) in z)
 
-  pub placed-name : somes ≤ 8 → (said : ℕ) → said ≡ nameSaid choices (termOf (operand (getD program index 0))) → 65536 ≤ said → (r : Walked) → Looks program script sets numbers choices top somes left index limits c r 9
+  pub placed-name : somes ≤ 8 → (said : ℕ) → said ≡ nameSaid choices (termOf (operand (getD program index 0))) → 536870912 ≤ said → (r : Walked) → Looks program script sets numbers choices top somes left index limits c r 9
   placed-name small said en h r X e =
       let (q, eq, ej, R, s, low) = told X 9 e in
       let b = name-is X small said en s .1 in

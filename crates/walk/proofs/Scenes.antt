@@ -283,8 +283,8 @@ module _ (program script sets numbers choices : List ℕ) (top somes left index 
     }
 
 -- the name that a term says is the chosen one, and is small
-pub name-told : (words somes : List ℕ) (i : ℕ) (t : Term) → Said words somes i t → (greatest d : ℕ) (e : Names) (choices : List ℕ) → somes ≡ indices e → Chosen greatest e choices d → greatest ≤ 255 → d ≤ 8
-    → (nameSaid choices t ≡ termName e t) × (nameSaid choices t ≤ 263)
+pub name-told : (words somes : List ℕ) (i : ℕ) (t : Term) → Said words somes i t → (greatest d : ℕ) (e : Names) (choices : List ℕ) → somes ≡ indices e → Chosen greatest e choices d → greatest < 268435456 → d ≤ 8
+    → (nameSaid choices t ≡ termName e t) × (nameSaid choices t < 536870912)
 unfolding nameSaid termName termWord
 name-told words somes i (constant n) S greatest d e choices es C g s = (refl, let b = constant-said words somes i (constant n) S n term-is .2 in omega (arith, b))
   where

@@ -77,7 +77,7 @@ pub record Stage (words : List ℕ) (table : RuleTable) (script kinds starts : L
   pub within : limits .parts + from ≤ limits .limit
   pub limited : limits .limit ≡ limits .parts + table .count
   pub few : limits .limit ≤ 64
-  pub greatest : limits .greatest ≤ 255
+  pub greatest : limits .greatest < 268435456
   pub short : length words ≤ 256
   pub ruled : Ruled words table (indices e) q
   pub stood : ruleIndex q ≡ index

@@ -236,7 +236,7 @@ fn place_within<'a>(
     i: usize,
     name: u32,
 ) -> Standing
-    requires { ⌜ (i < 64) × (name < 65536) × Lendable (now script) (now sets) (now numbers) top ⌝ }
+    requires { ⌜ (i < 64) × (name < 536870912) × Lendable (now script) (now sets) (now numbers) top ⌝ }
     ensures lends { λ r. ⌜ Lendable (now (script .entry)) (r .sets) (r .numbers) (r .top) ⌝ }
     ensures bound { λ r. ⌜ boundIn (now (script .entry)) (stateIn (r .sets) (r .numbers) (r .top)) ≡ boundIn (now (script .entry)) (stateIn (now (sets .entry)) (now (numbers .entry)) top) ⌝ }
     ensures placed { λ r. ⌜ ((weight spent : ℕ) (b : Closure) → Represents (now (script .entry)) (kindsIn (now (numbers .entry))) (startsIn (now (numbers .entry))) weight spent (stateIn (now (sets .entry)) (now (numbers .entry)) top) b → count i b ≡ 0 → weight < 64 → Represents (now (script .entry)) (kindsIn (r .numbers)) (startsIn (r .numbers)) (weight + 1) spent (stateIn (r .sets) (r .numbers) (r .top)) (part i (ambient (called name)) b close)) ⌝ }
@@ -259,7 +259,7 @@ fn next_state<'a>(
     places: &'a [usize; 64],
     step: Step,
 ) -> Standing
-    requires { ⌜ ((a t : ℕ) → step ≡ Move a t → (a < 64) × (t < 64)) × ((i n : ℕ) → step ≡ Place i n → (i < 64) × (n < 65536)) × Lendable (now script) (now sets) (now numbers) top ⌝ }
+    requires { ⌜ ((a t : ℕ) → step ≡ Move a t → (a < 64) × (t < 64)) × ((i n : ℕ) → step ≡ Place i n → (i < 64) × (n < 536870912)) × Lendable (now script) (now sets) (now numbers) top ⌝ }
     ensures lends { λ r. ⌜ Lendable (now (script .entry)) (r .sets) (r .numbers) (r .top) ⌝ }
     ensures made { λ r. ⌜ ((a t : ℕ) → step ≡ Move a t → (kindsIn (r .numbers) ≡ kindsIn (now (numbers .entry))) × (startsIn (r .numbers) ≡ startsIn (now (numbers .entry))) × Moves (now (script .entry)) (kindsIn (now (numbers .entry))) (startsIn (now (numbers .entry))) (stateIn (now (sets .entry)) (now (numbers .entry)) top) (stateIn (r .sets) (r .numbers) (r .top)) (λ i. getD (now (places .entry)) i 0) a t) ⌝ }
     ensures placed { λ r. ⌜ ((i n : ℕ) → step ≡ Place i n → (boundIn (now (script .entry)) (stateIn (r .sets) (r .numbers) (r .top)) ≡ boundIn (now (script .entry)) (stateIn (now (sets .entry)) (now (numbers .entry)) top)) × ((weight spent : ℕ) (b : Closure) → Represents (now (script .entry)) (kindsIn (now (numbers .entry))) (startsIn (now (numbers .entry))) weight spent (stateIn (now (sets .entry)) (now (numbers .entry)) top) b → count i b ≡ 0 → weight < 64 → Represents (now (script .entry)) (kindsIn (r .numbers)) (startsIn (r .numbers)) (weight + 1) spent (stateIn (r .sets) (r .numbers) (r .top)) (part i (ambient (called n)) b close))) ⌝ }
@@ -284,7 +284,7 @@ fn visit<'a>(
     limits: Limits,
     c: Counts,
 ) -> Walked
-    requires { ⌜ (left ≤ 256) × (somes ≤ 8) × (limits .limit ≤ 64) × (limits .parts ≤ 64) × (limits .greatest ≤ 255) × Lendable (now script) (now sets) (now numbers) top ⌝ }
+    requires { ⌜ (left ≤ 256) × (somes ≤ 8) × (limits .limit ≤ 64) × (limits .parts ≤ 64) × (limits .greatest < 268435456) × Lendable (now script) (now sets) (now numbers) top ⌝ }
     ensures { λ r. ⌜ Answers (now (program .entry)) (now (script .entry)) (now (sets .entry)) (now (numbers .entry)) (now (chosen .entry)) top somes left at limits c r ⌝ }
 {
     let visits = c.visits;
@@ -425,7 +425,7 @@ fn negation<'a>(
     limits: Limits,
     c: Counts,
 ) -> Walked
-    requires { ⌜ (at < 256) × (left ≤ 255) × (somes ≤ 8) × (limits .limit ≤ 64) × (limits .parts ≤ 64) × (limits .greatest ≤ 255) × Lendable (now script) (now sets) (now numbers) top ⌝ }
+    requires { ⌜ (at < 256) × (left ≤ 255) × (somes ≤ 8) × (limits .limit ≤ 64) × (limits .parts ≤ 64) × (limits .greatest < 268435456) × Lendable (now script) (now sets) (now numbers) top ⌝ }
     ensures { λ r. ⌜ Finds (now (program .entry)) (now (script .entry)) (now (sets .entry)) (now (numbers .entry)) (now (chosen .entry)) top somes left at limits c r 1 ⌝ }
 {
     let w = visit(
@@ -458,7 +458,7 @@ fn either<'a>(
     limits: Limits,
     c: Counts,
 ) -> Walked
-    requires { ⌜ (at < 256) × (left ≤ 255) × (somes ≤ 8) × (limits .limit ≤ 64) × (limits .parts ≤ 64) × (limits .greatest ≤ 255) × Lendable (now script) (now sets) (now numbers) top ⌝ }
+    requires { ⌜ (at < 256) × (left ≤ 255) × (somes ≤ 8) × (limits .limit ≤ 64) × (limits .parts ≤ 64) × (limits .greatest < 268435456) × Lendable (now script) (now sets) (now numbers) top ⌝ }
     ensures { λ r. ⌜ Finds (now (program .entry)) (now (script .entry)) (now (sets .entry)) (now (numbers .entry)) (now (chosen .entry)) top somes left at limits c r 2 ⌝ }
 {
     let w = visit(
@@ -507,7 +507,7 @@ fn at_name<'a>(
     limits: Limits,
     c: Counts,
 ) -> Walked
-    requires { ⌜ (at < 256) × (left ≤ 255) × (somes ≤ 8) × (limits .limit ≤ 64) × (limits .parts ≤ 64) × (limits .greatest ≤ 255) × Lendable (now script) (now sets) (now numbers) top ⌝ }
+    requires { ⌜ (at < 256) × (left ≤ 255) × (somes ≤ 8) × (limits .limit ≤ 64) × (limits .parts ≤ 64) × (limits .greatest < 268435456) × Lendable (now script) (now sets) (now numbers) top ⌝ }
     ensures { λ r. ⌜ Finds (now (program .entry)) (now (script .entry)) (now (sets .entry)) (now (numbers .entry)) (now (chosen .entry)) top somes left at limits c r 4 ⌝ }
 {
     if sets::is_single(top) {
@@ -548,7 +548,7 @@ fn split<'a>(
     c: Counts,
     share: u64,
 ) -> Walked
-    requires { ⌜ (at < 256) × (left ≤ 255) × (somes ≤ 8) × (limits .limit ≤ 64) × (limits .parts ≤ 64) × (limits .greatest ≤ 255) × Lendable (now script) (now sets) (now numbers) top ⌝ }
+    requires { ⌜ (at < 256) × (left ≤ 255) × (somes ≤ 8) × (limits .limit ≤ 64) × (limits .parts ≤ 64) × (limits .greatest < 268435456) × Lendable (now script) (now sets) (now numbers) top ⌝ }
     ensures { λ r. ⌜ Splits (now (program .entry)) (now (script .entry)) (now (sets .entry)) (now (numbers .entry)) (now (chosen .entry)) top somes left at limits c r share ⌝ }
 {
     let w = visit(
@@ -598,7 +598,7 @@ fn beside<'a>(
     limits: Limits,
     c: Counts,
 ) -> Walked
-    requires { ⌜ (at < 256) × (left ≤ 255) × (somes ≤ 8) × (limits .limit ≤ 64) × (limits .parts ≤ 64) × (limits .greatest ≤ 255) × Lendable (now script) (now sets) (now numbers) top ⌝ }
+    requires { ⌜ (at < 256) × (left ≤ 255) × (somes ≤ 8) × (limits .limit ≤ 64) × (limits .parts ≤ 64) × (limits .greatest < 268435456) × Lendable (now script) (now sets) (now numbers) top ⌝ }
     ensures { λ r. ⌜ Finds (now (program .entry)) (now (script .entry)) (now (sets .entry)) (now (numbers .entry)) (now (chosen .entry)) top somes left at limits c r 5 ⌝ }
 {
     let mut now = c;
@@ -654,7 +654,7 @@ fn some_name<'a>(
     limits: Limits,
     c: Counts,
 ) -> Walked
-    requires { ⌜ (at < 256) × (left ≤ 255) × (somes ≤ 8) × (limits .limit ≤ 64) × (limits .parts ≤ 64) × (limits .greatest ≤ 255) × Lendable (now script) (now sets) (now numbers) top ⌝ }
+    requires { ⌜ (at < 256) × (left ≤ 255) × (somes ≤ 8) × (limits .limit ≤ 64) × (limits .parts ≤ 64) × (limits .greatest < 268435456) × Lendable (now script) (now sets) (now numbers) top ⌝ }
     ensures { λ r. ⌜ Finds (now (program .entry)) (now (script .entry)) (now (sets .entry)) (now (numbers .entry)) (now (chosen .entry)) top somes left at limits c r 6 ⌝ }
 {
     if 8 <= somes {
@@ -704,7 +704,7 @@ fn moves_of<'a>(
     a: usize,
     aim: u64,
 ) -> Walked
-    requires { ⌜ (a < 64) × (at < 256) × (left ≤ 255) × (somes ≤ 8) × (limits .limit ≤ 64) × (limits .parts ≤ 64) × (limits .greatest ≤ 255) × Lendable (now script) (now sets) (now numbers) top ⌝ }
+    requires { ⌜ (a < 64) × (at < 256) × (left ≤ 255) × (somes ≤ 8) × (limits .limit ≤ 64) × (limits .parts ≤ 64) × (limits .greatest < 268435456) × Lendable (now script) (now sets) (now numbers) top ⌝ }
     ensures { λ r. ⌜ Tries (now (program .entry)) (now (script .entry)) (now (sets .entry)) (now (numbers .entry)) (now (chosen .entry)) top somes left at limits c r (now (places .entry)) a aim ⌝ }
 {
     let mut now = c;
@@ -750,7 +750,7 @@ fn sometime<'a>(
     limits: Limits,
     c: Counts,
 ) -> Walked
-    requires { ⌜ (at < 256) × (left ≤ 255) × (somes ≤ 8) × (limits .limit ≤ 64) × (limits .parts ≤ 64) × (limits .greatest ≤ 255) × Lendable (now script) (now sets) (now numbers) top ⌝ }
+    requires { ⌜ (at < 256) × (left ≤ 255) × (somes ≤ 8) × (limits .limit ≤ 64) × (limits .parts ≤ 64) × (limits .greatest < 268435456) × Lendable (now script) (now sets) (now numbers) top ⌝ }
     ensures { λ r. ⌜ Finds (now (program .entry)) (now (script .entry)) (now (sets .entry)) (now (numbers .entry)) (now (chosen .entry)) top somes left at limits c r 7 ⌝ }
 {
     let w = visit(
@@ -814,7 +814,7 @@ fn somewhere<'a>(
     limits: Limits,
     c: Counts,
 ) -> Walked
-    requires { ⌜ (at < 256) × (left ≤ 255) × (somes ≤ 8) × (limits .limit ≤ 64) × (limits .parts ≤ 64) × (limits .greatest ≤ 255) × Lendable (now script) (now sets) (now numbers) top ⌝ }
+    requires { ⌜ (at < 256) × (left ≤ 255) × (somes ≤ 8) × (limits .limit ≤ 64) × (limits .parts ≤ 64) × (limits .greatest < 268435456) × Lendable (now script) (now sets) (now numbers) top ⌝ }
     ensures { λ r. ⌜ Finds (now (program .entry)) (now (script .entry)) (now (sets .entry)) (now (numbers .entry)) (now (chosen .entry)) top somes left at limits c r 8 ⌝ }
 {
     let w = visit(
@@ -875,7 +875,7 @@ fn placed_in<'a>(
     limits: Limits,
     c: Counts,
 ) -> Walked
-    requires { ⌜ (at < 256) × (left ≤ 255) × (somes ≤ 8) × (limits .limit ≤ 64) × (limits .parts ≤ 64) × (limits .greatest ≤ 255) × Lendable (now script) (now sets) (now numbers) top ⌝ }
+    requires { ⌜ (at < 256) × (left ≤ 255) × (somes ≤ 8) × (limits .limit ≤ 64) × (limits .parts ≤ 64) × (limits .greatest < 268435456) × Lendable (now script) (now sets) (now numbers) top ⌝ }
     ensures { λ r. ⌜ Finds (now (program .entry)) (now (script .entry)) (now (sets .entry)) (now (numbers .entry)) (now (chosen .entry)) top somes left at limits c r 9 ⌝ }
 {
     let number = wide(program[512 + at]);
@@ -887,7 +887,7 @@ fn placed_in<'a>(
     if 64 <= i {
         return Walked::Stopped(12, at, c.visits);
     }
-    if 65536 <= name {
+    if 536870912 <= name {
         return Walked::Stopped(8, at, c.visits);
     }
     let nowhere: [usize; 64] = [65; 64];
@@ -946,7 +946,7 @@ pub fn walk_rule<'a>(
     state: State,
     limits: Limits,
 ) -> Walked
-    requires { ⌜ (limits .limit ≤ 64) × (limits .parts ≤ 64) × (limits .greatest ≤ 255) × Ready (now script) kinds starts state ⌝ }
+    requires { ⌜ (limits .limit ≤ 64) × (limits .parts ≤ 64) × (limits .greatest < 268435456) × Ready (now script) kinds starts state ⌝ }
     ensures { λ r. ⌜ Walks (now (rule .entry)) table (now (script .entry)) kinds starts state limits r ⌝ }
 {
     let rights = table.rights;

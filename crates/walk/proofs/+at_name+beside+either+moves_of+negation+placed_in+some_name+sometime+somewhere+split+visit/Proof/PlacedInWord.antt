@@ -44,7 +44,7 @@ module _ (t : ℕ) where
   returns-3 c = let x = c .before .before .before .before .before .before .before .before .before .args in placed-name (x .program .now) (x .script .now) (x .sets .now) (x .numbers .now) (x .chosen .now) (x .top) (x .somes) (x .left) (x .at) (x .limits) (x .c) (c .before .before .before .before .before .before .before .before .before .pre .1 .2) _ (c .before .before .name-said .ensures) (c .if3 .taken) _
 
   pub next-state-requires : lts.Need-next-state-requires (placed-in-claims t) (placed-in-at t) reads.Post
-  next-state-requires c κs = (λ b u e. absurd (step-apart b u _ _ (sym e)), λ j n e. step-places (λ (y : ℕ) (z : ℕ). (y < 64) × (z < 65536)) _ _ j n e (omega (arith, c .before .before .if2 .left), omega (arith, c .before .if3 .left)), c .before .before .before .before .before .before .before .before .before .before .pre .1 .6)
+  next-state-requires c κs = (λ b u e. absurd (step-apart b u _ _ (sym e)), λ j n e. step-places (λ (y : ℕ) (z : ℕ). (y < 64) × (z < 536870912)) _ _ j n e (omega (arith, c .before .before .if2 .left), omega (arith, c .before .if3 .left)), c .before .before .before .before .before .before .before .before .before .before .pre .1 .6)
 
   pub add-visit : lts.Need-add-visit (placed-in-claims t) (placed-in-at t) reads.Post
   add-visit c = search needs

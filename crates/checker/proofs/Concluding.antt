@@ -1,0 +1,111 @@
+-- The end of the call: the walk's answer on the state that stands is the call's, and so decided by the paper's own relation.
+-- Assumes nothing.
+use Prim.Native.Nat.{ℕ, _+_, _≤_, max}
+use mathlib.Core.Bool.{true, false}
+use mathlib.Core.List.{List}
+use mathlib.Core.Path.{_≡_, refl, sym, ap, _∙_, subst}
+use native.Mathlib.Omega.{arith}
+use lib.Dec.{eqb}
+use lib.ListN.{length}
+use borrow.Author.Tests.{leb-true}
+use Rattle.messages.specs.Reading.{Cursor, got}
+use Rattle.scripts.specs.Tree.{one, count}
+use Rattle.scripts.specs.Script.{Script, readScript}
+use Rattle.scripts.specs.Measures.{greatestName, movesBound}
+use Rattle.scripts.specs.declared.Table.{Table}
+use Rattle.machine.proofs.Sums.{map-sum}
+use Rattle.rules.specs.Rule.{greatestRuleName}
+use Rattle.rules.specs.ReadRule.{readWholeRule}
+use Rattle.rules.specs.declared.RuleTable.{RuleTable}
+use Rattle.closure_machine.specs.Closure.{unfoldHead, unfolded, unfoldMachine}
+use Rattle.closures.specs.Represents.{boundIn}
+use Rattle.closures.specs.declared.State.{State}
+use Rattle.writer.specs.Bodies.{Scripted}
+use Rattle.decision.specs.Walk.{walkFrom}
+use Rattle.decision.specs.ClosureWalk.{closureSpace}
+use Rattle.walk.specs.Visits.{walkedOf, Walks}
+use Rattle.walk.specs.declared.Walked.{Walked}
+use Rattle.walk.proofs.Order.{rule-ordered}
+use Rattle.checker.specs.Call.{Call, Verdict, accepted, refused, walked, setting, answer}
+use Rattle.checker.specs.Call as plain
+use Rattle.checker.specs.ClosureCall.{moved, closureRun, unfoldRan, begun}
+use Rattle.checker.specs.Answering.{verdictOf, answerOf, callOf}
+use Rattle.checker.specs.declared.Answer.{Answer}
+use Rattle.checker.specs.Calling.{Stands}
+use Rattle.checker.specs.Standing.{Standing, Decides, WeightHolds}
+use Rattle.checker.proofs.ClosureRuns.{started-unfolded, moves-bounded}
+use Rattle.checker.proofs.Runs.{weight-holds}
+use Rattle.checker.proofs.Called.{answers-walked}
+use Rattle.checker.proofs.Verdicts.{answer-stands, standing-good, verdict-yes, verdict-no}
+use Rattle.checker.proofs.Calling.{number-is}
+
+-- ---- questions 17 to 19
+
+module _ (script moves words : List ℕ) (patience : ℕ) (buffer : List ℕ) (t : Table) (u : RuleTable) (s : State) (S : Stands script moves words patience t u s) where
+  abbrev c : Call
+  c = callOf script moves words patience buffer
+
+  abbrev n : ℕ
+  n = S .held .read .1 .number
+
+  number : t .count ≡ n
+  number = number-is script t (S .held)
+
+  rule-reads : readWholeRule n words ≡ got (S .ruled .read)
+  rule-reads = subst (λ (k : ℕ). readWholeRule k words ≡ got (S .ruled .read)) number (S .ruled .reads)
+
+  made : closureRun n 0 moves (begun (S .held .read .0)) ≡ moved (S .machine)
+  made = subst (λ (k : ℕ). closureRun k 0 moves (begun (S .held .read .0)) ≡ moved (S .machine)) number (S .runs)
+
+  standing : Standing c
+  unfolding unfoldRan
+  standing = record {
+    script = S .held .read;
+    rule = S .ruled .read;
+    machine = unfoldMachine (S .machine);
+    script-read = S .held .reads;
+    rule-read = rule-reads;
+    moves-made = started-unfolded script (S .held .read) (S .held .reads) n moves ∙ ap unfoldRan made;
+  }
+
+  -- no part has a number from n on
+  below : (i : ℕ) → t .count ≤ i → count i (S .machine .tree) ≡ 0
+  unfolding unfoldMachine unfolded standing
+  below i l =
+      let z : n ≤ i = omega (arith, number) in
+      sym (map-sum (λ k h. one (eqb i k)) (unfoldHead (S .machine .bindings)) (S .machine .tree)) ∙ standing-good c standing .below i z
+
+  short : length moves ≤ 4096
+  short = leb-true (length moves) 4096 (S .few)
+
+  pub script-fits : Scripted (t .starts) (s .offsets)
+  script-fits = record { placed = λ i. omega (arith, S .held .tabled .low i); spent = λ i. omega (arith, S .stands .spends i, short) }
+
+  -- THEOREM: what the engine's walk answers, with the tree that stands, is the call's answer.
+  pub walk-answers : (greatest : ℕ) → greatest ≡ max (greatestName script) (greatestRuleName words) → (w : Walked)
+      → Walks words u script (t .kinds) (t .starts) s (record { patience = patience; greatest = greatest; parts = t .count; limit = t .count + u .count }) w
+      → walked c (unfoldMachine (record { tree = S .machine .tree; bindings = boundIn script s })) (walkedOf w) ≡ answer c
+  walk-answers g e w W =
+      let x = W (t .count) (length moves) (S .machine .tree) (S .ruled .read) (S .ruled .tabled) (rule-ordered (t .count) words (S .ruled .read) (S .ruled .reads)) refl (S .stands) (omega arith) below (omega (arith, short)) in
+      let k : u .count ≡ S .ruled .read .1 .number = S .ruled .tabled .counted in
+      let d : walkedOf w ≡ walkFrom (closureSpace (n + S .ruled .read .1 .number)) (setting c n) (S .ruled .read .0) (record { tree = S .machine .tree; bindings = S .machine .bindings })
+      = x ∙ (λ i. walkFrom (closureSpace (number i + k i)) (record { patience = patience; greatest = e i; parts = number i }) (S .ruled .read .0) (record { tree = S .machine .tree; bindings = S .bound i })) in
+      (λ i. walked c (unfoldMachine (record { tree = S .machine .tree; bindings = S .bound i })) (d i)) ∙ sym (answers-walked c (S .held .read) (S .held .reads) (S .ruled .read) rule-reads (S .calm) (S .few) (S .machine) made)
+
+-- ---- demand 2
+
+-- THEOREM: what the call answers is decided by the paper's own relation.
+pub decides : (c : Call) (v : Verdict) → answer c .verdict ≡ v → Decides c v
+decides c (accepted true) e = let s = answer-stands c true e in (s, verdict-yes c s e)
+decides c (accepted false) e = let s = answer-stands c false e in (s, verdict-no c s e)
+decides c (refused q i) e = tt
+
+-- THEOREM: an answer that is the plain machine's, with the buffer, is decided by the paper's own relation and keeps the bound
+-- and the weight.
+pub call-kept : (c : Call) (r : Answer) (b : List ℕ) → answerOf r b ≡ answer c
+    → (answerOf r b ≡ answer c) × (Decides c (verdictOf (r .verdict)) × (((p : Script × Cursor) → readScript (c .script) ≡ got p → r .moves ≤ movesBound (p .0)) × WeightHolds c))
+unfolding answerOf
+call-kept c r b e =
+    let d : Decides c (verdictOf (r .verdict)) = decides c (verdictOf (r .verdict)) (sym (ap (λ (a : plain.Answer). a .verdict) e)) in
+    let m : (p : Script × Cursor) → readScript (c .script) ≡ got p → r .moves ≤ movesBound (p .0) = λ p x. subst (λ (k : ℕ). k ≤ movesBound (p .0)) (sym (ap (λ (a : plain.Answer). a .moves) e)) (moves-bounded c p x) in
+    (e, (d, (m, weight-holds c)))
