@@ -103,7 +103,12 @@ fn reply_with_rule<'a>(
 }
 
 // "rule count, rule"
-fn reply_with_moves<'a>(script: &'a [u32], moves: &'a [u32], s: &'a [u32], text: &mut [u8]) -> usize {
+fn reply_with_moves<'a>(
+    script: &'a [u32],
+    moves: &'a [u32],
+    s: &'a [u32],
+    text: &mut [u8],
+) -> usize {
     let c = counted(s);
     let Counted::Words(n) = c else {
         return put_unfit(text);
