@@ -1,0 +1,4 @@
+-- The laws of the program's text and input.
+pub mod Putting
+pub mod Numbers
+pub mod Reading
