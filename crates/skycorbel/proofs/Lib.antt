@@ -2,3 +2,6 @@
 pub mod Putting
 pub mod Numbers
 pub mod Reading
+pub mod Answers
+pub mod Replies
+pub mod Bounds

@@ -20,6 +20,10 @@ decimal-more : (k n : ℕ) → 10 ≤ n → decimalBy k (n / 10) ++ ((48 + n % 1
 unfolding decimalBy
 decimal-more k n l = rw (le-ltb n 10 l) refl
 
+-- twenty digits hold every number of 64 bits
+pub twenty-digits : (n : ℕ) → n < 18446744073709551616 → n < 10 ^ 20
+twenty-digits n l = omega (arith, l)
+
 -- the last digit behind the others
 pub puts-decimal : (a b c : List ℕ) (i j r n : ℕ) → 10 ≤ n
     → ((k : ℕ) → n / 10 < 10 ^ suc k → Puts a b i j (decimalBy (suc k) (n / 10)))

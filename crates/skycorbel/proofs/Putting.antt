@@ -27,6 +27,7 @@ puts-more a b c i j k p q x y = (y .0 ∙ x .0, λ h. more h)
   where
     long : length (p ++ q) ≡ length p + length q
     long = length-append p q
+
     more : i + length (p ++ q) ≤ length a → (k ≡ i + length (p ++ q)) × (take k c ≡ take i a ++ (p ++ q))
     more h =
         let u = x .1 (omega (arith, h, long)) in

@@ -47,10 +47,9 @@ pub unpacked-next : (old new input : List ℕ) (count i v : ℕ) → i < count �
 unpacked-next old new input count i v l m k e u =
     let a : 0 + i < length old = omega arith in
     let b : i < length (wordsOf count input) = subst (λ (n : ℕ). i < n) (sym (length-words count input)) l in
-    let d : v ≡ getD (wordsOf count input) i 0 = e ∙ sym (getD-words count i input l) in
-    (
+    let d : v ≡ getD (wordsOf count input) i 0 = e ∙ sym (getD-words count i input l) in (
       k ∙ u .0,
-      (λ t. set (u .1 t) (sym (zero-add i) t) (d t)) ∙ paste-suc old 0 (wordsOf count input) i 0 a b ∙ ap (λ (n : ℕ). paste old 0 (wordsOf count input) n) (sym (add-one i))
+      (λ t. set (u .1 t) (sym (zero-add i) t) (d t)) ∙ paste-suc old 0 (wordsOf count input) i 0 a b ∙ ap (λ (n : ℕ). paste old 0 (wordsOf count input) n) (sym (add-one i)),
     )
 
 pub unpacked-all : (old new input : List ℕ) (count : ℕ) (i : ℕ) → count ≤ i → i ≤ count → Unpacked old new input count i → take count new ≡ wordsOf count input

@@ -14,6 +14,7 @@ ghost use mathlib.Core.Path.{_≡_};
 ghost use mathlib.Core.List.{List, _++_};
 ghost use Prim.Native.Nat.{ℕ, _+_, _*_, _≤_, _<_};
 ghost use lib.ListN.{length, take, drop};
+ghost use Rattle.io.specs.Counts.{Counts};
 ghost use Rattle.checker.specs.Answering.{answerOf};
 ghost use Rattle.skycorbel.specs.Text.{decimal, refusalText, countsText, answerText, Puts};
 ghost use Rattle.skycorbel.specs.Text.{lines};
@@ -214,8 +215,10 @@ fn reply_to_bytes(input: &[u8], count: usize, text: &mut [u8]) -> usize
 }
 
 // What the program writes for what it reads. "else, or above 24,576 bytes, it prints `refused 20 at 0`."
-fn reply(input: &[u8], text: &mut [u8; 40960]) -> usize
-    ensures { λ r. ⌜ (r ≤ 40960) × (take r (now (text .exit)) ≡ replyOf (now (input .entry))) ⌝ }
+fn reply(input: &[u8], text: &mut [u8]) -> usize
+    requires { ⌜ 40960 ≤ length (now text) ⌝ }
+    ensures counted { λ r. ⌜ Counts r (now (text .exit)) ⌝ }
+    ensures replied { λ r. ⌜ take r (now (text .exit)) ≡ replyOf (now (input .entry)) ⌝ }
 {
     let n = input.len();
     if 24576 < n {
