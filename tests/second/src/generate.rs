@@ -952,3 +952,15 @@ fn doubling(random: &mut Random, case: &mut Case) {
     case.rule = vec![SOMETIME, AT | 2, VOID];
     case.patience = 40;
 }
+
+/// n receipts one after another, each giving the next one its variable twice; the last message is an action's.
+pub fn doubled(receipts: u32) -> (Vec<u32>, Vec<u32>) {
+    let mut script = vec![OUT, IN, NAME | 1];
+    for _ in 0..receipts {
+        let variable = VAR | script.len() as u32;
+        script.extend([REC, OUT, PATH, variable, variable]);
+    }
+    script.extend(vec![0; receipts as usize + 1]);
+    let moves = (0..receipts).map(|k| move_word(2 * k + 1, 2 * k)).collect();
+    (script, moves)
+}

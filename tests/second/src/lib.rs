@@ -9,6 +9,7 @@ pub mod machine;
 pub mod program;
 pub mod rule;
 pub mod script;
+pub mod slip;
 pub mod walk;
 pub mod writer;
 

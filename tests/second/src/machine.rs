@@ -1,6 +1,7 @@
 //! "The plain machine": settling, the moves that are possible, and making one.
 
 use crate::script::{Body, Head, Message, Part};
+use crate::slip::{made, Slip};
 
 /// The most words that the messages of one tree may have. Receipts can double messages again and again, and every
 /// message is copied whole: a call that would go beyond is given up, not answered.
@@ -18,13 +19,18 @@ pub fn settle(body: Body) -> Body {
     let mut settled = Vec::new();
     for part in body {
         match &part.head {
-            Head::Action(items) if items.is_empty() => settled.extend(settle(part.body)),
+            Head::Action(items) if has_none(items) => settled.extend(settle(part.body)),
             Head::Ambient(_) => settled.push(Part { body: settle(part.body), ..part }),
+            Head::Receipt(_) if made(Slip::DropUnderReceipt) => settled.push(Part { body: settle(part.body), ..part }),
             Head::Action(_) | Head::Receipt(_) | Head::Output(_) => settled.push(part),
         }
     }
     sort(&mut settled);
     settled
+}
+
+fn has_none(items: &[Message]) -> bool {
+    items.is_empty() || made(Slip::LengthOverflows) && items.len() as u8 == 0
 }
 
 fn sort(body: &mut Body) {
@@ -68,7 +74,7 @@ fn gather(body: &Body, around: &[&Around], moves: &mut Vec<Move>) {
                     moves.push((part.number, target.number));
                 }
             }
-            Head::Ambient(_) if ambient_name(part).is_some() => {
+            Head::Ambient(_) if ambient_name(part).is_some() || made(Slip::MoveInsideUnnamed) => {
                 let here = Around { ambient: part, beside: body };
                 let mut deeper = around.to_vec();
                 deeper.push(&here);
@@ -189,6 +195,7 @@ fn substitute(body: &Body, variable: u32, message: &Message) -> Body {
 fn substitute_head(head: &Head, variable: u32, message: &Message) -> Head {
     match head {
         Head::Ambient(own) => Head::Ambient(own.substitute(variable, message)),
+        Head::Output(Message::Var(_)) if made(Slip::StopAtVariable) => Head::Output(Message::Empty),
         Head::Output(own) => Head::Output(own.substitute(variable, message)),
         Head::Receipt(own) => Head::Receipt(*own),
         Head::Action(items) => {

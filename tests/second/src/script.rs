@@ -1,5 +1,6 @@
 //! "The script and its messages": messages, parts, and the reader that asks questions 1 to 6.
 
+use crate::slip::{made, Slip};
 use crate::Refusal;
 
 /// A message as an owned tree; nothing in it is shared.
@@ -158,6 +159,9 @@ impl Reader<'_> {
             }
             at_most_64(nesting, index)?;
             if kind == 0 {
+                if made(Slip::FirstPartOnly) {
+                    body.truncate(1);
+                }
                 return Ok(body);
             }
             body.push(self.part(kind, index, nesting)?);

@@ -3,6 +3,7 @@
 use crate::machine::{ambient_name, make_move, possible_moves, TooLarge};
 use crate::rule::{Kind, Name, Rule};
 use crate::script::{Body, Head, Message, Part};
+use crate::slip::{made, Slip};
 use crate::Refusal;
 
 /// Why a walk ends without yes or no.
@@ -91,7 +92,8 @@ impl Walk {
 
     /// "names 1 to G + d in order".
     fn some(&mut self, index: u32, d: u32, inner: &Rule, process: &Body, deeper: u32) -> Result<bool, Stop> {
-        for name in 1..=self.greatest_name + d {
+        let fresh = if made(Slip::NamesInUse) { 0 } else { d };
+        for name in 1..=self.greatest_name + fresh {
             self.names.push((index, name));
             let yes = self.visit(inner, process, deeper)?;
             self.names.pop();

@@ -1,7 +1,7 @@
 //! Each question at the door, with a no at and one beyond its limit, and the order in which they are asked.
 
-use second::program::printed;
-use second::{call, Answer, Call, Verdict};
+use super::checker::{call, printed};
+use second::{Answer, Call, Verdict};
 
 const AMB: u32 = 0x1000_0000;
 const ACT: u32 = 0x2000_0000;

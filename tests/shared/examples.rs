@@ -1,7 +1,8 @@
 //! The examples of document 01, starred and unstarred, and the slips that it lists.
 
-use second::program::printed;
-use second::{call, Answer, Call, Verdict};
+use super::checker::{call, printed};
+use second::generate::doubled;
+use second::{Answer, Call, Verdict};
 
 const TRUE: u32 = 0x0000_0000;
 const VOID: u32 = 0x3000_0000;
@@ -180,24 +181,10 @@ fn a_variable_is_written_with_its_new_index() {
     assert_eq!(written, expected);
 }
 
-/// n receipts one after another, each giving the next one its variable twice; the last message is an action's.
-fn doubling(receipts: u32) -> (Vec<u32>, Vec<u32>) {
-    let mut script = vec![0x4000_0000, 0xA000_0000, 0x8000_0001];
-    for _ in 0..receipts {
-        let variable = 0x9000_0000 | script.len() as u32;
-        script.extend([0x3000_0000, 0x4000_0000, 0xE000_0000, variable, variable]);
-    }
-    script.extend(vec![0; receipts as usize + 1]);
-    let moves = (0..receipts).map(|k| 0x1000_0000 | (2 * k + 1) << 8 | 2 * k).collect();
-    (script, moves)
-}
-
 #[test]
 fn messages_double_with_each_receipt() {
-    let (script, moves) = doubling(4);
+    let (script, moves) = doubled(4);
     let (answer, _) = answer(&script, &moves, &[TRUE], 1);
     // Sixteen times IN 1 with fifteen PATHs, OUT before and CLOSE behind.
     assert_eq!((answer.weight, answer.words), (9, 49));
-    let (script, moves) = doubling(31);
-    assert!(call(&Call { script: &script, moves: &moves, rule: &[TRUE], patience: 1 }, &mut [0; 64]).is_none());
 }

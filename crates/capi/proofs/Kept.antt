@@ -1,0 +1,36 @@
+-- What the call for C hands on of the call: with room for the answer, and without. Assumes nothing.
+use Prim.Native.Nat.{ℕ, _≤_, _<_}
+use mathlib.Core.Bool.{true, false}
+use mathlib.Core.List.{List, _++_}
+use mathlib.Core.Path.{_≡_, refl, sym, ap, _∙_}
+use lib.ListN.{length, drop}
+use borrow.Author.Tests.{le-leb, lt-leb}
+use Rattle.messages.specs.Reading.{Cursor, got}
+use Rattle.scripts.specs.Script.{Script, readScript}
+use Rattle.scripts.specs.Measures.{movesBound}
+use Rattle.plain_call.specs.Call.{Call, Answer, answer}
+use Rattle.checker.specs.Answering.{answerOf}
+use Rattle.checker.specs.declared.Answer as engine
+use Rattle.plain_call.specs.Standing.{Decides, WeightHolds}
+use Rattle.checker.proofs.Concluding.{decides}
+use Rattle.plain_call.proofs.ClosureRuns.{moves-bounded}
+use Rattle.plain_call.proofs.Runs.{weight-holds}
+use Rattle.capi.specs.Told.{told, returned, answered, written}
+
+-- what every call keeps to
+abbrev pub Keeps : Call → Type 0
+Keeps c = Decides c (answer c .verdict) × (((p : Script × Cursor) → readScript (c .script) ≡ got p → answer c .moves ≤ movesBound (p .0)) × WeightHolds c)
+
+pub keeps : (c : Call) → Keeps c
+keeps c = (decides c (answer c .verdict) refl, (moves-bounded c, weight-holds c))
+
+-- no room: nothing is done
+pub short : (c : Call) (words : List ℕ) → length words < 8 → (0 ≡ returned words) × ((words ≡ answered c words) × ((c .buffer ≡ written c words) × Keeps c))
+short c words l = (rw (lt-leb 8 (length words) l) refl, (rw (lt-leb 8 (length words) l) refl, (rw (lt-leb 8 (length words) l) refl, keeps c)))
+
+-- room: the call's answer is told
+pub told-whole : (c : Call) (words : List ℕ) (r : engine.Answer) (out : List ℕ) {exit : List ℕ} → answerOf r out ≡ answer c → 8 ≤ length words → exit ≡ told (answerOf r out) ++ drop 8 words
+    → (1 ≡ returned words) × ((exit ≡ answered c words) × ((out ≡ written c words) × Keeps c))
+unfolding answerOf
+told-whole c words r out e l t =
+    (rw (le-leb 8 (length words) l) refl, (rw (le-leb 8 (length words) l) (t ∙ ap (λ (a : Answer). told a ++ drop 8 words) e), (rw (le-leb 8 (length words) l) (ap (λ (a : Answer). a .buffer) e), keeps c)))

@@ -1,0 +1,2 @@
+-- What the call for C hands on.
+pub mod Kept

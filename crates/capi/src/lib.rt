@@ -1,0 +1,102 @@
+// The call for C and Rust. It rests on the promises of checker's `call`.
+use checker::Answer;
+use checker::Verdict;
+use checker::call;
+ghost use mathlib.Core.Path.{_≡_};
+ghost use mathlib.Core.List.{List, _++_};
+ghost use Prim.Native.Nat.{ℕ, _≤_};
+ghost use lib.ListN.{length, drop};
+ghost use Rattle.messages.specs.Reading.{Cursor, got};
+ghost use Rattle.scripts.specs.Script.{Script, readScript};
+ghost use Rattle.scripts.specs.Measures.{movesBound};
+ghost use Rattle.plain_call.specs.Call.{answer as plainAnswer};
+ghost use Rattle.checker.specs.Answering.{verdictOf, answerOf, callOf};
+ghost use Rattle.plain_call.specs.Standing.{Decides, WeightHolds};
+ghost use Rattle.capi.specs.Told.{saidOf, questionOf, placeOf, narrowed, told, returned, answered, written};
+
+// Yes, no or refused, as the first word of an answer has it.
+fn said(v: Verdict) -> u32
+    ensures { λ r. ⌜ r ≡ saidOf (verdictOf v) ⌝ }
+{
+    match v {
+        Verdict::Refused {
+            question: _,
+            place: _,
+        } => 0,
+        Verdict::No => 1,
+        Verdict::Yes => 2,
+    }
+}
+
+// The number of the question that refuses, 0 where none does.
+fn question_of(v: Verdict) -> u32
+    ensures { λ r. ⌜ r ≡ questionOf (verdictOf v) ⌝ }
+{
+    match v {
+        Verdict::Refused { question, place: _ } => question,
+        Verdict::No => 0,
+        Verdict::Yes => 0,
+    }
+}
+
+// Its place, 0 where none refuses.
+fn place_of(v: Verdict) -> usize
+    ensures { λ r. ⌜ r ≡ placeOf (verdictOf v) ⌝ }
+{
+    match v {
+        Verdict::Refused { question: _, place } => place,
+        Verdict::No => 0,
+        Verdict::Yes => 0,
+    }
+}
+
+// A count as a word. No count of an answer is so great that it would be cut.
+fn narrow(n: usize) -> u32
+    ensures { λ r. ⌜ r ≡ narrowed n ⌝ }
+{
+    if n < 4294967295 {
+        return n as u32;
+    }
+    4294967295
+}
+
+// The eight words of an answer.
+fn tell(a: Answer, answer: &mut [u32])
+    requires { ⌜ 8 ≤ length (now answer) ⌝ }
+    ensures { λ _. ⌜ ((buffer : List ℕ) → now (answer .exit) ≡ told (answerOf a buffer) ++ drop 8 (now (answer .entry))) ⌝ }
+{
+    let verdict = a.verdict;
+    answer[0] = said(verdict);
+    answer[1] = question_of(verdict);
+    answer[2] = narrow(place_of(verdict));
+    answer[3] = narrow(a.moves);
+    answer[4] = a.visits;
+    answer[5] = a.deepest;
+    answer[6] = narrow(a.weight);
+    answer[7] = a.words;
+}
+
+// The whole call. Where `answer` has fewer than eight words, nothing is done.
+#[no_mangle]
+pub extern "C" fn skycorbel_call<'a, 'b, 'c>(
+    script: &'a [u32],
+    moves: &'a [u32],
+    rule: &'a [u32],
+    patience: u32,
+    out: &'b mut [u32],
+    answer: &'c mut [u32],
+) -> u32
+    ensures returned { λ r. ⌜ r ≡ returned (now (answer .entry)) ⌝ }
+    ensures answered { λ _. ⌜ now (answer .exit) ≡ answered (callOf (now (script .entry)) (now (moves .entry)) (now (rule .entry)) patience (now (out .entry))) (now (answer .entry)) ⌝ }
+    ensures written { λ _. ⌜ now (out .exit) ≡ written (callOf (now (script .entry)) (now (moves .entry)) (now (rule .entry)) patience (now (out .entry))) (now (answer .entry)) ⌝ }
+    ensures decided { λ _. ⌜ Decides (callOf (now (script .entry)) (now (moves .entry)) (now (rule .entry)) patience (now (out .entry))) (plainAnswer (callOf (now (script .entry)) (now (moves .entry)) (now (rule .entry)) patience (now (out .entry))) .verdict) ⌝ }
+    ensures bounded { λ _. ⌜ ((p : Script × Cursor) → readScript (now (script .entry)) ≡ got p → plainAnswer (callOf (now (script .entry)) (now (moves .entry)) (now (rule .entry)) patience (now (out .entry))) .moves ≤ movesBound (p .0)) ⌝ }
+    ensures weighed { λ _. ⌜ WeightHolds (callOf (now (script .entry)) (now (moves .entry)) (now (rule .entry)) patience (now (out .entry))) ⌝ }
+{
+    if answer.len() < 8 {
+        return 0;
+    }
+    let a = call(script, moves, rule, patience, out);
+    tell(a, answer);
+    1
+}

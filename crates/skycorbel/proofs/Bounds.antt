@@ -1,0 +1,184 @@
+-- The program's text is never longer than the buffer in which it is put. Assumes nothing.
+use Prim.Native.Nat.{ℕ, zero, suc, _+_, _*_, _-_, _/_, _%_, _≤_, min}
+use mathlib.Core.Bool.{Bool, true, false, cond, _&&_}
+use mathlib.Core.List.{List, [], _∷_, _++_}
+use mathlib.Core.Option.{Option, none, some}
+use mathlib.Core.Path.{_≡_, refl, sym, ap, _∙_, subst}
+use native.Mathlib.Omega.{arith}
+use borrow.Author.Tests.{leb-true}
+use lib.Dec.{leb, ltb, lit≤}
+use lib.ListN.{length, take, drop, replicate, length-append, length-take, length-drop, length-replicate}
+use Rattle.io.specs.Counts.{Counts}
+use Rattle.messages.specs.Reading.{Cursor, Reading, refuse, got}
+use Rattle.scripts.specs.Script.{Script, readScript}
+use Rattle.machine.specs.PlainMachine.{Machine}
+use Rattle.rules.specs.Rule.{Rule}
+use Rattle.rules.specs.ReadRule.{readWholeRule}
+use Rattle.decision.specs.Walk.{Count, Walked, stopped, says, walkFrom}
+use Rattle.decision.specs.PlainWalk.{plainSpace}
+use Rattle.plain_call.specs.Call.{Call, Verdict, accepted, refused, Answer, answer, refusal, Ran, halted, moved, run, begun, written, finish, walked, setting, ruleRun, ruleRead, scriptRead}
+use Rattle.checker.specs.Answering.{callOf}
+use Rattle.skycorbel.specs.Text.{digit, hexadecimal, line, lines, decimalBy, decimal, refusedText, atText, movesText, visitsText, deepestText, weightText, wordsText, refusalText, countsText, saidText, verdictText, answerText, Puts}
+use Rattle.skycorbel.specs.Input.{counted, replied, unfitText, callReply, ruleReply, movesReply, scriptReply, wordsReply, reply}
+
+-- ---- an answer's buffer is as long as the lent one
+
+abbrev Long : Call → Answer → Type 0
+Long c a = length (a .buffer) ≡ length (c .buffer)
+
+either : (c : Call) (b : Bool) (x y : Answer) → Long c x → Long c y → Long c (cond b x y)
+either c true x y u v = u
+either c false x y u v = v
+
+over-long : (ws b : List ℕ) → length ws ≤ length b → length (ws ++ drop (length ws) b) ≡ length b
+over-long ws b l = let e : length ws + (length b - length ws) ≡ length b = omega arith in length-append ws (drop (length ws) b) ∙ ap (λ (k : ℕ). length ws + k) (length-drop (length ws) b) ∙ e
+
+finish-long : (c : Call) (m : Machine) (a : Bool) (n : Count) → Long c (finish c m a n)
+unfolding finish refusal
+finish-long c m a n = byTest (leb (length (written m)) (min (length (c .buffer)) 268435456)) refl
+  where
+    byTest : (b : Bool) → leb (length (written m)) (min (length (c .buffer)) 268435456) ≡ b → Long c (finish c m a n)
+    byTest true e = rw e (over-long (written m) (c .buffer) (omega (arith, leb-true (length (written m)) (min (length (c .buffer)) 268435456) e)))
+    byTest false e = rw e refl
+
+walked-long : (c : Call) (m : Machine) (w : Walked) → Long c (walked c m w)
+unfolding walked refusal
+walked-long c m (stopped q i v) = refl
+walked-long c m (says a n) = finish-long c m a n
+
+run-long : (c : Call) (n p : ℕ) (r : Rule) (x : Ran) → Long c (ruleRun c n p r x)
+unfolding ruleRun refusal
+run-long c n p r (halted q i) = refl
+run-long c n p r (moved m) = walked-long c m (walkFrom (plainSpace (n + p)) (setting c n) r (m .tree))
+
+rule-long : (c : Call) (b : Script) (n : ℕ) (x : Reading (Rule × Cursor)) → Long c (ruleRead c b n x)
+unfolding ruleRead refusal
+rule-long c b n (refuse q i) = refl
+rule-long c b n (got p) =
+    let x = ruleRun c n (p .1 .number) (p .0) (run n 0 (c .moves) (begun b)) in
+    let y = refusal 14 0 0 0 (c .buffer) in
+    let u : Long c (cond (leb (length (c .moves)) 4096) x y) = either c (leb (length (c .moves)) 4096) x y (run-long c n (p .1 .number) (p .0) (run n 0 (c .moves) (begun b))) refl in
+    either c (leb 1 (c .patience) && leb (c .patience) 16777216) (cond (leb (length (c .moves)) 4096) x y) (refusal 13 0 0 0 (c .buffer)) u refl
+
+script-long : (c : Call) (x : Reading (Script × Cursor)) → Long c (scriptRead c x)
+unfolding scriptRead refusal
+script-long c (refuse q i) = refl
+script-long c (got p) = rule-long c (p .0) (p .1 .number) (readWholeRule (p .1 .number) (c .rule))
+
+pub answer-long : (c : Call) → length (answer c .buffer) ≡ length (c .buffer)
+unfolding answer
+answer-long c = script-long c (readScript (c .script))
+
+-- ---- pieces
+
+decimal-short : (k n : ℕ) → length (decimalBy k n) ≤ k
+unfolding decimalBy
+decimal-short zero n = omega arith
+decimal-short (suc k) n = digits (ltb n 10) (decimal-short k (n / 10))
+  where
+    digits : (b : Bool) → length (decimalBy k (n / 10)) ≤ k → length (cond b ((48 + n) ∷ []) (decimalBy k (n / 10) ++ ((48 + n % 10) ∷ []))) ≤ suc k
+    digits true h = omega arith
+    digits false h = omega (arith, length-append (decimalBy k (n / 10)) ((48 + n % 10) ∷ []), h)
+
+hex-long : (k w : ℕ) → length (hexadecimal k w) ≡ k
+unfolding hexadecimal
+hex-long zero w = refl
+hex-long (suc k) w = omega (arith, length-append (hexadecimal k (w / 16)) (digit (w % 16) ∷ []), hex-long k (w / 16))
+
+line-long : (w : ℕ) → length (line w) ≡ 9
+unfolding line
+line-long w = omega (arith, length-append (hexadecimal 8 w) (10 ∷ []), hex-long 8 w)
+
+lines-long : (ws : List ℕ) → length (lines ws) ≡ 9 * length ws
+unfolding lines
+lines-long [] = refl
+lines-long (w ∷ ws) = omega (arith, length-append (line w) (lines ws), line-long w, lines-long ws)
+
+-- two pieces
+both : (p q : List ℕ) (a b : ℕ) → length p ≤ a → length q ≤ b → length (p ++ q) ≤ a + b
+both p q a b x y = omega (arith, length-append p q)
+
+refusal-short : (q i : ℕ) → length (refusalText q i) ≤ 53
+unfolding refusalText
+refusal-short q i =
+    both (refusedText ++ decimal q ++ atText ++ decimal i) (10 ∷ []) 52 1
+    (both (refusedText ++ decimal q ++ atText) (decimal i) 32 20
+    (both (refusedText ++ decimal q) atText 28 4 (both refusedText (decimal q) 8 20 (lit≤ tt) (decimal-short 20 q)) (lit≤ tt))
+    (decimal-short 20 i))
+    (lit≤ tt)
+
+-- a count behind its name, which has at most ten letters
+count-short : (name : List ℕ) (n : ℕ) → length name ≤ 10 → length (name ++ decimal n) ≤ 30
+count-short name n l = both name (decimal n) 10 20 l (decimal-short 20 n)
+
+counts-short : (m v d w n : ℕ) → length (countsText m v d w n) ≤ 151
+unfolding countsText
+counts-short m v d w n =
+    let a = movesText ++ decimal m in
+    let b = visitsText ++ decimal v in
+    let e = deepestText ++ decimal d in
+    let f = weightText ++ decimal w in
+    let g = wordsText ++ decimal n in
+    both (a ++ b ++ e ++ f ++ g) (10 ∷ []) 150 1
+    (both (a ++ b ++ e ++ f) g 120 30
+    (both (a ++ b ++ e) f 90 30
+    (both (a ++ b) e 60 30
+    (both a b 30 30 (count-short movesText m (lit≤ tt)) (count-short visitsText v (lit≤ tt)))
+    (count-short deepestText d (lit≤ tt)))
+    (count-short weightText w (lit≤ tt)))
+    (count-short wordsText n (lit≤ tt)))
+    (lit≤ tt)
+
+said-short : (a : Bool) → length (saidText a) ≤ 3
+unfolding saidText
+said-short true = lit≤ tt
+said-short false = lit≤ tt
+
+tree-short : (n : ℕ) (b : List ℕ) → length b ≤ 4096 → length (lines (take n b)) ≤ 36864
+tree-short n b l = omega (arith, lines-long (take n b), length-take n b)
+
+verdict-short : (v : Verdict) (r : Answer) → length (r .buffer) ≤ 4096 → length (verdictText v r) ≤ 40960
+unfolding verdictText
+verdict-short (accepted a) r l =
+    let c = countsText (r .moves) (r .visits) (r .deepest) (r .weight) (r .words) in
+    let h : length (saidText a ++ c ++ lines (take (r .words) (r .buffer))) ≤ 154 + 36864
+    = both (saidText a ++ c) (lines (take (r .words) (r .buffer))) 154 36864 (both (saidText a) c 3 151 (said-short a) (counts-short (r .moves) (r .visits) (r .deepest) (r .weight) (r .words))) (tree-short (r .words) (r .buffer) l) in
+    omega (arith, h)
+verdict-short (refused q i) r l = omega (arith, refusal-short q i)
+
+-- ---- replies
+
+abbrev Short : List ℕ → Type 0
+Short t = length t ≤ 40960
+
+pub unfit-short : Short unfitText
+unfit-short = omega (arith, refusal-short 20 0)
+
+call-short : (script moves rule : List ℕ) (p : ℕ) → Short (callReply script moves rule p)
+call-short script moves rule p =
+    let c = callOf script moves rule p (replicate 4096 0) in
+    let e : length (replicate {A = ℕ} 4096 0) ≡ 4096 = length-replicate {A = ℕ} 4096 0 in
+    verdict-short (answer c .verdict) (answer c) (omega (arith, answer-long c, e))
+
+rule-short : (script moves rule s : List ℕ) → Short (ruleReply script moves rule s)
+unfolding ruleReply
+rule-short script moves rule [] = unfit-short
+rule-short script moves rule (p ∷ []) = call-short script moves rule p
+rule-short script moves rule (p ∷ q ∷ s) = unfit-short
+
+replied-short : (o : Option (List ℕ × List ℕ)) (k : List ℕ → List ℕ → List ℕ) → ((a b : List ℕ) → Short (k a b)) → Short (replied o k)
+unfolding replied
+replied-short none k h = unfit-short
+replied-short (some p) k h = h (p .0) (p .1)
+
+pub words-short : (s : List ℕ) → Short (wordsReply s)
+words-short s =
+    replied-short (counted s) (λ script rest. scriptReply script rest) λ script rest. replied-short (counted rest) (λ moves more. movesReply script moves more) λ moves more. replied-short (counted more) (λ rule last. ruleReply script moves rule last) λ rule last. rule-short script moves rule last
+
+-- the whole text stands in a buffer that is long enough
+pub puts-all : (old new input : List ℕ) (r : ℕ) (piece : List ℕ) → Puts old new 0 r piece → 40960 ≤ length old → Short piece → piece ≡ reply input → Counts r new × (take r new ≡ reply input)
+puts-all old new input r piece x e l f =
+    let u = x .1 (omega (arith, e, l)) in
+    let h : r ≤ length new = omega (arith, u .0, x .0, e, l) in
+    let k : r ≡ length (take r new) = omega (arith, length-take r new, h) in
+    ((h, k), u .1 ∙ f)

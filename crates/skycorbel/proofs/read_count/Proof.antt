@@ -1,0 +1,26 @@
+-- `read_count` meets its contract. Assumes nothing.
+use native.Mathlib.Omega.{arith}
+use Rattle.skycorbel.specs.Input.{countedBy}
+use Rattle.skycorbel.proofs.Reading.{counted-none, counted-short, counted-some}
+use borrow.Author.Needs.{needs}
+use Rattle.skycorbel.proofs.read_count.Statement.{statement}
+use Rattle.skycorbel.proofs.read_count.Tie as tie
+
+returns : tie.Need-returns
+unfolding countedBy
+returns c = counted-none (c .before .args .s .now) (c .if1 .taken)
+
+cast-n : tie.Need-cast-n
+cast-n c = omega (arith, c .shared-slice-known .given 0)
+
+returns-2 : tie.Need-returns-2
+unfolding countedBy
+returns-2 c = counted-short (c .before .before .before .args .s .now) (omega (arith, c .before .before .if1 .left)) (c .if2 .taken)
+
+returns-3 : tie.Need-returns-3
+unfolding countedBy
+returns-3 c = counted-some (c .before .before .before .args .s .now) (omega (arith, c .before .before .if1 .left)) (omega (arith, c .if2 .left))
+
+pub read-count-spec : {M : Type 1} → statement M
+read-count-spec =
+    tie.close (tie.spec returns (λ c. search needs) cast-n (λ c. search needs) returns-2 returns-3)

@@ -1,0 +1,55 @@
+-- `put_digits` meets its contract. The measure is how many digits are left. Assumes nothing.
+use Prim.Native.Nat.{ℕ, _<_, _%_}
+use mathlib.Core.List.{List, [], _∷_}
+use mathlib.Core.Path.{subst}
+use native.Mathlib.Omega.{arith}
+use borrow.Author.Needs.{needs}
+use borrow.Fn.Kinds.{In}
+use borrow.Fn.PlainCycle.{Measures, is, falls, and}
+use Rattle.skycorbel.specs.Text.{digit, Puts}
+use Rattle.skycorbel.proofs.Putting.{puts-none}
+use Rattle.skycorbel.proofs.Numbers.{hex-none, puts-hex}
+use Rattle.skycorbel.proofs.text.put_digits.Reads as put-digits
+use Rattle.skycorbel.proofs.text.put_digits.Kinds as put-digits-kinds
+use Rattle.skycorbel.proofs.text.+put_digits.Lts-put_digits as put-digits-lts
+use Rattle.skycorbel.proofs.text.glyph.Reads as glyph-reads
+use Rattle.skycorbel.proofs.text.put_byte.Reads as put-byte-reads
+use Rattle.skycorbel.proofs.text.+put_digits.{statement}
+use Rattle.skycorbel.proofs.text.+put_digits.Tie.{close}
+
+abbrev μ-put-digits : Measures 1 put-digits-kinds.ps ℕ
+μ-put-digits κs a = a .1 .1 .1 .0
+
+abbrev put-digits-at : ℕ → In 1 put-digits-kinds.ps
+put-digits-at t = and 1 put-digits-kinds.ps (is 1 put-digits-kinds.ps μ-put-digits t) put-digits.Pre
+
+abbrev put-digits-below : ℕ → In 1 put-digits-kinds.ps
+put-digits-below t = and 1 put-digits-kinds.ps (falls 1 put-digits-kinds.ps _<_ μ-put-digits t) put-digits.Pre
+
+abbrev claims : ℕ → put-digits-lts.Claims
+claims t = (put-digits-below t, put-digits.Post, glyph-reads.Asked, glyph-reads.Learnt, put-byte-reads.Asked, put-byte-reads.Learnt)
+
+put-digits-returns : (t : ℕ) → put-digits-lts.Need-returns (claims t) (put-digits-at t) put-digits.Post
+put-digits-returns t c = subst (λ (q : List ℕ). Puts (c .before .before .args .text .now) (c .before .before .args .text .now) (c .before .before .args .at) (c .before .before .args .at) q) (hex-none (c .before .before .args .digits) (c .before .before .args .w) (c .if1 .taken)) (puts-none (c .before .before .args .text .now) (c .before .before .args .at))
+
+put-digits-put-digits-requires : (t : ℕ) → put-digits-lts.Need-put-digits-requires (claims t) (put-digits-at t) put-digits.Post
+put-digits-put-digits-requires t c κs = (omega (arith, c .before .if1 .left), tt)
+
+put-digits-returns-2 : (t : ℕ) → put-digits-lts.Need-returns-2 (claims t) (put-digits-at t) put-digits.Post
+put-digits-returns-2 t c = puts-hex (c .before .before .before .before .before .before .before .before .before .before .before .args .text .now) _ _ (c .before .before .before .before .before .before .before .before .before .before .before .args .at) (c .before .before .before .before .before .before .before .put-digits .result) (c .before .before .put-byte .result) (c .before .before .before .before .before .before .before .before .before .before .before .args .digits) (c .before .before .before .before .before .before .before .before .before .before .before .args .w) (omega (arith, c .before .before .before .before .before .before .before .before .before .if1 .left)) (c .before .before .before .before .before .before .before .put-digits .ensures) (subst (λ (d : ℕ). Puts (c .before .before .before .before .before .before .before .put-digits .last .0) (c .before .before .put-byte .last .0) (c .before .before .before .before .before .before .before .put-digits .result) (c .before .before .put-byte .result) (d ∷ [])) (c .before .before .before .glyph .ensures) (c .before .before .put-byte .ensures))
+
+pub +put-digits-spec : {M : Type 1} → statement M
++put-digits-spec =
+    close
+    μ-put-digits
+    λ t. put-digits-lts.spec
+    (claims t)
+    (put-digits-at t)
+    put-digits.Post
+    (put-digits-returns t)
+    (λ c. search needs)
+    (put-digits-put-digits-requires t)
+    (λ c κs. search needs)
+    (λ c κs. search needs)
+    (λ c. search needs)
+    (put-digits-returns-2 t)

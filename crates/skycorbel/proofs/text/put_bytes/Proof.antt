@@ -1,0 +1,54 @@
+-- `put_bytes` meets its contract: the first i bytes are put. Assumes nothing.
+use Prim.Native.Nat.{_≤_, _-_}
+use native.Mathlib.Omega.{arith}
+use lib.ListN.{length, take}
+use Rattle.skycorbel.specs.Text.{Puts}
+use Rattle.skycorbel.proofs.Putting.{puts-none, puts-next, puts-whole}
+use borrow.Author.Needs.{needs}
+use Rattle.skycorbel.proofs.text.put_bytes.Statement.{statement}
+use Rattle.skycorbel.proofs.text.put_bytes.Tie as tie
+
+abbrev Inv-loop : tie.InvT-loop
+Inv-loop text₀ at piece next₀ i₀ text next i = (i ≤ length piece) × Puts text₀ text at next (take i piece)
+
+abbrev μ-loop : tie.MeasureT-loop
+μ-loop text₀ at piece next₀ i₀ text next i = length piece - i
+
+loop-holds : tie.Need-loop-holds Inv-loop μ-loop
+loop-holds c = (search needs, puts-none (c .before .before .args .text .now) (c .before .before .args .at))
+
+shared-slice-read-put-byte : tie.Need-shared-slice-read-put-byte Inv-loop μ-loop
+shared-slice-read-put-byte c = search needs
+
+put-byte-requires : tie.Need-put-byte-requires Inv-loop μ-loop
+put-byte-requires c κs = search needs
+
+add-i : tie.Need-add-i Inv-loop μ-loop
+add-i c = search needs
+
+loop-less : tie.Need-loop-less Inv-loop μ-loop
+loop-less c = search needs
+
+loop-again : tie.Need-loop-again Inv-loop μ-loop
+loop-again c = (search needs, puts-next (c .before .before .before .before .before .before .before .before .before .args .text .now) (c .before .before .before .before .before .before .loop .text) _ (c .before .before .before .before .before .before .before .before .before .args .at) (c .before .before .before .before .before .before .loop .next) _ (c .before .before .before .before .before .before .loop .i) (c .before .before .before .before .before .before .before .before .before .args .piece .now) (c .before .before .before .before .before .loop-test .taken) (c .before .before .before .before .before .before .loop .inv .1) (c .before .before .put-byte .ensures))
+
+same-length : tie.Need-same-length Inv-loop μ-loop
+same-length c = c .before .loop .inv .1 .0
+
+returns : tie.Need-returns Inv-loop μ-loop
+returns c = puts-whole (c .before .before .before .before .args .text .now) (c .before .loop .text) (c .before .before .before .before .args .at) (c .before .loop .next) (c .before .loop .i) (c .before .before .before .before .args .piece .now) (c .loop-test .left) (c .before .loop .inv .1)
+
+pub put-bytes-spec : {M : Type 1} → statement M
+put-bytes-spec =
+    tie.close
+    (tie.spec
+    Inv-loop
+    μ-loop
+    loop-holds
+    shared-slice-read-put-byte
+    put-byte-requires
+    add-i
+    loop-less
+    loop-again
+    same-length
+    returns)

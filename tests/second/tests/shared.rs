@@ -1,0 +1,11 @@
+//! The tests that every checker passes, on this one.
+
+mod checker {
+    pub use second::call;
+    pub use second::program::printed;
+}
+
+#[path = "../../shared/examples.rs"]
+mod examples;
+#[path = "../../shared/refusals.rs"]
+mod refusals;
