@@ -1,10 +1,10 @@
 // The call. It rests on the promises of all layers below.
 use bindings::tail;
 use closures::State;
-use closures::first_state;
-use closures::try_move;
 use closures::weigh;
 use messages::Outcome;
+use moves::first_state;
+use moves::try_move;
 use rules::RuleTable;
 use rules::greatest_rule_name;
 use rules::read_whole_rule;

@@ -2,8 +2,6 @@
 pub mod Heads
 pub mod Holding
 pub mod Focus
-pub mod Settling
-pub mod Settled
 pub mod Looking
 pub mod Deeds
 pub mod Moving
@@ -20,9 +18,5 @@ pub mod Aiming
 pub mod Arrays
 pub mod Copying
 pub mod Standing
-pub mod Placing
 pub mod Weighing
 pub mod Making
-pub mod Finishing
-pub mod Dispatch
-pub mod LentMoves

@@ -13,7 +13,7 @@ use Rattle.walk.proofs.place_within.Tie as tie
 use Rattle.walk.proofs.place_within.Reads as reads
 use Rattle.walk.proofs.place_within.Lts as lts
 use Rattle.closures.proofs.borrowed.Reads as borrowed-reads
-use Rattle.closures.proofs.place_part.Reads as place-part-reads
+use Rattle.moves.proofs.place_part.Reads as place-part-reads
 use Rattle.walk.proofs.lend_state.Reads as lend-state-reads
 
 borrowed-requires : tie.Need-borrowed-requires
