@@ -3,10 +3,10 @@ use Prim.Native.Nat.{ℕ, _-_, _≤_}
 use mathlib.Core.Path.{_≡_, refl}
 use native.Mathlib.Omega.{arith}
 use borrow.Author.Needs.{needs}
 use Rattle.walk.proofs.Turns.{sometime-first, sometime-then, Acting, acting-holds, acting-again, acting-stops, acting-ends}
-use Rattle.walk.proofs.+at_name+beside+either+moves_of+negation+placed_in+some_name+sometime+somewhere+split+visit.Lts-sometime as lts
-use Rattle.walk.proofs.sometime.Reads as reads
-use Rattle.walk.proofs.+at_name+beside+either+moves_of+negation+placed_in+some_name+sometime+somewhere+split+visit.Proof.Measures.{sometime-at, sometime-claims}
+use Rattle.visits.proofs.+at_name+beside+either+moves_of+negation+placed_in+some_name+sometime+somewhere+split+visit.Lts-sometime as lts
+use Rattle.visits.proofs.sometime.Reads as reads
+use Rattle.visits.proofs.+at_name+beside+either+moves_of+negation+placed_in+some_name+sometime+somewhere+split+visit.Proof.Measures.{sometime-at, sometime-claims}
 
 abbrev pub Inv-loop : lts.InvT-loop
 Inv-loop program script sets numbers at top chosen somes left limits inner found limit now₀ a₀ now a = (a ≤ limit) × (limit ≡ limits .limit) × Acting program script sets numbers chosen top somes left at limits now₀ now a

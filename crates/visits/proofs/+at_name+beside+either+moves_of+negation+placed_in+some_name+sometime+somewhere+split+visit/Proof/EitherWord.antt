@@ -2,10 +2,10 @@
 use Prim.Native.Nat.{ℕ, _-_}
 use native.Mathlib.Omega.{arith}
 use borrow.Author.Needs.{needs}
 use Rattle.walk.proofs.Members.{either-stops, either-goes}
-use Rattle.walk.proofs.+at_name+beside+either+moves_of+negation+placed_in+some_name+sometime+somewhere+split+visit.Lts-either as lts
-use Rattle.walk.proofs.either.Reads as reads
-use Rattle.walk.proofs.+at_name+beside+either+moves_of+negation+placed_in+some_name+sometime+somewhere+split+visit.Proof.Measures.{either-at, either-claims}
+use Rattle.visits.proofs.+at_name+beside+either+moves_of+negation+placed_in+some_name+sometime+somewhere+split+visit.Lts-either as lts
+use Rattle.visits.proofs.either.Reads as reads
+use Rattle.visits.proofs.+at_name+beside+either+moves_of+negation+placed_in+some_name+sometime+somewhere+split+visit.Proof.Measures.{either-at, either-claims}
 
 module _ (t : ℕ) where
   pub add-visit : lts.Need-add-visit (either-claims t) (either-at t) reads.Post

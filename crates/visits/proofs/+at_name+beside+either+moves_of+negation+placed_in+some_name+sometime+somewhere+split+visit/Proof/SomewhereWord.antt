@@ -5,11 +5,11 @@ use borrow.Author.Needs.{needs}
 use lib.ListN.{length}
 use Rattle.sets.specs.Sets.{members}
 use Rattle.sets.proofs.Members.{not-none}
 use Rattle.walk.proofs.Scenes.{lendable-top}
 use Rattle.walk.proofs.Turns.{first-low, rest-shorter, somewhere-first, somewhere-then, Seeking, seeking-holds, seeking-again, seeking-stops, seeking-ends}
-use Rattle.walk.proofs.+at_name+beside+either+moves_of+negation+placed_in+some_name+sometime+somewhere+split+visit.Lts-somewhere as lts
-use Rattle.walk.proofs.somewhere.Reads as reads
-use Rattle.walk.proofs.+at_name+beside+either+moves_of+negation+placed_in+some_name+sometime+somewhere+split+visit.Proof.Measures.{somewhere-at, somewhere-claims}
+use Rattle.visits.proofs.+at_name+beside+either+moves_of+negation+placed_in+some_name+sometime+somewhere+split+visit.Lts-somewhere as lts
+use Rattle.visits.proofs.somewhere.Reads as reads
+use Rattle.visits.proofs.+at_name+beside+either+moves_of+negation+placed_in+some_name+sometime+somewhere+split+visit.Proof.Measures.{somewhere-at, somewhere-claims}
 
 abbrev pub Inv-loop : lts.InvT-loop
 Inv-loop program script sets numbers at top chosen somes left limits now₀ rest₀ now rest = (rest < 2 ^ 64) × Seeking program script sets numbers chosen top somes left at limits now₀ now rest

@@ -3,10 +3,10 @@ use Prim.Native.Nat.{ℕ, _+_, _-_, _≤_}
 use mathlib.Core.Path.{_≡_, refl}
 use native.Mathlib.Omega.{arith}
 use borrow.Author.Needs.{needs}
 use Rattle.walk.proofs.Turns.{Naming, naming-none, naming-holds, naming-again, naming-stops, naming-ends}
-use Rattle.walk.proofs.+at_name+beside+either+moves_of+negation+placed_in+some_name+sometime+somewhere+split+visit.Lts-some_name as lts
-use Rattle.walk.proofs.some_name.Reads as reads
-use Rattle.walk.proofs.+at_name+beside+either+moves_of+negation+placed_in+some_name+sometime+somewhere+split+visit.Proof.Measures.{some-name-at, some-name-claims}
+use Rattle.visits.proofs.+at_name+beside+either+moves_of+negation+placed_in+some_name+sometime+somewhere+split+visit.Lts-some_name as lts
+use Rattle.visits.proofs.some_name.Reads as reads
+use Rattle.visits.proofs.+at_name+beside+either+moves_of+negation+placed_in+some_name+sometime+somewhere+split+visit.Proof.Measures.{some-name-at, some-name-claims}
 
 abbrev pub Inv-loop : lts.InvT-loop
 Inv-loop program script sets numbers at top chosen somes left limits last now₀ n₀ now n = (1 ≤ n) × (n ≤ last + 1) × (last ≡ limits .greatest + somes + 1) × Naming program script sets numbers chosen top somes left at limits now₀ now n

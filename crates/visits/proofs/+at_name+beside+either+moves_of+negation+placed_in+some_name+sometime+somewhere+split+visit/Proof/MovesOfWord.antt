@@ -6,11 +6,11 @@ use borrow.Author.Needs.{needs}
 use lib.ListN.{length}
 use Rattle.sets.specs.Sets.{members}
 use Rattle.sets.proofs.Members.{not-none}
 use Rattle.walk.proofs.Turns.{first-low, rest-shorter, Trying, trying-holds, trying-again, trying-stops, trying-ends}
 use Rattle.walk.proofs.Lendings.{step-moves, step-apart}
-use Rattle.walk.proofs.+at_name+beside+either+moves_of+negation+placed_in+some_name+sometime+somewhere+split+visit.Lts-moves_of as lts
-use Rattle.walk.proofs.moves_of.Reads as reads
-use Rattle.walk.proofs.+at_name+beside+either+moves_of+negation+placed_in+some_name+sometime+somewhere+split+visit.Proof.Measures.{moves-of-at, moves-of-claims}
+use Rattle.visits.proofs.+at_name+beside+either+moves_of+negation+placed_in+some_name+sometime+somewhere+split+visit.Lts-moves_of as lts
+use Rattle.visits.proofs.moves_of.Reads as reads
+use Rattle.visits.proofs.+at_name+beside+either+moves_of+negation+placed_in+some_name+sometime+somewhere+split+visit.Proof.Measures.{moves-of-at, moves-of-claims}
 
 abbrev pub Inv-loop : lts.InvT-loop
 Inv-loop program script sets numbers at top chosen somes left limits places a aim now₀ rest₀ now rest = (rest < 2 ^ 64) × Trying program script sets numbers chosen top somes left at limits places a aim now₀ now rest

@@ -1,27 +1,27 @@
 -- The cycle of calls of the walk: each member meets its contract, in a file of its own. Assumes nothing.
 use Prim.Native.Nat.{ℕ}
-use Rattle.walk.proofs.at_name.Reads as at-name
-use Rattle.walk.proofs.beside.Reads as beside
-use Rattle.walk.proofs.either.Reads as either
-use Rattle.walk.proofs.moves_of.Reads as moves-of
-use Rattle.walk.proofs.negation.Reads as negation
-use Rattle.walk.proofs.placed_in.Reads as placed-in
-use Rattle.walk.proofs.some_name.Reads as some-name
-use Rattle.walk.proofs.sometime.Reads as sometime
-use Rattle.walk.proofs.somewhere.Reads as somewhere
-use Rattle.walk.proofs.split.Reads as split
-use Rattle.walk.proofs.visit.Reads as visit
-use Rattle.walk.proofs.+at_name+beside+either+moves_of+negation+placed_in+some_name+sometime+somewhere+split+visit.Lts-at_name as at-name-lts
-use Rattle.walk.proofs.+at_name+beside+either+moves_of+negation+placed_in+some_name+sometime+somewhere+split+visit.Lts-beside as beside-lts
-use Rattle.walk.proofs.+at_name+beside+either+moves_of+negation+placed_in+some_name+sometime+somewhere+split+visit.Lts-either as either-lts
-use Rattle.walk.proofs.+at_name+beside+either+moves_of+negation+placed_in+some_name+sometime+somewhere+split+visit.Lts-moves_of as moves-of-lts
-use Rattle.walk.proofs.+at_name+beside+either+moves_of+negation+placed_in+some_name+sometime+somewhere+split+visit.Lts-negation as negation-lts
-use Rattle.walk.proofs.+at_name+beside+either+moves_of+negation+placed_in+some_name+sometime+somewhere+split+visit.Lts-placed_in as placed-in-lts
-use Rattle.walk.proofs.+at_name+beside+either+moves_of+negation+placed_in+some_name+sometime+somewhere+split+visit.Lts-some_name as some-name-lts
-use Rattle.walk.proofs.+at_name+beside+either+moves_of+negation+placed_in+some_name+sometime+somewhere+split+visit.Lts-sometime as sometime-lts
-use Rattle.walk.proofs.+at_name+beside+either+moves_of+negation+placed_in+some_name+sometime+somewhere+split+visit.Lts-somewhere as somewhere-lts
-use Rattle.walk.proofs.+at_name+beside+either+moves_of+negation+placed_in+some_name+sometime+somewhere+split+visit.Lts-split as split-lts
-use Rattle.walk.proofs.+at_name+beside+either+moves_of+negation+placed_in+some_name+sometime+somewhere+split+visit.Lts-visit as visit-lts
+use Rattle.visits.proofs.at_name.Reads as at-name
+use Rattle.visits.proofs.beside.Reads as beside
+use Rattle.visits.proofs.either.Reads as either
+use Rattle.visits.proofs.moves_of.Reads as moves-of
+use Rattle.visits.proofs.negation.Reads as negation
+use Rattle.visits.proofs.placed_in.Reads as placed-in
+use Rattle.visits.proofs.some_name.Reads as some-name
+use Rattle.visits.proofs.sometime.Reads as sometime
+use Rattle.visits.proofs.somewhere.Reads as somewhere
+use Rattle.visits.proofs.split.Reads as split
+use Rattle.visits.proofs.visit.Reads as visit
+use Rattle.visits.proofs.+at_name+beside+either+moves_of+negation+placed_in+some_name+sometime+somewhere+split+visit.Lts-at_name as at-name-lts
+use Rattle.visits.proofs.+at_name+beside+either+moves_of+negation+placed_in+some_name+sometime+somewhere+split+visit.Lts-beside as beside-lts
+use Rattle.visits.proofs.+at_name+beside+either+moves_of+negation+placed_in+some_name+sometime+somewhere+split+visit.Lts-either as either-lts
+use Rattle.visits.proofs.+at_name+beside+either+moves_of+negation+placed_in+some_name+sometime+somewhere+split+visit.Lts-moves_of as moves-of-lts
+use Rattle.visits.proofs.+at_name+beside+either+moves_of+negation+placed_in+some_name+sometime+somewhere+split+visit.Lts-negation as negation-lts
+use Rattle.visits.proofs.+at_name+beside+either+moves_of+negation+placed_in+some_name+sometime+somewhere+split+visit.Lts-placed_in as placed-in-lts
+use Rattle.visits.proofs.+at_name+beside+either+moves_of+negation+placed_in+some_name+sometime+somewhere+split+visit.Lts-some_name as some-name-lts
+use Rattle.visits.proofs.+at_name+beside+either+moves_of+negation+placed_in+some_name+sometime+somewhere+split+visit.Lts-sometime as sometime-lts
+use Rattle.visits.proofs.+at_name+beside+either+moves_of+negation+placed_in+some_name+sometime+somewhere+split+visit.Lts-somewhere as somewhere-lts
+use Rattle.visits.proofs.+at_name+beside+either+moves_of+negation+placed_in+some_name+sometime+somewhere+split+visit.Lts-split as split-lts
+use Rattle.visits.proofs.+at_name+beside+either+moves_of+negation+placed_in+some_name+sometime+somewhere+split+visit.Lts-visit as visit-lts
 mod Measures
 mod AtNameWord
 mod BesideWord
@@ -35,8 +35,8 @@ mod SomewhereWord
 mod SplitWord
 mod VisitWord
 use Measures.{μ-at-name, at-name-at, at-name-claims, μ-beside, beside-at, beside-claims, μ-either, either-at, either-claims, μ-moves-of, moves-of-at, moves-of-claims, μ-negation, negation-at, negation-claims, μ-placed-in, placed-in-at, placed-in-claims, μ-some-name, some-name-at, some-name-claims, μ-sometime, sometime-at, sometime-claims, μ-somewhere, somewhere-at, somewhere-claims, μ-split, split-at, split-claims, μ-visit, visit-at, visit-claims}
-use Rattle.walk.proofs.+at_name+beside+either+moves_of+negation+placed_in+some_name+sometime+somewhere+split+visit.{statement}
-use Rattle.walk.proofs.+at_name+beside+either+moves_of+negation+placed_in+some_name+sometime+somewhere+split+visit.Tie.{close}
+use Rattle.visits.proofs.+at_name+beside+either+moves_of+negation+placed_in+some_name+sometime+somewhere+split+visit.{statement}
+use Rattle.visits.proofs.+at_name+beside+either+moves_of+negation+placed_in+some_name+sometime+somewhere+split+visit.Tie.{close}
 
 pub +at-name+beside+either+moves-of+negation+placed-in+some-name+sometime+somewhere+split+visit-spec : {M : Type 1} → statement M
 +at-name+beside+either+moves-of+negation+placed-in+some-name+sometime+somewhere+split+visit-spec =

@@ -5,16 +5,16 @@ use mathlib.Core.Path.{refl}
 use native.Mathlib.Omega.{arith}
 use Rattle.closures.specs.Represents.{Ready}
 use Rattle.closures.specs.declared.State.{State}
 use Rattle.walk.proofs.Lendings.{carried}
-use Rattle.walk.proofs.Begun.{whole-walk}
+use Rattle.visits.proofs.Begun.{whole-walk}
 use borrow.Author.Needs.{needs}
-use Rattle.walk.proofs.walk_rule.Statement.{statement}
-use Rattle.walk.proofs.walk_rule.Tie as tie
-use Rattle.walk.proofs.walk_rule.Reads as reads
-use Rattle.walk.proofs.walk_rule.Lts as lts
+use Rattle.visits.proofs.walk_rule.Statement.{statement}
+use Rattle.visits.proofs.walk_rule.Tie as tie
+use Rattle.visits.proofs.walk_rule.Reads as reads
+use Rattle.visits.proofs.walk_rule.Lts as lts
 use Rattle.walk.proofs.lend_state.Reads as lend-state-reads
 use Rattle.walk.proofs.loaded.Reads as loaded-reads
-use Rattle.walk.proofs.visit.Reads as visit-reads
+use Rattle.visits.proofs.visit.Reads as visit-reads
 
 loaded-requires : tie.Need-loaded-requires
 loaded-requires c κs = search needs
