@@ -6,6 +6,7 @@ use closures::State;
 use rules::RuleTable;
 use walk::Counts;
 use walk::Limits;
+use walk::Spot;
 use walk::Step;
 use walk::Walked;
 use walk::all_targets;
@@ -23,24 +24,23 @@ ghost use Rattle.closures.specs.Represents.{Ready};
 ghost use Rattle.walk.specs.Visits.{Lendable};
 ghost use Rattle.walk.specs.Visits.{Visits as Answers, Looks as Finds, Splits, Tries, Walks};
 
-// A visit at the word at, with `left` depths left, this one counted.
+// A visit at the word of the spot, whose depth is among the depths left.
 fn visit<'a>(
     program: &'a [u32; 768],
     script: &'a [u32],
     sets: &'a [u64; 131],
     numbers: &'a [u32; 481],
-    at: usize,
-    top: u64,
     chosen: &'a [u32; 256],
-    somes: usize,
-    left: usize,
+    spot: Spot,
     limits: Limits,
     c: Counts,
 ) -> Walked
-    requires { ⌜ (left ≤ 256) × (somes ≤ 8) × (limits .limit ≤ 64) × (limits .parts ≤ 64) × (limits .greatest < 268435456) × Lendable (now script) (now sets) (now numbers) top ⌝ }
-    ensures { λ r. ⌜ Answers (now (program .entry)) (now (script .entry)) (now (sets .entry)) (now (numbers .entry)) (now (chosen .entry)) top somes left at limits c r ⌝ }
+    requires { ⌜ (spot .left ≤ 256) × (spot .somes ≤ 8) × (limits .limit ≤ 64) × (limits .parts ≤ 64) × (limits .greatest < 268435456) × Lendable (now script) (now sets) (now numbers) (spot .top) ⌝ }
+    ensures { λ r. ⌜ Answers (now (program .entry)) (now (script .entry)) (now (sets .entry)) (now (numbers .entry)) (now (chosen .entry)) (spot .top) (spot .somes) (spot .left) (spot .at) limits c r ⌝ }
 {
     let visits = c.visits;
+    let at = spot.at;
+    let left = spot.left;
     if left == 0 {
         return Walked::Stopped(17, at, visits);
     }
@@ -51,115 +51,20 @@ fn visit<'a>(
         return Walked::Stopped(11, at, visits);
     }
     let kind = program[at] / 268435456;
-    let below = left - 1;
     let n = next_count(c, 257 - left);
+    let mut below = spot;
+    below.left = left - 1;
     match kind {
         0 => Walked::Yes(n),
-        1 => negation(
-            program,
-            script,
-            sets,
-            numbers,
-            at,
-            top,
-            chosen,
-            somes,
-            below,
-            limits,
-            n,
-        ),
-        2 => either(
-            program,
-            script,
-            sets,
-            numbers,
-            at,
-            top,
-            chosen,
-            somes,
-            below,
-            limits,
-            n,
-        ),
-        3 => void_rule(top, n),
-        4 => at_name(
-            program,
-            script,
-            sets,
-            numbers,
-            at,
-            top,
-            chosen,
-            somes,
-            below,
-            limits,
-            n,
-        ),
-        5 => beside(
-            program,
-            script,
-            sets,
-            numbers,
-            at,
-            top,
-            chosen,
-            somes,
-            below,
-            limits,
-            n,
-        ),
-        6 => some_name(
-            program,
-            script,
-            sets,
-            numbers,
-            at,
-            top,
-            chosen,
-            somes,
-            below,
-            limits,
-            n,
-        ),
-        7 => sometime(
-            program,
-            script,
-            sets,
-            numbers,
-            at,
-            top,
-            chosen,
-            somes,
-            below,
-            limits,
-            n,
-        ),
-        8 => somewhere(
-            program,
-            script,
-            sets,
-            numbers,
-            at,
-            top,
-            chosen,
-            somes,
-            below,
-            limits,
-            n,
-        ),
-        9 => placed_in(
-            program,
-            script,
-            sets,
-            numbers,
-            at,
-            top,
-            chosen,
-            somes,
-            below,
-            limits,
-            n,
-        ),
+        1 => negation(program, script, sets, numbers, chosen, below, limits, n),
+        2 => either(program, script, sets, numbers, chosen, below, limits, n),
+        3 => void_rule(spot.top, n),
+        4 => at_name(program, script, sets, numbers, chosen, below, limits, n),
+        5 => beside(program, script, sets, numbers, chosen, below, limits, n),
+        6 => some_name(program, script, sets, numbers, chosen, below, limits, n),
+        7 => sometime(program, script, sets, numbers, chosen, below, limits, n),
+        8 => somewhere(program, script, sets, numbers, chosen, below, limits, n),
+        9 => placed_in(program, script, sets, numbers, chosen, below, limits, n),
         10..=4294967295 => Walked::Stopped(8, at, visits),
     }
 }
@@ -170,30 +75,17 @@ fn negation<'a>(
     script: &'a [u32],
     sets: &'a [u64; 131],
     numbers: &'a [u32; 481],
-    at: usize,
-    top: u64,
     chosen: &'a [u32; 256],
-    somes: usize,
-    left: usize,
+    spot: Spot,
     limits: Limits,
     c: Counts,
 ) -> Walked
-    requires { ⌜ (at < 256) × (left ≤ 255) × (somes ≤ 8) × (limits .limit ≤ 64) × (limits .parts ≤ 64) × (limits .greatest < 268435456) × Lendable (now script) (now sets) (now numbers) top ⌝ }
-    ensures { λ r. ⌜ Finds (now (program .entry)) (now (script .entry)) (now (sets .entry)) (now (numbers .entry)) (now (chosen .entry)) top somes left at limits c r 1 ⌝ }
+    requires { ⌜ (spot .at < 256) × (spot .left ≤ 255) × (spot .somes ≤ 8) × (limits .limit ≤ 64) × (limits .parts ≤ 64) × (limits .greatest < 268435456) × Lendable (now script) (now sets) (now numbers) (spot .top) ⌝ }
+    ensures { λ r. ⌜ Finds (now (program .entry)) (now (script .entry)) (now (sets .entry)) (now (numbers .entry)) (now (chosen .entry)) (spot .top) (spot .somes) (spot .left) (spot .at) limits c r 1 ⌝ }
 {
-    let w = visit(
-        program,
-        script,
-        sets,
-        numbers,
-        at + 1,
-        top,
-        chosen,
-        somes,
-        left,
-        limits,
-        c,
-    );
+    let mut inner = spot;
+    inner.at = spot.at + 1;
+    let w = visit(program, script, sets, numbers, chosen, inner, limits, c);
     turned(w)
 }
 
@@ -203,47 +95,23 @@ fn either<'a>(
     script: &'a [u32],
     sets: &'a [u64; 131],
     numbers: &'a [u32; 481],
-    at: usize,
-    top: u64,
     chosen: &'a [u32; 256],
-    somes: usize,
-    left: usize,
+    spot: Spot,
     limits: Limits,
     c: Counts,
 ) -> Walked
-    requires { ⌜ (at < 256) × (left ≤ 255) × (somes ≤ 8) × (limits .limit ≤ 64) × (limits .parts ≤ 64) × (limits .greatest < 268435456) × Lendable (now script) (now sets) (now numbers) top ⌝ }
-    ensures { λ r. ⌜ Finds (now (program .entry)) (now (script .entry)) (now (sets .entry)) (now (numbers .entry)) (now (chosen .entry)) top somes left at limits c r 2 ⌝ }
+    requires { ⌜ (spot .at < 256) × (spot .left ≤ 255) × (spot .somes ≤ 8) × (limits .limit ≤ 64) × (limits .parts ≤ 64) × (limits .greatest < 268435456) × Lendable (now script) (now sets) (now numbers) (spot .top) ⌝ }
+    ensures { λ r. ⌜ Finds (now (program .entry)) (now (script .entry)) (now (sets .entry)) (now (numbers .entry)) (now (chosen .entry)) (spot .top) (spot .somes) (spot .left) (spot .at) limits c r 2 ⌝ }
 {
-    let on_left = visit(
-        program,
-        script,
-        sets,
-        numbers,
-        at + 1,
-        top,
-        chosen,
-        somes,
-        left,
-        limits,
-        c,
-    );
+    let mut inner = spot;
+    inner.at = spot.at + 1;
+    let on_left = visit(program, script, sets, numbers, chosen, inner, limits, c);
     let Walked::No(c2) = on_left else {
         return on_left;
     };
-    let right = wide(program[256 + at]);
-    visit(
-        program,
-        script,
-        sets,
-        numbers,
-        right,
-        top,
-        chosen,
-        somes,
-        left,
-        limits,
-        c2,
-    )
+    let mut right = spot;
+    right.at = wide(program[256 + spot.at]);
+    visit(program, script, sets, numbers, chosen, right, limits, c2)
 }
 
 // AT: the inner rule inside the one top part, if that is an ambient of the name.
@@ -252,35 +120,24 @@ fn at_name<'a>(
     script: &'a [u32],
     sets: &'a [u64; 131],
     numbers: &'a [u32; 481],
-    at: usize,
-    top: u64,
     chosen: &'a [u32; 256],
-    somes: usize,
-    left: usize,
+    spot: Spot,
     limits: Limits,
     c: Counts,
 ) -> Walked
-    requires { ⌜ (at < 256) × (left ≤ 255) × (somes ≤ 8) × (limits .limit ≤ 64) × (limits .parts ≤ 64) × (limits .greatest < 268435456) × Lendable (now script) (now sets) (now numbers) top ⌝ }
-    ensures { λ r. ⌜ Finds (now (program .entry)) (now (script .entry)) (now (sets .entry)) (now (numbers .entry)) (now (chosen .entry)) top somes left at limits c r 4 ⌝ }
+    requires { ⌜ (spot .at < 256) × (spot .left ≤ 255) × (spot .somes ≤ 8) × (limits .limit ≤ 64) × (limits .parts ≤ 64) × (limits .greatest < 268435456) × Lendable (now script) (now sets) (now numbers) (spot .top) ⌝ }
+    ensures { λ r. ⌜ Finds (now (program .entry)) (now (script .entry)) (now (sets .entry)) (now (numbers .entry)) (now (chosen .entry)) (spot .top) (spot .somes) (spot .left) (spot .at) limits c r 4 ⌝ }
 {
+    let at = spot.at;
+    let top = spot.top;
     if sets::is_single(top) {
         let i = sets::first(top);
         let name = name_said(program[at], chosen);
         if is_called(sets, numbers, i, name) {
-            let inside = sets[i];
-            return visit(
-                program,
-                script,
-                sets,
-                numbers,
-                at + 1,
-                inside,
-                chosen,
-                somes,
-                left,
-                limits,
-                c,
-            );
+            let mut inside = spot;
+            inside.at = at + 1;
+            inside.top = sets[i];
+            return visit(program, script, sets, numbers, chosen, inside, limits, c);
         }
     }
     Walked::No(c)
@@ -292,49 +149,26 @@ fn split<'a>(
     script: &'a [u32],
     sets: &'a [u64; 131],
     numbers: &'a [u32; 481],
-    at: usize,
-    top: u64,
     chosen: &'a [u32; 256],
-    somes: usize,
-    left: usize,
+    spot: Spot,
     limits: Limits,
     c: Counts,
     share: u64,
 ) -> Walked
-    requires { ⌜ (at < 256) × (left ≤ 255) × (somes ≤ 8) × (limits .limit ≤ 64) × (limits .parts ≤ 64) × (limits .greatest < 268435456) × Lendable (now script) (now sets) (now numbers) top ⌝ }
-    ensures { λ r. ⌜ Splits (now (program .entry)) (now (script .entry)) (now (sets .entry)) (now (numbers .entry)) (now (chosen .entry)) top somes left at limits c r share ⌝ }
+    requires { ⌜ (spot .at < 256) × (spot .left ≤ 255) × (spot .somes ≤ 8) × (limits .limit ≤ 64) × (limits .parts ≤ 64) × (limits .greatest < 268435456) × Lendable (now script) (now sets) (now numbers) (spot .top) ⌝ }
+    ensures { λ r. ⌜ Splits (now (program .entry)) (now (script .entry)) (now (sets .entry)) (now (numbers .entry)) (now (chosen .entry)) (spot .top) (spot .somes) (spot .left) (spot .at) limits c r share ⌝ }
 {
-    let w = visit(
-        program,
-        script,
-        sets,
-        numbers,
-        at + 1,
-        share,
-        chosen,
-        somes,
-        left,
-        limits,
-        c,
-    );
+    let mut here = spot;
+    here.at = spot.at + 1;
+    here.top = share;
+    let w = visit(program, script, sets, numbers, chosen, here, limits, c);
     let Walked::Yes(c2) = w else {
         return w;
     };
-    let right = wide(program[256 + at]);
-    let rest = sets::difference(top, share);
-    visit(
-        program,
-        script,
-        sets,
-        numbers,
-        right,
-        rest,
-        chosen,
-        somes,
-        left,
-        limits,
-        c2,
-    )
+    let mut there = spot;
+    there.at = wide(program[256 + spot.at]);
+    there.top = sets::difference(spot.top, share);
+    visit(program, script, sets, numbers, chosen, there, limits, c2)
 }
 
 // BESIDE: the shares in rising order of the sum of 2^number over their parts.
@@ -343,30 +177,24 @@ fn beside<'a>(
     script: &'a [u32],
     sets: &'a [u64; 131],
     numbers: &'a [u32; 481],
-    at: usize,
-    top: u64,
     chosen: &'a [u32; 256],
-    somes: usize,
-    left: usize,
+    spot: Spot,
     limits: Limits,
     c: Counts,
 ) -> Walked
-    requires { ⌜ (at < 256) × (left ≤ 255) × (somes ≤ 8) × (limits .limit ≤ 64) × (limits .parts ≤ 64) × (limits .greatest < 268435456) × Lendable (now script) (now sets) (now numbers) top ⌝ }
-    ensures { λ r. ⌜ Finds (now (program .entry)) (now (script .entry)) (now (sets .entry)) (now (numbers .entry)) (now (chosen .entry)) top somes left at limits c r 5 ⌝ }
+    requires { ⌜ (spot .at < 256) × (spot .left ≤ 255) × (spot .somes ≤ 8) × (limits .limit ≤ 64) × (limits .parts ≤ 64) × (limits .greatest < 268435456) × Lendable (now script) (now sets) (now numbers) (spot .top) ⌝ }
+    ensures { λ r. ⌜ Finds (now (program .entry)) (now (script .entry)) (now (sets .entry)) (now (numbers .entry)) (now (chosen .entry)) (spot .top) (spot .somes) (spot .left) (spot .at) limits c r 5 ⌝ }
 {
     let mut now = c;
     let mut share: u64 = 0;
-    while share != top {
+    while share != spot.top {
         let w = split(
             program,
             script,
             sets,
             numbers,
-            at,
-            top,
             chosen,
-            somes,
-            left,
+            spot,
             limits,
             now,
             share,
@@ -375,21 +203,18 @@ fn beside<'a>(
             return w;
         };
         now = c2;
-        share = sets::next_share(top, share);
+        share = sets::next_share(spot.top, share);
     }
     split(
         program,
         script,
         sets,
         numbers,
-        at,
-        top,
         chosen,
-        somes,
-        left,
+        spot,
         limits,
         now,
-        top,
+        spot.top,
     )
 }
 
@@ -399,38 +224,27 @@ fn some_name<'a>(
     script: &'a [u32],
     sets: &'a [u64; 131],
     numbers: &'a [u32; 481],
-    at: usize,
-    top: u64,
     chosen: &'a [u32; 256],
-    somes: usize,
-    left: usize,
+    spot: Spot,
     limits: Limits,
     c: Counts,
 ) -> Walked
-    requires { ⌜ (at < 256) × (left ≤ 255) × (somes ≤ 8) × (limits .limit ≤ 64) × (limits .parts ≤ 64) × (limits .greatest < 268435456) × Lendable (now script) (now sets) (now numbers) top ⌝ }
-    ensures { λ r. ⌜ Finds (now (program .entry)) (now (script .entry)) (now (sets .entry)) (now (numbers .entry)) (now (chosen .entry)) top somes left at limits c r 6 ⌝ }
+    requires { ⌜ (spot .at < 256) × (spot .left ≤ 255) × (spot .somes ≤ 8) × (limits .limit ≤ 64) × (limits .parts ≤ 64) × (limits .greatest < 268435456) × Lendable (now script) (now sets) (now numbers) (spot .top) ⌝ }
+    ensures { λ r. ⌜ Finds (now (program .entry)) (now (script .entry)) (now (sets .entry)) (now (numbers .entry)) (now (chosen .entry)) (spot .top) (spot .somes) (spot .left) (spot .at) limits c r 6 ⌝ }
 {
+    let somes = spot.somes;
     if 8 <= somes {
-        return Walked::Stopped(10, at, c.visits);
+        return Walked::Stopped(10, spot.at, c.visits);
     }
     let last = limits.greatest + somes as u32 + 1;
     let mut now = c;
     let mut n: u32 = 1;
     while n <= last {
-        let names = with_name(chosen, at, n);
-        let w = visit(
-            program,
-            script,
-            sets,
-            numbers,
-            at + 1,
-            top,
-            &names,
-            somes + 1,
-            left,
-            limits,
-            now,
-        );
+        let names = with_name(chosen, spot.at, n);
+        let mut inner = spot;
+        inner.at = spot.at + 1;
+        inner.somes = spot.somes + 1;
+        let w = visit(program, script, sets, numbers, &names, inner, limits, now);
         let Walked::No(c2) = w else {
             return w;
         };
@@ -446,19 +260,16 @@ fn moves_of<'a>(
     script: &'a [u32],
     sets: &'a [u64; 131],
     numbers: &'a [u32; 481],
-    at: usize,
-    top: u64,
     chosen: &'a [u32; 256],
-    somes: usize,
-    left: usize,
+    spot: Spot,
     limits: Limits,
     c: Counts,
     places: &'a [usize; 64],
     a: usize,
     aim: u64,
 ) -> Walked
-    requires { ⌜ (a < 64) × (at < 256) × (left ≤ 255) × (somes ≤ 8) × (limits .limit ≤ 64) × (limits .parts ≤ 64) × (limits .greatest < 268435456) × Lendable (now script) (now sets) (now numbers) top ⌝ }
-    ensures { λ r. ⌜ Tries (now (program .entry)) (now (script .entry)) (now (sets .entry)) (now (numbers .entry)) (now (chosen .entry)) top somes left at limits c r (now (places .entry)) a aim ⌝ }
+    requires { ⌜ (a < 64) × (spot .at < 256) × (spot .left ≤ 255) × (spot .somes ≤ 8) × (limits .limit ≤ 64) × (limits .parts ≤ 64) × (limits .greatest < 268435456) × Lendable (now script) (now sets) (now numbers) (spot .top) ⌝ }
+    ensures { λ r. ⌜ Tries (now (program .entry)) (now (script .entry)) (now (sets .entry)) (now (numbers .entry)) (now (chosen .entry)) (spot .top) (spot .somes) (spot .left) (spot .at) limits c r (now (places .entry)) a aim ⌝ }
 {
     let mut now = c;
     let mut rest = aim;
@@ -466,17 +277,16 @@ fn moves_of<'a>(
         let t = sets::first(rest);
         let others = sets::rest(rest);
         let step = Step::Move(a, t);
-        let s = next_state(script, sets, numbers, top, places, step);
+        let s = next_state(script, sets, numbers, spot.top, places, step);
+        let mut moved = spot;
+        moved.top = s.top;
         let w = visit(
             program,
             script,
             &s.sets,
             &s.numbers,
-            at,
-            s.top,
             chosen,
-            somes,
-            left,
+            moved,
             limits,
             now,
         );
@@ -495,35 +305,21 @@ fn sometime<'a>(
     script: &'a [u32],
     sets: &'a [u64; 131],
     numbers: &'a [u32; 481],
-    at: usize,
-    top: u64,
     chosen: &'a [u32; 256],
-    somes: usize,
-    left: usize,
+    spot: Spot,
     limits: Limits,
     c: Counts,
 ) -> Walked
-    requires { ⌜ (at < 256) × (left ≤ 255) × (somes ≤ 8) × (limits .limit ≤ 64) × (limits .parts ≤ 64) × (limits .greatest < 268435456) × Lendable (now script) (now sets) (now numbers) top ⌝ }
-    ensures { λ r. ⌜ Finds (now (program .entry)) (now (script .entry)) (now (sets .entry)) (now (numbers .entry)) (now (chosen .entry)) top somes left at limits c r 7 ⌝ }
+    requires { ⌜ (spot .at < 256) × (spot .left ≤ 255) × (spot .somes ≤ 8) × (limits .limit ≤ 64) × (limits .parts ≤ 64) × (limits .greatest < 268435456) × Lendable (now script) (now sets) (now numbers) (spot .top) ⌝ }
+    ensures { λ r. ⌜ Finds (now (program .entry)) (now (script .entry)) (now (sets .entry)) (now (numbers .entry)) (now (chosen .entry)) (spot .top) (spot .somes) (spot .left) (spot .at) limits c r 7 ⌝ }
 {
-    let inner = at + 1;
-    let w = visit(
-        program,
-        script,
-        sets,
-        numbers,
-        inner,
-        top,
-        chosen,
-        somes,
-        left,
-        limits,
-        c,
-    );
+    let mut unmoved = spot;
+    unmoved.at = spot.at + 1;
+    let w = visit(program, script, sets, numbers, chosen, unmoved, limits, c);
     let Walked::No(c2) = w else {
         return w;
     };
-    let found = all_targets(sets, numbers, top);
+    let found = all_targets(sets, numbers, spot.top);
     let limit = limits.limit;
     let mut now = c2;
     let mut a: usize = 0;
@@ -534,11 +330,8 @@ fn sometime<'a>(
             script,
             sets,
             numbers,
-            at,
-            top,
             chosen,
-            somes,
-            left,
+            spot,
             limits,
             now,
             &found.places,
@@ -560,52 +353,28 @@ fn somewhere<'a>(
     script: &'a [u32],
     sets: &'a [u64; 131],
     numbers: &'a [u32; 481],
-    at: usize,
-    top: u64,
     chosen: &'a [u32; 256],
-    somes: usize,
-    left: usize,
+    spot: Spot,
     limits: Limits,
     c: Counts,
 ) -> Walked
-    requires { ⌜ (at < 256) × (left ≤ 255) × (somes ≤ 8) × (limits .limit ≤ 64) × (limits .parts ≤ 64) × (limits .greatest < 268435456) × Lendable (now script) (now sets) (now numbers) top ⌝ }
-    ensures { λ r. ⌜ Finds (now (program .entry)) (now (script .entry)) (now (sets .entry)) (now (numbers .entry)) (now (chosen .entry)) top somes left at limits c r 8 ⌝ }
+    requires { ⌜ (spot .at < 256) × (spot .left ≤ 255) × (spot .somes ≤ 8) × (limits .limit ≤ 64) × (limits .parts ≤ 64) × (limits .greatest < 268435456) × Lendable (now script) (now sets) (now numbers) (spot .top) ⌝ }
+    ensures { λ r. ⌜ Finds (now (program .entry)) (now (script .entry)) (now (sets .entry)) (now (numbers .entry)) (now (chosen .entry)) (spot .top) (spot .somes) (spot .left) (spot .at) limits c r 8 ⌝ }
 {
-    let w = visit(
-        program,
-        script,
-        sets,
-        numbers,
-        at + 1,
-        top,
-        chosen,
-        somes,
-        left,
-        limits,
-        c,
-    );
+    let mut inner = spot;
+    inner.at = spot.at + 1;
+    let w = visit(program, script, sets, numbers, chosen, inner, limits, c);
     let Walked::No(c2) = w else {
         return w;
     };
     let mut now = c2;
-    let mut rest = sets::intersection(top, sets[129]);
+    let mut rest = sets::intersection(spot.top, sets[129]);
     while rest != 0 {
         let i = sets::first(rest);
         let others = sets::rest(rest);
-        let inside = sets[i];
-        let w2 = visit(
-            program,
-            script,
-            sets,
-            numbers,
-            at,
-            inside,
-            chosen,
-            somes,
-            left,
-            limits,
-            now,
-        );
+        let mut inside = spot;
+        inside.top = sets[i];
+        let w2 = visit(program, script, sets, numbers, chosen, inside, limits, now);
         let Walked::No(c3) = w2 else {
             return w2;
         };
@@ -621,17 +390,15 @@ fn placed_in<'a>(
     script: &'a [u32],
     sets: &'a [u64; 131],
     numbers: &'a [u32; 481],
-    at: usize,
-    top: u64,
     chosen: &'a [u32; 256],
-    somes: usize,
-    left: usize,
+    spot: Spot,
     limits: Limits,
     c: Counts,
 ) -> Walked
-    requires { ⌜ (at < 256) × (left ≤ 255) × (somes ≤ 8) × (limits .limit ≤ 64) × (limits .parts ≤ 64) × (limits .greatest < 268435456) × Lendable (now script) (now sets) (now numbers) top ⌝ }
-    ensures { λ r. ⌜ Finds (now (program .entry)) (now (script .entry)) (now (sets .entry)) (now (numbers .entry)) (now (chosen .entry)) top somes left at limits c r 9 ⌝ }
+    requires { ⌜ (spot .at < 256) × (spot .left ≤ 255) × (spot .somes ≤ 8) × (limits .limit ≤ 64) × (limits .parts ≤ 64) × (limits .greatest < 268435456) × Lendable (now script) (now sets) (now numbers) (spot .top) ⌝ }
+    ensures { λ r. ⌜ Finds (now (program .entry)) (now (script .entry)) (now (sets .entry)) (now (numbers .entry)) (now (chosen .entry)) (spot .top) (spot .somes) (spot .left) (spot .at) limits c r 9 ⌝ }
 {
+    let at = spot.at;
     let number = wide(program[512 + at]);
     if 64 <= number {
         return Walked::Stopped(12, at, c.visits);
@@ -646,17 +413,17 @@ fn placed_in<'a>(
     }
     let nowhere: [usize; 64] = [65; 64];
     let step = Step::Place(i, name);
-    let s = next_state(script, sets, numbers, top, &nowhere, step);
+    let s = next_state(script, sets, numbers, spot.top, &nowhere, step);
+    let mut inner = spot;
+    inner.at = at + 1;
+    inner.top = s.top;
     visit(
         program,
         script,
         &s.sets,
         &s.numbers,
-        at + 1,
-        s.top,
         chosen,
-        somes,
-        left,
+        inner,
         limits,
         c,
     )
@@ -684,16 +451,19 @@ pub fn walk_rule<'a>(
         visits: 0,
         deepest: 0,
     };
+    let first = Spot {
+        at: 0,
+        top: s.top,
+        somes: 0,
+        left: 256,
+    };
     visit(
         &program,
         script,
         &s.sets,
         &s.numbers,
-        0,
-        s.top,
         &chosen,
-        0,
-        256,
+        first,
         limits,
         none,
     )

@@ -55,6 +55,14 @@ pub enum Walked {
     Stopped(u32, usize, u32),
 }
 
+// Where a visit is made: the word's index, the set of the top parts, the SOMEs around, and the depths left.
+pub struct Spot {
+    pub at: usize,
+    pub top: u64,
+    pub somes: usize,
+    pub left: usize,
+}
+
 // The places of all parts, and the targets of each actor's moves.
 pub struct Found {
     pub places: [usize; 64],

@@ -35,7 +35,7 @@ loop-holds : tie.Need-loop-holds Inv-loop μ-loop
 loop-holds c = (omega arith, refl, refl, λ b h. absurd (let z : ⊥ = omega arith in z))
 
 targets-requires : tie.Need-targets-requires Inv-loop μ-loop
-targets-requires c κs = c .before .before .before .before .before .loop-test .taken
+targets-requires c κs = omega (arith, c .before .before .before .before .before .loop-test .taken)
 
 mul-found : tie.Need-mul-found Inv-loop μ-loop
 mul-found c = omega (arith, c .before .before .before .before .before .before .loop-test .taken)

@@ -53,37 +53,37 @@ use Rattle.visits.proofs.+at_name+beside+either+moves_of+negation+place
 use Rattle.visits.proofs.+at_name+beside+either+moves_of+negation+placed_in+some_name+sometime+somewhere+split+visit.Lts-visit as visit-lts
 
 abbrev pub μ-at-name : Measures 1 at-name-kinds.ps ℕ
-μ-at-name κs a = 3 * a .1 .1 .1 .1 .1 .1 .1 .1 .0 + 2
+μ-at-name κs a = 3 * a .1 .1 .1 .1 .1 .0 .left + 2
 
 abbrev pub μ-beside : Measures 1 beside-kinds.ps ℕ
-μ-beside κs a = 3 * a .1 .1 .1 .1 .1 .1 .1 .1 .0 + 2
+μ-beside κs a = 3 * a .1 .1 .1 .1 .1 .0 .left + 2
 
 abbrev pub μ-either : Measures 1 either-kinds.ps ℕ
-μ-either κs a = 3 * a .1 .1 .1 .1 .1 .1 .1 .1 .0 + 2
+μ-either κs a = 3 * a .1 .1 .1 .1 .1 .0 .left + 2
 
 abbrev pub μ-moves-of : Measures 1 moves-of-kinds.ps ℕ
-μ-moves-of κs a = 3 * a .1 .1 .1 .1 .1 .1 .1 .1 .0 + 1
+μ-moves-of κs a = 3 * a .1 .1 .1 .1 .1 .0 .left + 1
 
 abbrev pub μ-negation : Measures 1 negation-kinds.ps ℕ
-μ-negation κs a = 3 * a .1 .1 .1 .1 .1 .1 .1 .1 .0 + 2
+μ-negation κs a = 3 * a .1 .1 .1 .1 .1 .0 .left + 2
 
 abbrev pub μ-placed-in : Measures 1 placed-in-kinds.ps ℕ
-μ-placed-in κs a = 3 * a .1 .1 .1 .1 .1 .1 .1 .1 .0 + 2
+μ-placed-in κs a = 3 * a .1 .1 .1 .1 .1 .0 .left + 2
 
 abbrev pub μ-some-name : Measures 1 some-name-kinds.ps ℕ
-μ-some-name κs a = 3 * a .1 .1 .1 .1 .1 .1 .1 .1 .0 + 2
+μ-some-name κs a = 3 * a .1 .1 .1 .1 .1 .0 .left + 2
 
 abbrev pub μ-sometime : Measures 1 sometime-kinds.ps ℕ
-μ-sometime κs a = 3 * a .1 .1 .1 .1 .1 .1 .1 .1 .0 + 2
+μ-sometime κs a = 3 * a .1 .1 .1 .1 .1 .0 .left + 2
 
 abbrev pub μ-somewhere : Measures 1 somewhere-kinds.ps ℕ
-μ-somewhere κs a = 3 * a .1 .1 .1 .1 .1 .1 .1 .1 .0 + 2
+μ-somewhere κs a = 3 * a .1 .1 .1 .1 .1 .0 .left + 2
 
 abbrev pub μ-split : Measures 1 split-kinds.ps ℕ
-μ-split κs a = 3 * a .1 .1 .1 .1 .1 .1 .1 .1 .0 + 1
+μ-split κs a = 3 * a .1 .1 .1 .1 .1 .0 .left + 1
 
 abbrev pub μ-visit : Measures 1 visit-kinds.ps ℕ
-μ-visit κs a = 3 * a .1 .1 .1 .1 .1 .1 .1 .1 .0
+μ-visit κs a = 3 * a .1 .1 .1 .1 .1 .0 .left
 
 abbrev pub at-name-at : ℕ → In 1 at-name-kinds.ps
 at-name-at t = and 1 at-name-kinds.ps (is 1 at-name-kinds.ps μ-at-name t) at-name.Pre
