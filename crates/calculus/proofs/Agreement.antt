@@ -9,7 +9,7 @@ use Rattle.messages.specs.Message.{name, nameOf}
 use Rattle.scripts.specs.Tree.{Head, close, part, PlainHead, Plain}
 use Rattle.machine.specs.Moves.{headName}
 use Rattle.machine.proofs.Inversion.{plain-name}
-use Rattle.rules.specs.Rule.{Names, termName, Rule, always, negation, either, void, at, beside, some-name, sometime, somewhere, placed}
+use Rattle.rules.specs.Rule.{Names, termName, Rule, always, negation, either, void, at, beside, some-name, sometime, somewhere, placed, Later}
 use Rattle.calculus.specs.Satisfaction.{Inside, first, later, Within, here, deeper, Reaches, stay, go, Alone, wrapped, Sat}
 use Rattle.calculus.specs.Order.{Part, front, behind}
 use Rattle.calculus.specs.Calculus.{Process, 𝟎, ambient, _≅_, Refl, Symm, Trans, Amb, ZeroPar, piece, process, RedCong, _⟶*_, _↓_, Loc, _↓*_, Satisfies}
@@ -43,19 +43,6 @@ congruent-satisfies (some-name i r) e p q h s = (s .0, s .1, congruent-satisfies
 congruent-satisfies (sometime i r) e p q h s = let x = later-congruent (s .1) h in (x .0, x .1, congruent-satisfies r e (s .0) (x .0) (x .2) (s .2))
 congruent-satisfies (somewhere i r) e p q h s = let x = lower-congruent (s .1) h in (x .0, x .1, congruent-satisfies r e (s .0) (x .0) (x .2) (s .2))
 congruent-satisfies (placed i j t r) e p q h s = congruent-satisfies r e _ _ (Amb h) s
-
--- the PLACED words of a rule have places from q up, each deeper one a greater
-abbrev pub Places : ℕ → Rule → Type 0
-Places q (always i) = Unit {0}
-Places q (negation i r) = Places q r
-Places q (either i r s) = Places q r × Places q s
-Places q (void i) = Unit {0}
-Places q (at i t r) = Places q r
-Places q (beside i r s) = Places q r × Places q s
-Places q (some-name i r) = Places q r
-Places q (sometime i r) = Places q r
-Places q (somewhere i r) = Places q r
-Places q (placed i j t r) = (q ≤ j) × Places (suc j) r
 
 module _ (n : ℕ) where
   -- moves and reductions (000, proposition 3.4)
@@ -122,7 +109,7 @@ good-inside : (n k m : ℕ) (b c : Plain) → Good n b → b ≡ wrapped k m c �
 good-inside n k m b c g e = good-part n (wrapped k m c) close c k (name m) (subst (Good n) e g) front
 
 -- THEOREM: a good tree meets a rule just if its process satisfies it.
-pub agree : (n : ℕ) (r : Rule) (q : ℕ) → Places q r → (e : Names) (b : Plain) → Good (n + q) b → Sat n e r b ↔ Satisfies e (process b) r
+pub agree : (n : ℕ) (r : Rule) (q : ℕ) → Later q r → (e : Names) (b : Plain) → Good (n + q) b → Sat n e r b ↔ Satisfies e (process b) r
 unfolding Sat Satisfies
 agree n (always i) q w e b g = (λ _. tt, λ _. tt)
 agree n (negation i r) q w e b g = let a = agree n r q w e b g in (λ x y. x (a .1 y), λ x y. x (a .0 y))
@@ -185,7 +172,7 @@ agree n (placed i j t r) q w e b g =
 
 -- THEOREM: trees that stand for congruent processes meet the same rules. They may differ in order, in numbers and in the names
 -- of variables.
-pub same-sat : (n : ℕ) (r : Rule) → Places 0 r → (e : Names) (b c : Plain) → Good (n + 0) b → Good (n + 0) c → process b ≅ process c → Sat n e r b ↔ Sat n e r c
+pub same-sat : (n : ℕ) (r : Rule) → Later 0 r → (e : Names) (b c : Plain) → Good (n + 0) b → Good (n + 0) c → process b ≅ process c → Sat n e r b ↔ Sat n e r c
 same-sat n r w e b c g h p =
     let x = agree n r 0 w e b g in
     let y = agree n r 0 w e c h in

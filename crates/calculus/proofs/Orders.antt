@@ -10,7 +10,7 @@ use Rattle.messages.specs.Message.{Message, variable}
 use Rattle.scripts.specs.Tree.{Head, part, sum, PlainHead, Plain}
 use Rattle.machine.specs.Moves.{Moved}
 use Rattle.machine.specs.PlainMachine.{move}
-use Rattle.rules.specs.Rule.{Names, Rule}
+use Rattle.rules.specs.Rule.{Names, Rule, Later}
 use Rattle.calculus.specs.Satisfaction.{Sat}
 use Rattle.calculus.specs.Order.{Part, Reordered, nothing, among, receipt}
 use Rattle.calculus.specs.Calculus.{_≅_, Refl, Alpha, Symm, Trans, Input, piece, process, substitute, occurs}
@@ -21,7 +21,7 @@ use Rattle.calculus.proofs.Reductions.{move-reduces}
 use Rattle.calculus.proofs.Steps.{reduction-step}
 use Rattle.calculus.proofs.Runs.{step-move}
 use Rattle.calculus.proofs.Kept.{Good, binds-shrinks}
-use Rattle.calculus.proofs.Agreement.{Places, same-sat}
+use Rattle.calculus.proofs.Agreement.{same-sat}
 
 -- one part, and the others, matched
 matched : (k : ℕ) (h : PlainHead) (i r : Plain) {l : ℕ} {g : PlainHead} {j q c : Plain} → Part c l g j q → piece h (process i) ≅ piece g (process j) → process r ≅ process q →
@@ -57,5 +57,5 @@ move-matched n b c g h p a t m e =
     (y .0, y .1, y .2, y .3, Symm (Trans (y .4) (x .2)))
 
 -- THEOREM: reordered trees meet the same rules.
-pub reordered-sat : (n : ℕ) (r : Rule) → Places 0 r → (e : Names) (b c : Plain) → Good (n + 0) b → Good (n + 0) c → Reordered b c → Sat n e r b ↔ Sat n e r c
+pub reordered-sat : (n : ℕ) (r : Rule) → Later 0 r → (e : Names) (b c : Plain) → Good (n + 0) b → Good (n + 0) c → Reordered b c → Sat n e r b ↔ Sat n e r c
 reordered-sat n r w e b c g h x = same-sat n r w e b c g h (reordered-congruent x (g .once))

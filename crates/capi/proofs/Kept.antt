@@ -7,13 +7,13 @@ use borrow.Author.Tests.{le-leb, lt-leb}
 use Rattle.messages.specs.Reading.{Cursor, got}
 use Rattle.scripts.specs.Script.{Script, readScript}
 use Rattle.scripts.specs.Measures.{movesBound}
-use Rattle.checker.specs.Call.{Call, Answer, answer}
+use Rattle.plain_call.specs.Call.{Call, Answer, answer}
 use Rattle.checker.specs.Answering.{answerOf}
 use Rattle.checker.specs.declared.Answer as engine
-use Rattle.checker.specs.Standing.{Decides, WeightHolds}
+use Rattle.plain_call.specs.Standing.{Decides, WeightHolds}
 use Rattle.checker.proofs.Concluding.{decides}
-use Rattle.checker.proofs.ClosureRuns.{moves-bounded}
-use Rattle.checker.proofs.Runs.{weight-holds}
+use Rattle.plain_call.proofs.ClosureRuns.{moves-bounded}
+use Rattle.plain_call.proofs.Runs.{weight-holds}
 use Rattle.capi.specs.Told.{told, returned, answered, written}
 
 -- what every call keeps to

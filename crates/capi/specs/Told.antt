@@ -5,7 +5,7 @@ use mathlib.Core.Bool.{Bool, true, false, cond}
 use mathlib.Core.List.{List, [], _∷_, _++_}
 use lib.ListN.{length, drop}
 use lib.Dec.{leb}
-use Rattle.checker.specs.Call.{Call, Verdict, accepted, refused, Answer, answer}
+use Rattle.plain_call.specs.Call.{Call, Verdict, accepted, refused, Answer, answer}
 
 -- "0 refused, 1 no, 2 yes"
 unfoldable pub saidOf : Verdict → ℕ

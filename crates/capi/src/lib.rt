@@ -9,9 +9,9 @@ ghost use lib.ListN.{length, drop};
 ghost use Rattle.messages.specs.Reading.{Cursor, got};
 ghost use Rattle.scripts.specs.Script.{Script, readScript};
 ghost use Rattle.scripts.specs.Measures.{movesBound};
-ghost use Rattle.checker.specs.Call.{answer as plainAnswer};
+ghost use Rattle.plain_call.specs.Call.{answer as plainAnswer};
 ghost use Rattle.checker.specs.Answering.{verdictOf, answerOf, callOf};
-ghost use Rattle.checker.specs.Standing.{Decides, WeightHolds};
+ghost use Rattle.plain_call.specs.Standing.{Decides, WeightHolds};
 ghost use Rattle.capi.specs.Told.{saidOf, questionOf, placeOf, narrowed, told, returned, answered, written};
 
 // Yes, no or refused, as the first word of an answer has it.

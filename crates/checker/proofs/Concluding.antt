@@ -25,18 +25,18 @@ use Rattle.decision.specs.Walk.{walkFrom}
 use Rattle.decision.specs.ClosureWalk.{closureSpace}
 use Rattle.walk.specs.Visits.{walkedOf, Walks}
 use Rattle.walk.specs.declared.Walked.{Walked}
-use Rattle.walk.proofs.Order.{rule-ordered}
-use Rattle.checker.specs.Call.{Call, Verdict, accepted, refused, walked, setting, answer}
-use Rattle.checker.specs.Call as plain
-use Rattle.checker.specs.ClosureCall.{moved, closureRun, unfoldRan, begun}
+use Rattle.rules.proofs.Order.{rule-ordered}
+use Rattle.plain_call.specs.Call.{Call, Verdict, accepted, refused, walked, setting, answer}
+use Rattle.plain_call.specs.Call as plain
+use Rattle.plain_call.specs.ClosureCall.{moved, closureRun, unfoldRan, begun}
 use Rattle.checker.specs.Answering.{verdictOf, answerOf, callOf}
 use Rattle.checker.specs.declared.Answer.{Answer}
 use Rattle.checker.specs.Calling.{Stands}
-use Rattle.checker.specs.Standing.{Standing, Decides, WeightHolds}
-use Rattle.checker.proofs.ClosureRuns.{started-unfolded, moves-bounded}
-use Rattle.checker.proofs.Runs.{weight-holds}
-use Rattle.checker.proofs.Called.{answers-walked}
-use Rattle.checker.proofs.Verdicts.{answer-stands, standing-good, verdict-yes, verdict-no}
+use Rattle.plain_call.specs.Standing.{Standing, Decides, WeightHolds}
+use Rattle.plain_call.proofs.ClosureRuns.{started-unfolded, moves-bounded}
+use Rattle.plain_call.proofs.Runs.{weight-holds}
+use Rattle.plain_call.proofs.Called.{answers-walked}
+use Rattle.plain_call.proofs.Verdicts.{answer-stands, standing-good, verdict-yes, verdict-no}
 use Rattle.checker.proofs.Calling.{number-is}
 
 -- ---- questions 17 to 19

@@ -18,8 +18,8 @@ use Rattle.writer.specs.Buffer.{over, room, answered, buffered}
 use Rattle.writer.specs.declared.Fitting.{Fitting}
 use Rattle.writer.specs.declared.Fitting.the-variants.{Words, Refused}
 use Rattle.decision.specs.Walk.{Count}
-use Rattle.checker.specs.Call.{Call, accepted, refusal, written, finish}
-use Rattle.checker.specs.Call as plain
+use Rattle.plain_call.specs.Call.{Call, accepted, refusal, written, finish}
+use Rattle.plain_call.specs.Call as plain
 use Rattle.checker.specs.Answering.{verdictOf, answerOf}
 use Rattle.checker.specs.declared.Answer.{Answer}
 

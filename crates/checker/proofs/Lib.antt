@@ -1,12 +1,5 @@
--- The theorems about the call.
-pub mod Runs
-pub mod Door
-pub mod Begun
-pub mod Answers
-pub mod Verdicts
-pub mod ClosureRuns
+-- The laws of the call's code: the list of moves, the end, the questions in their order.
 pub mod Listed
 pub mod Ending
-pub mod Called
 pub mod Calling
 pub mod Concluding

@@ -15,8 +15,8 @@ use Rattle.closures.specs.Represents.{boundIn, Represents}
 use Rattle.closures.specs.Targets.{isSome}
 use Rattle.closures.specs.Makes.{Makes, Tries}
 use Rattle.closures.specs.declared.State.{State}
-use Rattle.checker.specs.Call.{actor, target, moveFits}
-use Rattle.checker.specs.ClosureCall.{halted, moved, afterMove, ifMade, closureRun}
+use Rattle.plain_call.specs.Call.{actor, target, moveFits}
+use Rattle.plain_call.specs.ClosureCall.{halted, moved, afterMove, ifMade, closureRun}
 use Rattle.checker.specs.Running.{Ends, Runs}
 use Rattle.checker.specs.declared.Ended.{Ended}
 use Rattle.checker.specs.declared.Ended.the-variants.{Made, Halted}

@@ -3,8 +3,8 @@
 use Prim.Native.Nat.{ℕ}
 use mathlib.Core.Bool.{true, false}
 use mathlib.Core.List.{List}
-use Rattle.checker.specs.Call.{Call}
-use Rattle.checker.specs.Call as plain
+use Rattle.plain_call.specs.Call.{Call}
+use Rattle.plain_call.specs.Call as plain
 use Rattle.checker.specs.declared.Verdict.{Verdict}
 use Rattle.checker.specs.declared.Verdict.the-variants.{Yes, No, Refused}
 use Rattle.checker.specs.declared.Answer.{Answer}

@@ -17,7 +17,7 @@ use Rattle.rules.specs.declared.RuleTable.{RuleTable}
 use Rattle.closure_machine.specs.Closure.{ClosureMachine}
 use Rattle.closures.specs.Represents.{boundIn, Represents}
 use Rattle.closures.specs.declared.State.{State}
-use Rattle.checker.specs.ClosureCall.{moved, closureRun, begun}
+use Rattle.plain_call.specs.ClosureCall.{moved, closureRun, begun}
 
 -- the script is read, and the table holds it
 pub record ScriptHeld (script : List ℕ) (t : Table) : Type 0 where

@@ -6,7 +6,7 @@ use lib.ListN.{length}
 use Rattle.closure_machine.specs.Closure.{Closure}
 use Rattle.closures.specs.Represents.{boundIn, Represents}
 use Rattle.closures.specs.declared.State.{State}
-use Rattle.checker.specs.ClosureCall.{ClosureRan, halted, moved, closureRun}
+use Rattle.plain_call.specs.ClosureCall.{ClosureRan, halted, moved, closureRun}
 use Rattle.checker.specs.declared.Ended.{Ended}
 use Rattle.checker.specs.declared.Ended.the-variants.{Made, Halted}
 

@@ -1,19 +1,19 @@
 // The call. It rests on the promises of all layers below.
 use bindings::tail;
 use closures::State;
-use closures::first_state;
-use closures::try_move;
 use closures::weigh;
 use messages::Outcome;
+use moves::first_state;
+use moves::try_move;
 use rules::RuleTable;
 use rules::greatest_rule_name;
 use rules::read_whole_rule;
 use scripts::Table;
 use scripts::greatest_name;
 use scripts::read_script;
+use visits::walk_rule;
 use walk::Limits;
 use walk::Walked;
-use walk::walk_rule;
 use writer::Fitting;
 use writer::write_tree;
 ghost use mathlib.Core.Path.{_≡_};
@@ -31,11 +31,11 @@ ghost use Rattle.walk.specs.Visits.{walkedOf};
 ghost use Rattle.writer.specs.Bodies.{Scripted};
 ghost use Rattle.writer.specs.Buffer.{answered, buffered};
 ghost use Rattle.writer.specs.Write.{write};
-ghost use Rattle.checker.specs.Call.{actor, target, moveFits, accepted, refusal, walked, answer};
-ghost use Rattle.checker.specs.Call.{finish as finished};
+ghost use Rattle.plain_call.specs.Call.{actor, target, moveFits, accepted, refusal, walked, answer};
+ghost use Rattle.plain_call.specs.Call.{finish as finished};
 ghost use Rattle.checker.specs.Answering.{verdictOf, answerOf, callOf};
 ghost use Rattle.checker.specs.Running.{Runs};
-ghost use Rattle.checker.specs.Standing.{Decides, WeightHolds};
+ghost use Rattle.plain_call.specs.Standing.{Decides, WeightHolds};
 ghost use Rattle.checker.specs.Calling.{ScriptHeld, RuleHeld, Stands};
 
 // Yes or no, or the question that refuses the call, and its place.

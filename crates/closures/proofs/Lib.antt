@@ -2,8 +2,6 @@
 pub mod Heads
 pub mod Holding
 pub mod Focus
-pub mod Settling
-pub mod Settled
 pub mod Looking
 pub mod Deeds
 pub mod Moving
@@ -19,8 +17,6 @@ pub mod Possible
 pub mod Aiming
 pub mod Arrays
 pub mod Copying
-pub mod Placing
+pub mod Standing
 pub mod Weighing
 pub mod Making
-pub mod Finishing
-pub mod Dispatch

@@ -1,9 +1,12 @@
 -- What the engine's functions for the moves make of a state. Assumes nothing: these are definitions.
 use Prim.Native.Nat.{ℕ, _+_, _<_}
 use mathlib.Core.Bool.{Bool, true}
-use mathlib.Core.List.{List, _++_}
+use mathlib.Core.List.{List, _∷_, _++_}
 use mathlib.Core.Option.{some}
 use mathlib.Core.Path.{_≡_}
+use lib.ListN.{getD, set, drop}
+use Rattle.sets.specs.Sets.{members, remove, join}
+use Rattle.messages.specs.Spelling.{messageAt}
 use Rattle.scripts.specs.Represents.{bodyIn}
 use Rattle.machine.specs.Moves.{Moved}
 use Rattle.closure_machine.specs.Closure.{Action, ClosureHead, Closure, Bindings, closureMove}
@@ -29,6 +32,16 @@ module _ (script kinds starts : List ℕ) (s r : State) where
 
   abbrev pub Passes : Asks → Type 0
   Passes test = test (boundIn script s) (bodyIn (s .kids)) (heads script kinds starts (s .offsets)) ≡ true
+
+  -- r is s before it is settled: the receipt a and the output t are gone from the body of p, the receipt's body stands there,
+  -- and its variable is bound
+  pub record Received (p a t : ℕ) : Type 0 where
+    pub set-of : ℕ
+    pub kids : r .kids ≡ set (s .kids) p set-of
+    pub members-of : members set-of ≡ join (bodyIn (s .kids) a) (remove t (remove a (bodyIn (s .kids) p)))
+    pub offsets : r .offsets ≡ s .offsets
+    pub first : r .bindings .first + 1 ≡ s .bindings .first
+    pub news : boundIn script r ≡ (getD starts a 0, messageAt (drop (getD starts t 0) script)) ∷ boundIn script s
 
   -- the four moves, p being the part in whose body the actor stands, and q the one in whose body that part stands
   abbrev pub Opens : (p a t : ℕ) → Type 0

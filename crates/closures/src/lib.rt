@@ -1,34 +1,29 @@
-// Closures and moves. It rests on the promises of bindings, scripts, messages and sets.
+// What the engine keeps of a closure: its state, what is asked of the parts again and again, and a state as two arrays for
+// lending. It rests on the promises of bindings, scripts, messages and sets.
 use bindings::Bindings;
-use bindings::bind;
 use bindings::first_item;
 use bindings::name_at;
-use bindings::none;
 use bindings::tail;
 use bindings::wide;
 use messages::First;
 use messages::Named;
 ghost use mathlib.Core.Path.{_≡_};
 ghost use mathlib.Core.Bool.{Bool, true, false, cond};
-ghost use mathlib.Core.List.{List, []};
+ghost use mathlib.Core.List.{List};
 ghost use Prim.Native.Nat.{ℕ, _+_, _*_, _-_, _≤_, _<_};
 ghost use lib.Dec.{eqb};
-ghost use lib.ListN.{length, getD, set};
+ghost use lib.ListN.{length, getD};
 ghost use Rattle.sets.specs.Sets.{members, elem, insert};
-ghost use Rattle.messages.specs.Message.{name as named};
-ghost use Rattle.scripts.specs.Tree.{ambient, close, part, tops, parts, count};
-ghost use Rattle.scripts.specs.Represents.{Held, bodyIn, Tabled};
-ghost use Rattle.scripts.specs.Script.{Script};
+ghost use Rattle.scripts.specs.Tree.{parts};
+ghost use Rattle.scripts.specs.Represents.{bodyIn};
 ghost use Rattle.bindings.specs.Resolve.{bindingsIn};
 ghost use Rattle.bindings.specs.Measures.{Kept, itemCount};
-ghost use Rattle.bindings.specs.Held.{bindingsOf};
 ghost use Rattle.machine.specs.Moves.{isThat, sameName, headName, firstOf};
-ghost use Rattle.closure_machine.specs.Closure.{ClosureHead, Closure, under, settleUnder, closureOf};
-ghost use Rattle.closures.specs.Searches.{SettlesBy, LocatesBy, Located, CountsParts};
-ghost use Rattle.closures.specs.Represents.{headOf, heads, boundIn, Counted, Ready, Represents};
-ghost use Rattle.closures.specs.Makes.{Opens, Enters, Exits, Receives, Moves, Tries};
+ghost use Rattle.closure_machine.specs.Closure.{ClosureHead, Closure, under};
+ghost use Rattle.closures.specs.Searches.{LocatesBy, Located, CountsParts};
+ghost use Rattle.closures.specs.Represents.{headOf, heads, Counted, Ready, Represents};
 ghost use Rattle.closures.specs.Targets.{isWithin, isBeside, isAround, TargetsOf};
-ghost use Rattle.closures.specs.Lent.{stretch, kindsIn, startsIn, stateIn, Put, Small};
+ghost use Rattle.closures.specs.Lent.{stretch, kindsIn, startsIn, stateIn, standing, Put, Small};
 ghost use Rattle.closures.specs.Seen.{nameIn, actOf, aimOf, busyOf, isOutput, Does, kept, Seen};
 
 // What is kept of the parts: the set of those that have a name, and their names; what each does first (1 OPEN, 2 IN,
@@ -76,7 +71,7 @@ fn part_name(script: &[u32], kind: u8, start: u32, variables: &[u32], places: &[
 }
 
 // The first item that is not spent of a part of that kind, start and offset, under the bindings.
-fn part_item(
+pub fn part_item(
     script: &[u32],
     kind: u8,
     start: u32,
@@ -141,7 +136,7 @@ fn name_parts<'a>(
 }
 
 // m, and i where that is so.
-fn with_if(m: u64, i: usize, so: bool) -> u64
+pub fn with_if(m: u64, i: usize, so: bool) -> u64
     requires { ⌜ i < 64 ⌝ }
     ensures { λ r. ⌜ members r ≡ cond so (insert i (members m)) (members m) ⌝ }
 {
@@ -200,7 +195,7 @@ fn outputs(kinds: &[u8; 64]) -> u64
 }
 
 // What an action does by its first item.
-fn item_deed(item: First, named: u64, names: &[u32; 64]) -> Deed
+pub fn item_deed(item: First, named: u64, names: &[u32; 64]) -> Deed
     ensures { λ r. ⌜ ((o : Bool) → (r .act ≡ actOf 2 item) × ((i : ℕ) → i < 64 → elem i (members (r .aim)) ≡ aimOf 2 item o (nameIn named (now (names .entry)) i)) × (r .busy ≡ busyOf 2 item)) ⌝ }
 {
     match item {
@@ -334,43 +329,8 @@ fn look<'a>(
     l
 }
 
-// What becomes of the parts of left when they are settled: an action with no items left goes, and its body comes in its
-// place; in the bodies of ambients too, which kids then holds. Where none of them is busy, nothing changes.
-fn settle_below<'a, 'b>(
-    kids: &'b mut [u64; 65],
-    kinds: &'a [u8; 64],
-    busy: u64,
-    left: u64,
-    fuel: usize,
-) -> u64
-    requires { ⌜ length (now kids) ≡ 65 ⌝ }
-    ensures kept { λ r. ⌜ length (now (kids .exit)) ≡ 65 ⌝ }
-    ensures settled { λ r. ⌜ SettlesBy (members busy) (now (kinds .entry)) (bodyIn (now (kids .entry))) (bodyIn (now (kids .exit))) (members left) (members r) fuel ⌝ }
-{
-    if sets::intersection(left, busy) == 0 {
-        return left;
-    }
-    if fuel == 0 {
-        return 0;
-    }
-    let i = sets::first(left);
-    let others = sets::rest(left);
-    let rest = settle_below(kids, kinds, busy, others, fuel - 1);
-    if sets::has(busy, i) {
-        let inside = kids[i];
-        let s = settle_below(kids, kinds, busy, inside, fuel - 1);
-        let kind = kinds[i];
-        if kind == 1 {
-            kids[i] = s;
-            return sets::with(rest, i);
-        }
-        return sets::union(s, rest);
-    }
-    sets::with(rest, i)
-}
-
 // The state of those bodies, offsets and bindings.
-fn looked<'a>(
+pub fn looked<'a>(
     script: &'a [u32],
     kinds: &'a [u8; 64],
     starts: &'a [u32; 64],
@@ -403,167 +363,7 @@ fn looked<'a>(
     }
 }
 
-// The state after every action with no items left is gone.
-fn settle(kinds: &[u8; 64], state: State) -> State
-    ensures same { λ r. ⌜ (r .offsets ≡ state .offsets) × (r .looks ≡ state .looks) × (r .bindings ≡ state .bindings) ⌝ }
-    ensures settled { λ r. ⌜ ((script starts : List ℕ) (weight spent : ℕ) (b : Closure) → Ready script (now (kinds .entry)) starts state → spent < 4294967295 → Represents script (now (kinds .entry)) starts weight spent state b → Represents script (now (kinds .entry)) starts weight spent r (settleUnder (boundIn script state) b)) ⌝ }
-{
-    let mut kids = state.kids;
-    let offsets = state.offsets;
-    let looks = state.looks;
-    let bindings = state.bindings;
-    let top = kids[64];
-    let s = settle_below(&mut kids, kinds, looks.busy, top, 64);
-    kids[64] = s;
-    State {
-        kids,
-        offsets,
-        looks,
-        bindings,
-    }
-}
-
-// The first item that is not spent of such a part, under the bindings as they are held.
-fn item_under(script: &[u32], kind: u8, start: u32, offset: u32, bindings: Bindings) -> First
-    requires { ⌜ Counted (now script) bindings ⌝ }
-    ensures { λ r. ⌜ (offset < 4294967295 → r ≡ firstOf (under (bindingsOf (now (script .entry)) bindings)) (headOf (now (script .entry)) kind start offset)) ⌝ }
-{
-    let variables = bindings.variables;
-    let places = bindings.places;
-    let counts = bindings.counts;
-    let first = bindings.first;
-    part_item(
-        script,
-        kind,
-        start,
-        offset,
-        tail(&variables, first),
-        tail(&places, first),
-        tail(&counts, first),
-    )
-}
-
-// One more item of the action a is spent.
-fn spend<'a>(
-    script: &'a [u32],
-    kinds: &'a [u8; 64],
-    starts: &'a [u32; 64],
-    state: State,
-    a: usize,
-) -> State
-    requires { ⌜ (a < 64) × Ready (now script) (now kinds) (now starts) state ⌝ }
-    ensures ready { λ r. ⌜ Ready (now (script .entry)) (now (kinds .entry)) (now (starts .entry)) r ⌝ }
-    ensures same { λ r. ⌜ (r .kids ≡ state .kids) × (r .bindings ≡ state .bindings) ⌝ }
-    ensures raised { λ r. ⌜ (getD (now (kinds .entry)) a 0 ≡ 2 → getD (state .offsets) a 0 < 4294967295 → r .offsets ≡ set (state .offsets) a (getD (state .offsets) a 0 + 1)) ⌝ }
-{
-    let kind = kinds[a];
-    let start = starts[a];
-    let offset = state.offsets[a];
-    if kind != 2 {
-        return state;
-    }
-    if offset >= 4294967295 {
-        return state;
-    }
-    let item = item_under(script, kind, start, offset + 1, state.bindings);
-    let looks = state.looks;
-    let d = item_deed(item, looks.named, &looks.names);
-    let mut next = state;
-    next.offsets[a] = offset + 1;
-    next.looks = with_deed(looks, a, d);
-    next
-}
-
-// The state before the first move, from the script's part table, whose sets are kids.
-pub fn first_state<'a>(
-    script: &'a [u32],
-    kinds: &'a [u8; 64],
-    starts: &'a [u32; 64],
-    kids: [u64; 65],
-) -> State
-    ensures ready { λ r. ⌜ Ready (now (script .entry)) (now (kinds .entry)) (now (starts .entry)) r × (boundIn (now (script .entry)) r ≡ []) ⌝ }
-    ensures begun { λ r. ⌜ ((count : ℕ) (b : Script) → Tabled (now (script .entry)) (record { kinds = now (kinds .entry); starts = now (starts .entry); kids = kids; count = count }) b → Represents (now (script .entry)) (now (kinds .entry)) (now (starts .entry)) (parts b) 0 r (settleUnder [] (closureOf b))) ⌝ }
-{
-    let begun = looked(script, kinds, starts, kids, [0; 64], none());
-    settle(kinds, begun)
-}
-
-// OPEN: the part t goes from the body of p, in which the actor stands, and its body stays.
-fn open_part<'a>(
-    script: &'a [u32],
-    kinds: &'a [u8; 64],
-    starts: &'a [u32; 64],
-    state: State,
-    p: usize,
-    a: usize,
-    t: usize,
-) -> State
-    requires { ⌜ (p < 65) × (a < 64) × (t < 64) × Ready (now script) (now kinds) (now starts) state ⌝ }
-    ensures ready { λ r. ⌜ Ready (now (script .entry)) (now (kinds .entry)) (now (starts .entry)) r ⌝ }
-    ensures made { λ r. ⌜ Opens (now (script .entry)) (now (kinds .entry)) (now (starts .entry)) state r p a t ⌝ }
-{
-    let here = state.kids[p];
-    let inside = state.kids[t];
-    let mut next = state;
-    next.kids[p] = sets::union(inside, sets::without(here, t));
-    let spent = spend(script, kinds, starts, next, a);
-    settle(kinds, spent)
-}
-
-// IN and EXIT: the part p goes from one body into another.
-fn carry<'a>(
-    script: &'a [u32],
-    kinds: &'a [u8; 64],
-    starts: &'a [u32; 64],
-    state: State,
-    p: usize,
-    from: usize,
-    into: usize,
-    a: usize,
-) -> State
-    requires { ⌜ (p < 64) × (from < 65) × (into < 65) × (a < 64) × Ready (now script) (now kinds) (now starts) state ⌝ }
-    ensures ready { λ r. ⌜ Ready (now (script .entry)) (now (kinds .entry)) (now (starts .entry)) r ⌝ }
-    ensures entered { λ r. ⌜ Enters (now (script .entry)) (now (kinds .entry)) (now (starts .entry)) state r p from a into ⌝ }
-    ensures left { λ r. ⌜ Exits (now (script .entry)) (now (kinds .entry)) (now (starts .entry)) state r p from into a ⌝ }
-{
-    let here = state.kids[from];
-    let mut next = state;
-    next.kids[from] = sets::without(here, p);
-    let there = next.kids[into];
-    next.kids[into] = sets::with(there, p);
-    let spent = spend(script, kinds, starts, next, a);
-    settle(kinds, spent)
-}
-
-// The receipt a and the output t go from the body of p, the receipt's body stands there, and its variable is bound.
-fn receive_part<'a>(
-    script: &'a [u32],
-    kinds: &'a [u8; 64],
-    starts: &'a [u32; 64],
-    state: State,
-    p: usize,
-    a: usize,
-    t: usize,
-) -> State
-    requires { ⌜ (p < 65) × (a < 64) × (t < 64) × Ready (now script) (now kinds) (now starts) state ⌝ }
-    ensures ready { λ r. ⌜ Ready (now (script .entry)) (now (kinds .entry)) (now (starts .entry)) r ⌝ }
-    ensures made { λ r. ⌜ Receives (now (script .entry)) (now (kinds .entry)) (now (starts .entry)) state r p a t ⌝ }
-{
-    let old = state.bindings;
-    if old.first == 0 {
-        return state;
-    }
-    let variable = starts[a];
-    let message = starts[t];
-    let bound = bind(script, old, variable, message);
-    let here = state.kids[p];
-    let inside = state.kids[a];
-    let offsets = state.offsets;
-    let mut kids = state.kids;
-    kids[p] = sets::union(inside, sets::without(sets::without(here, a), t));
-    let next = looked(script, kinds, starts, kids, offsets, bound);
-    settle(kinds, next)
-}
+// ---- A state for lending.
 
 // A state beside the part table to which it belongs.
 pub struct Placed {
@@ -571,209 +371,6 @@ pub struct Placed {
     pub starts: [u32; 64],
     pub state: State,
 }
-
-// PLACED: the top parts as the body of a new part i, an ambient of that name. Its start stands for the name itself.
-pub fn place_part(
-    script: &[u32],
-    kinds: [u8; 64],
-    starts: [u32; 64],
-    state: State,
-    i: usize,
-    name: u32,
-) -> Placed
-    requires { ⌜ (i < 64) × (name < 536870912) × Ready (now script) kinds starts state ⌝ }
-    ensures ready { λ r. ⌜ Ready (now (script .entry)) (r .kinds) (r .starts) (r .state) × (boundIn (now (script .entry)) (r .state) ≡ boundIn (now (script .entry)) state) ⌝ }
-    ensures placed { λ r. ⌜ ((weight spent : ℕ) (b : Closure) → Represents (now (script .entry)) kinds starts weight spent state b → count i b ≡ 0 → weight < 64 → Represents (now (script .entry)) (r .kinds) (r .starts) (weight + 1) spent (r .state) (part i (ambient (named name)) b close)) ⌝ }
-{
-    let mut with_kind = kinds;
-    with_kind[i] = 1;
-    let mut with_start = starts;
-    with_start[i] = 65536 + name;
-    let mut kids = state.kids;
-    kids[i] = kids[64];
-    kids[64] = sets::single(i);
-    let offsets = state.offsets;
-    let next = looked(
-        script,
-        &with_kind,
-        &with_start,
-        kids,
-        offsets,
-        state.bindings,
-    );
-    Placed {
-        kinds: with_kind,
-        starts: with_start,
-        state: next,
-    }
-}
-
-// ---- The places of the parts and the targets of an actor.
-
-// Writes the places of the parts of left, which stand in the body of the part at, and of those in the bodies of the named
-// ambients among them, at any depth.
-fn locate_below<'a, 'b>(
-    found: &'b mut [usize; 64],
-    kids: &'a [u64; 65],
-    named: u64,
-    left: u64,
-    at: usize,
-    fuel: usize,
-)
-    requires { ⌜ (length (now found) ≡ 64) × (at < 65) ⌝ }
-    ensures kept { λ r. ⌜ length (now (found .exit)) ≡ 64 ⌝ }
-    ensures located { λ r. ⌜ LocatesBy (members named) (bodyIn (now (kids .entry))) (members left) at fuel (λ i. getD (now (found .entry)) i 0) (λ i. getD (now (found .exit)) i 0) ⌝ }
-{
-    if left == 0 {
-        return;
-    }
-    if fuel == 0 {
-        return;
-    }
-    let i = sets::first(left);
-    let others = sets::rest(left);
-    found[i] = at;
-    if sets::has(named, i) {
-        let inside = kids[i];
-        locate_below(found, kids, named, inside, i, fuel - 1);
-    }
-    locate_below(found, kids, named, others, at, fuel - 1)
-}
-
-// For every part the part in whose body it stands: 64 for the top, 65 where there is none, or an ambient around it has no
-// name.
-pub fn locate(kids: &[u64; 65], named: u64) -> [usize; 64]
-    ensures { λ r. ⌜ Located (members named) (bodyIn (now (kids .entry))) (λ i. getD r i 0) ⌝ }
-{
-    let mut found: [usize; 64] = [65; 64];
-    let top = kids[64];
-    locate_below(&mut found, kids, named, top, 64, 64);
-    found
-}
-
-// Those of aim in the body of the part p.
-fn aimed_within(kids: &[u64; 65], aim: u64, p: usize) -> u64
-    ensures { λ r. ⌜ ((t : ℕ) → elem t (members r) ≡ isWithin (bodyIn (now (kids .entry))) p t (elem t (members aim))) ⌝ }
-{
-    if p >= 65 {
-        return 0;
-    }
-    let inside = kids[p];
-    sets::intersection(aim, inside)
-}
-
-// Those of aim in the body in which the part p stands, but for p.
-fn aimed_beside<'a>(kids: &'a [u64; 65], aim: u64, places: &'a [usize; 64], p: usize) -> u64
-    ensures { λ r. ⌜ ((t : ℕ) → elem t (members r) ≡ isBeside (bodyIn (now (kids .entry))) p (getD (now (places .entry)) p 0) t (elem t (members aim))) ⌝ }
-{
-    if p >= 64 {
-        return 0;
-    }
-    let q = places[p];
-    sets::without(aimed_within(kids, aim, q), p)
-}
-
-// The part in whose body the part p stands, if it is in aim.
-fn aimed_around(aim: u64, places: &[usize; 64], p: usize) -> u64
-    ensures { λ r. ⌜ ((t : ℕ) → elem t (members r) ≡ isAround p (getD (now (places .entry)) p 0) t (elem t (members aim))) ⌝ }
-{
-    if p >= 64 {
-        return 0;
-    }
-    let q = places[p];
-    if q >= 64 {
-        return 0;
-    }
-    sets::intersection(aim, sets::single(q))
-}
-
-// The targets of the actor a's moves, by what it does first and where it stands.
-pub fn targets<'a>(
-    kids: &'a [u64; 65],
-    acts: &'a [u8; 64],
-    aims: &'a [u64; 64],
-    places: &'a [usize; 64],
-    a: usize,
-) -> u64
-    requires { ⌜ a < 64 ⌝ }
-    ensures { λ r. ⌜ TargetsOf (bodyIn (now (kids .entry))) (getD (now (acts .entry)) a 0) (members (getD (now (aims .entry)) a 0)) (λ i. getD (now (places .entry)) i 0) a (members r) ⌝ }
-{
-    let act = acts[a];
-    let aim = aims[a];
-    let p = places[a];
-    match act {
-        1 => aimed_within(kids, aim, p),
-        2 => aimed_beside(kids, aim, places, p),
-        3 => aimed_around(aim, places, p),
-        4 => aimed_within(kids, aim, p),
-        _ => 0,
-    }
-}
-
-// IN, or where it is none EXIT, of the actor a in the body of p.
-fn carry_around<'a>(
-    script: &'a [u32],
-    kinds: &'a [u8; 64],
-    starts: &'a [u32; 64],
-    state: State,
-    places: &'a [usize; 64],
-    p: usize,
-    a: usize,
-    t: usize,
-    enters: bool,
-) -> State
-    requires { ⌜ (p < 64) × (a < 64) × (t < 64) × Ready (now script) (now kinds) (now starts) state ⌝ }
-    ensures ready { λ r. ⌜ Ready (now (script .entry)) (now (kinds .entry)) (now (starts .entry)) r ⌝ }
-    ensures entered { λ r. ⌜ (enters ≡ true → getD (now (places .entry)) p 0 < 65 → Enters (now (script .entry)) (now (kinds .entry)) (now (starts .entry)) state r p (getD (now (places .entry)) p 0) a t) ⌝ }
-    ensures left { λ r. ⌜ (enters ≡ false → getD (now (places .entry)) t 0 < 65 → Exits (now (script .entry)) (now (kinds .entry)) (now (starts .entry)) state r p t (getD (now (places .entry)) t 0) a) ⌝ }
-{
-    if enters {
-        let q = places[p];
-        if q >= 65 {
-            return state;
-        }
-        return carry(script, kinds, starts, state, p, q, t, a);
-    }
-    let q = places[t];
-    if q >= 65 {
-        return state;
-    }
-    carry(script, kinds, starts, state, p, t, q, a)
-}
-
-// The state after the move of the actor a to t, one of its targets, places being those of all parts.
-pub fn make_move<'a>(
-    script: &'a [u32],
-    kinds: &'a [u8; 64],
-    starts: &'a [u32; 64],
-    state: State,
-    places: &'a [usize; 64],
-    a: usize,
-    t: usize,
-) -> State
-    requires { ⌜ (a < 64) × (t < 64) × Ready (now script) (now kinds) (now starts) state ⌝ }
-    ensures ready { λ r. ⌜ Ready (now (script .entry)) (now (kinds .entry)) (now (starts .entry)) r ⌝ }
-    ensures made { λ r. ⌜ Moves (now (script .entry)) (now (kinds .entry)) (now (starts .entry)) state r (λ i. getD (now (places .entry)) i 0) a t ⌝ }
-{
-    let p = places[a];
-    if p >= 65 {
-        return state;
-    }
-    let looks = state.looks;
-    let act = looks.acts[a];
-    if act == 1 {
-        return open_part(script, kinds, starts, state, p, a, t);
-    }
-    if act == 4 {
-        return receive_part(script, kinds, starts, state, p, a, t);
-    }
-    if p == 64 {
-        return state;
-    }
-    carry_around(script, kinds, starts, state, places, p, a, t, act == 2)
-}
-
-// ---- A state for lending.
 
 // A state and its part table as two arrays: in sets the bodies, the parts that are aimed at from 65 on, the named parts at
 // 129 and the busy ones at 130; in numbers the kinds, starts, offsets, names and acts, 64 of each, from 320 on the five
@@ -784,7 +381,7 @@ pub struct Lent {
 }
 
 // Writes the numbers of from at the place at.
-fn put_numbers<'a, 'b>(to: &'b mut [u32; 481], at: usize, from: &'a [u32])
+pub fn put_numbers<'a, 'b>(to: &'b mut [u32; 481], at: usize, from: &'a [u32])
     requires { ⌜ (length (now to) ≡ 481) × (at + length (now from) ≤ 481) ⌝ }
     ensures kept { λ r. ⌜ length (now (to .exit)) ≡ 481 ⌝ }
     ensures put { λ r. ⌜ Put at (now (from .entry)) (now (to .entry)) (now (to .exit)) ⌝ }
@@ -797,7 +394,7 @@ fn put_numbers<'a, 'b>(to: &'b mut [u32; 481], at: usize, from: &'a [u32])
 }
 
 // Writes the numbers of from at the place at.
-fn put_sets<'a, 'b>(to: &'b mut [u64; 131], at: usize, from: &'a [u64])
+pub fn put_sets<'a, 'b>(to: &'b mut [u64; 131], at: usize, from: &'a [u64])
     requires { ⌜ (length (now to) ≡ 131) × (at + length (now from) ≤ 131) ⌝ }
     ensures kept { λ r. ⌜ length (now (to .exit)) ≡ 131 ⌝ }
     ensures put { λ r. ⌜ Put at (now (from .entry)) (now (to .entry)) (now (to .exit)) ⌝ }
@@ -810,7 +407,7 @@ fn put_sets<'a, 'b>(to: &'b mut [u64; 131], at: usize, from: &'a [u64])
 }
 
 // The 64 of them from the place at on.
-fn numbers_64(from: &[u32; 481], at: usize) -> [u32; 64]
+pub fn numbers_64(from: &[u32; 481], at: usize) -> [u32; 64]
     requires { ⌜ at + 64 ≤ 481 ⌝ }
     ensures { λ r. ⌜ r ≡ stretch at 64 (now (from .entry)) ⌝ }
 {
@@ -824,7 +421,7 @@ fn numbers_64(from: &[u32; 481], at: usize) -> [u32; 64]
 }
 
 // The 32 of them from the place at on.
-fn numbers_32(from: &[u32; 481], at: usize) -> [u32; 32]
+pub fn numbers_32(from: &[u32; 481], at: usize) -> [u32; 32]
     requires { ⌜ at + 32 ≤ 481 ⌝ }
     ensures { λ r. ⌜ r ≡ stretch at 32 (now (from .entry)) ⌝ }
 {
@@ -952,7 +549,7 @@ fn all_sets(kids: [u64; 65], aims: [u64; 64], named: u64, busy: u64) -> [u64; 13
 pub fn lend(kinds: [u8; 64], starts: [u32; 64], state: State) -> Lent
     requires { ⌜ state .bindings .first ≤ 32 ⌝ }
     ensures tables { λ r. ⌜ (kindsIn (r .numbers) ≡ kinds) × (startsIn (r .numbers) ≡ starts) × Small (r .numbers) ⌝ }
-    ensures state { λ r. ⌜ stateIn (r .sets) (r .numbers) (getD (state .kids) 64 0) ≡ state ⌝ }
+    ensures state { λ r. ⌜ standing (r .sets) (r .numbers) ≡ state ⌝ }
 {
     let kids = state.kids;
     let offsets = state.offsets;
@@ -1000,41 +597,106 @@ pub fn borrowed<'a>(sets: &'a [u64; 131], numbers: &'a [u32; 481], top: u64) -> 
     }
 }
 
-// ---- A move of a list.
+// ---- The places of the parts and the targets of an actor.
 
-// Whether a move was made, and the state then.
-pub struct Tried {
-    pub made: bool,
-    pub state: State,
+// Writes the places of the parts of left, which stand in the body of the part at, and of those in the bodies of the named
+// ambients among them, at any depth.
+fn locate_below<'a, 'b>(
+    found: &'b mut [usize; 64],
+    kids: &'a [u64; 65],
+    named: u64,
+    left: u64,
+    at: usize,
+    fuel: usize,
+)
+    requires { ⌜ (length (now found) ≡ 64) × (at < 65) ⌝ }
+    ensures kept { λ r. ⌜ length (now (found .exit)) ≡ 64 ⌝ }
+    ensures located { λ r. ⌜ LocatesBy (members named) (bodyIn (now (kids .entry))) (members left) at fuel (λ i. getD (now (found .entry)) i 0) (λ i. getD (now (found .exit)) i 0) ⌝ }
+{
+    if left == 0 {
+        return;
+    }
+    if fuel == 0 {
+        return;
+    }
+    let i = sets::first(left);
+    let others = sets::rest(left);
+    found[i] = at;
+    if sets::has(named, i) {
+        let inside = kids[i];
+        locate_below(found, kids, named, inside, i, fuel - 1);
+    }
+    locate_below(found, kids, named, others, at, fuel - 1)
 }
 
-// The move (a, t) where the machine can make it, and the state as it was where it cannot.
-pub fn try_move<'a>(
-    script: &'a [u32],
-    kinds: &'a [u8; 64],
-    starts: &'a [u32; 64],
-    state: State,
-    a: usize,
-    t: usize,
-) -> Tried
-    requires { ⌜ (a < 64) × (t < 64) × Ready (now script) (now kinds) (now starts) state ⌝ }
-    ensures ready { λ r. ⌜ Ready (now (script .entry)) (now (kinds .entry)) (now (starts .entry)) (r .state) ⌝ }
-    ensures tried { λ r. ⌜ Tries (now (script .entry)) (now (kinds .entry)) (now (starts .entry)) state (r .state) (r .made) a t ⌝ }
+// For every part the part in whose body it stands: 64 for the top, 65 where there is none, or an ambient around it has no
+// name.
+pub fn locate(kids: &[u64; 65], named: u64) -> [usize; 64]
+    ensures { λ r. ⌜ Located (members named) (bodyIn (now (kids .entry))) (λ i. getD r i 0) ⌝ }
 {
-    let looks = state.looks;
-    let kids = state.kids;
-    let acts = looks.acts;
-    let aims = looks.aims;
-    let places = locate(&kids, looks.named);
-    let aimed = targets(&kids, &acts, &aims, &places, a);
-    if sets::has(aimed, t) {
-        let next = make_move(script, kinds, starts, state, &places, a, t);
-        return Tried {
-            made: true,
-            state: next,
-        };
+    let mut found: [usize; 64] = [65; 64];
+    let top = kids[64];
+    locate_below(&mut found, kids, named, top, 64, 64);
+    found
+}
+
+// Those of aim in the body of the part p.
+fn aimed_within(kids: &[u64; 65], aim: u64, p: usize) -> u64
+    ensures { λ r. ⌜ ((t : ℕ) → elem t (members r) ≡ isWithin (bodyIn (now (kids .entry))) p t (elem t (members aim))) ⌝ }
+{
+    if p >= 65 {
+        return 0;
     }
-    Tried { made: false, state }
+    let inside = kids[p];
+    sets::intersection(aim, inside)
+}
+
+// Those of aim in the body in which the part p stands, but for p.
+fn aimed_beside<'a>(kids: &'a [u64; 65], aim: u64, places: &'a [usize; 64], p: usize) -> u64
+    ensures { λ r. ⌜ ((t : ℕ) → elem t (members r) ≡ isBeside (bodyIn (now (kids .entry))) p (getD (now (places .entry)) p 0) t (elem t (members aim))) ⌝ }
+{
+    if p >= 64 {
+        return 0;
+    }
+    let q = places[p];
+    sets::without(aimed_within(kids, aim, q), p)
+}
+
+// The part in whose body the part p stands, if it is in aim.
+fn aimed_around(aim: u64, places: &[usize; 64], p: usize) -> u64
+    ensures { λ r. ⌜ ((t : ℕ) → elem t (members r) ≡ isAround p (getD (now (places .entry)) p 0) t (elem t (members aim))) ⌝ }
+{
+    if p >= 64 {
+        return 0;
+    }
+    let q = places[p];
+    if q >= 64 {
+        return 0;
+    }
+    sets::intersection(aim, sets::single(q))
+}
+
+// The targets of the actor a's moves, by what it does first and where it stands.
+pub fn targets<'a>(
+    kids: &'a [u64; 65],
+    acts: &'a [u8; 64],
+    aims: &'a [u64; 64],
+    places: &'a [usize; 64],
+    a: usize,
+) -> u64
+    requires { ⌜ a < 64 ⌝ }
+    ensures { λ r. ⌜ TargetsOf (bodyIn (now (kids .entry))) (getD (now (acts .entry)) a 0) (members (getD (now (aims .entry)) a 0)) (λ i. getD (now (places .entry)) i 0) a (members r) ⌝ }
+{
+    let act = acts[a];
+    let aim = aims[a];
+    let p = places[a];
+    match act {
+        1 => aimed_within(kids, aim, p),
+        2 => aimed_beside(kids, aim, places, p),
+        3 => aimed_around(aim, places, p),
+        4 => aimed_within(kids, aim, p),
+        _ => 0,
+    }
 }
 
 // ---- The weight.

@@ -1,5 +1,5 @@
 -- Rules (document 01, "The rule and its walk"). Assumes nothing: these are definitions.
-use Prim.Native.Nat.{ℕ, zero, suc, _+_, max}
+use Prim.Native.Nat.{ℕ, zero, suc, _+_, _≤_, max}
 use mathlib.Core.Bool.{Bool, true, false, _&&_, _||_, cond}
 use mathlib.Core.List.{List, [], _∷_}
 use lib.Dec.{eqb, ltb}
@@ -58,6 +58,20 @@ ruleName w = cond ((eqb (kind w) 4 || eqb (kind w) 9) && ltb (operand w) 1342177
 unfoldable pub greatestRuleName : List ℕ → ℕ
 greatestRuleName [] = 0
 greatestRuleName (w ∷ ws) = max (ruleName w) (greatestRuleName ws)
+
+-- "The j-th PLACED word (from 0) makes part n + j": the PLACED words in a rule are m or later, and those inside another are
+-- later than that
+abbrev pub Later : (m : ℕ) → Rule → Type 0
+Later m (always i) = Unit {0}
+Later m (negation i r) = Later m r
+Later m (either i r q) = Later m r × Later m q
+Later m (void i) = Unit {0}
+Later m (at i t r) = Later m r
+Later m (beside i r q) = Later m r × Later m q
+Later m (some-name i r) = Later m r
+Later m (sometime i r) = Later m r
+Later m (somewhere i r) = Later m r
+Later m (placed i j t r) = (m ≤ j) × Later (suc j) r
 
 -- To unfold this is to unfold every definition of this module: for a proof by computation.
 unfoldable pub computing : Unit {0}

@@ -169,54 +169,111 @@ record Filled (ws : List ℕ) (o : ℕ) (b : Script) (t u : Table) : Type 0 wher
   own : bodyIn (u .kids) o ≡ bodyIn (t .kids) o ++ tops b
   held : Held (bodyIn (u .kids)) (headIn ws (u .kinds) (u .starts)) (written b)
 
+-- what is shown of a body's parts, for every table that they are written to
+abbrev Fills : List ℕ → (o : ℕ) → Script → Type 0
+Fills ws o b =
+    (t : Table) → Numbered (t .count) b → Placed ws b → t .count + parts b ≤ 64 → Room t → Owner o (t .count) → Below (t .count) (bodyIn (t .kids) o) → Filled ws o b t (tabulate o b t)
+
+-- A part and what stands in it are written: i is the part's number, t₁ the table with the part, t₂ with what stands in it too.
+module _ (ws : List ℕ) (o i : ℕ) (w : Written) (b r : Script) (t t₁ t₂ : Table) (e : i ≡ t .count) (l : t .count + (1 + (parts b + parts r)) ≤ 64) (W : Owner o (t .count))
+    (E : Wrote o (t .count) (t .count + 1) t t₁) (F : Filled ws i b t₁ t₂) where
+  first-count : t₁ .count ≡ t .count + 1
+  first-count = E .counts
+
+  inside-count : t₂ .count ≡ t .count + 1 + parts b
+  inside-count = F .wrote .counts ∙ ap (λ (z : ℕ). z + parts b) first-count
+
+  owned : (j : ℕ) → t .count ≤ j → j < t .count + (1 + (parts b + parts r)) → j ≡ o → ⊥
+  owned j x y = other o (t .count) j W x (omega arith)
+
+  next-own : bodyIn (t₁ .kids) o ≡ bodyIn (t .kids) o ++ (i ∷ []) → bodyIn (t₂ .kids) o ≡ bodyIn (t .kids) o ++ (i ∷ [])
+  next-own h =
+      ap members (F .wrote .kids-kept o (λ z. owned i (omega arith) (omega arith) (sym z)) (⊎-elim (λ a. inl (omega (arith, first-count))) (λ a. inr (omega (arith, first-count))) (W .smaller)))
+      ∙ h
+
+  next-below : bodyIn (t₂ .kids) o ≡ bodyIn (t .kids) o ++ (i ∷ []) → Below (t .count) (bodyIn (t .kids) o) → Below (t₂ .count) (bodyIn (t₂ .kids) o)
+  next-below h B = rw h (below-append (t₂ .count) (bodyIn (t .kids) o) (i ∷ []) (below-more (t .count) (t₂ .count) (bodyIn (t .kids) o) (omega (arith, inside-count)) B) (omega (arith, inside-count), tt))
+
+  -- the parts behind it are written
+  rest-filled : Fills ws o r → Numbered (t .count + 1 + parts b) r → Placed ws r → bodyIn (t₂ .kids) o ≡ bodyIn (t .kids) o ++ (i ∷ []) → Below (t .count) (bodyIn (t .kids) o) → Filled ws o r t₂ (tabulate o r t₂)
+  rest-filled f N P h B = f t₂ (rw inside-count N) P (omega (arith, inside-count)) (F .wrote .room) (owner-more o (t .count) (t₂ .count) (omega (arith, inside-count)) W) (next-below h B)
+
+  module _ (u : Table) (G : Filled ws o r t₂ u) where
+    all-wrote : Wrote o (t .count) (t .count + (1 + (parts b + parts r))) t u
+    all-wrote = record {
+      counts = omega (arith, G .wrote .counts, inside-count);
+      room = G .wrote .room;
+      kinds-kept = λ j a. G .wrote .kinds-kept j (omega (arith, inside-count)) ∙ F .wrote .kinds-kept j (omega (arith, first-count)) ∙ E .kinds-kept j a;
+      starts-kept = λ j a. G .wrote .starts-kept j (omega (arith, inside-count)) ∙ F .wrote .starts-kept j (omega (arith, first-count)) ∙ E .starts-kept j a;
+      kids-kept = λ j d a.
+          G .wrote .kids-kept j d (⊎-elim (λ z. inl (omega (arith, inside-count))) (λ z. inr (omega (arith, inside-count))) a)
+          ∙ F .wrote .kids-kept j (λ y. ⊎-elim (λ z. omega arith) (λ z. omega arith) a) (⊎-elim (λ z. inl (omega (arith, first-count))) (λ z. inr (omega (arith, first-count))) a)
+          ∙ E .kids-kept j d (⊎-elim (λ z. inl z) (λ z. inr (omega arith)) a);
+    }
+
+    part-head : getD (t₁ .kinds) i 0 ≡ kindNumber (w .head) → getD (t₁ .starts) i 0 ≡ startOf w → headIn ws (u .kinds) (u .starts) i ≡ headAt ws (kindNumber (w .head)) (startOf w)
+    part-head k s =
+        ap₂ (headAt ws)
+        (G .wrote .kinds-kept i (omega (arith, inside-count)) ∙ F .wrote .kinds-kept i (omega (arith, first-count)) ∙ k)
+        (G .wrote .starts-kept i (omega (arith, inside-count)) ∙ F .wrote .starts-kept i (omega (arith, first-count)) ∙ s)
+
+    part-body : bodyIn (t₁ .kids) i ≡ [] → bodyIn (u .kids) i ≡ tops b
+    part-body n = ap members (G .wrote .kids-kept i (owned i (omega arith) (omega arith)) (inl (omega (arith, inside-count)))) ∙ F .own ∙ ap (λ (m : List ℕ). m ++ tops b) n
+
+    inside-held : Numbered (t .count + 1) b → Held (bodyIn (u .kids)) (headIn ws (u .kinds) (u .starts)) (written b)
+    inside-held N =
+        held-frame (λ w. w .head) (bodyIn (t₂ .kids)) (bodyIn (u .kids)) (headIn ws (t₂ .kinds) (t₂ .starts)) (headIn ws (u .kinds) (u .starts)) (t .count + 1) b N
+        (λ j a z. sym (ap members (G .wrote .kids-kept j (owned j (omega arith) (omega arith)) (inl (omega (arith, inside-count))))))
+        (λ j a z. sym (ap₂ (headAt ws) (G .wrote .kinds-kept j (omega (arith, inside-count))) (G .wrote .starts-kept j (omega (arith, inside-count)))))
+        (F .held)
+
+    part-filled : bodyIn (t₂ .kids) o ≡ bodyIn (t .kids) o ++ (i ∷ []) → bodyIn (t₁ .kids) i ≡ [] → getD (t₁ .kinds) i 0 ≡ kindNumber (w .head) → getD (t₁ .starts) i 0 ≡ startOf w
+        → Numbered (t .count + 1) b → Placed ws (part i w b r) → Filled ws o (part i w b r) t u
+    unfolding sum tops mapHeads
+    part-filled h n k s N P = record {
+      wrote = all-wrote;
+      own = G .own ∙ ap (λ (m : List ℕ). m ++ tops r) h ∙ append-assoc (bodyIn (t .kids) o) (i ∷ []) (tops r);
+      held = (rw (tops-map (λ (w : Written). w .head) b) (part-body n), part-head k s ∙ P .0, inside-held N, G .held);
+    }
+
+-- the part is entered, and what stands in it written
+module _ (ws : List ℕ) (o i : ℕ) (w : Written) (b r : Script) (t : Table) (e : i ≡ t .count) (l : t .count + (1 + (parts b + parts r)) ≤ 64) (R : Room t) (W : Owner o (t .count)) where
+  abbrev kindOf : ℕ
+  kindOf = kindNumber (w .head)
+
+  abbrev with-part : Table
+  with-part = entered o kindOf (startOf w) t
+
+  room : t .count < 64
+  room = omega arith
+
+  no-body : bodyIn (with-part .kids) i ≡ []
+  no-body = ap members (entered-kids o kindOf (startOf w) t R W room i (other o (t .count) i W (omega arith) (omega arith))) ∙ R .fresh i (omega arith) (omega arith)
+
+  inside-filled : Fills ws i b → Numbered (t .count + 1) b → Placed ws b → Filled ws i b with-part (tabulate i b with-part)
+  inside-filled f N P =
+      let c : with-part .count ≡ t .count + 1 = entered-wrote o kindOf (startOf w) t R W room .counts in
+      f with-part (rw c N) P (omega arith) (entered-wrote o kindOf (startOf w) t R W room .room) (record { inside = omega arith; smaller = inl (omega arith) }) (rw no-body tt)
+
+  -- a part and the parts behind it
+  both-filled : Filled ws i b with-part (tabulate i b with-part) → Fills ws o r → Numbered (t .count) (part i w b r) → Placed ws (part i w b r) → Below (t .count) (bodyIn (t .kids) o)
+      → Filled ws o (part i w b r) t (tabulate o r (tabulate i b with-part))
+  both-filled F f N P B =
+      let E = entered-wrote o kindOf (startOf w) t R W room in
+      let h = next-own ws o i w b r t with-part (tabulate i b with-part) e l W E F (entered-own o kindOf (startOf w) t R W room B ∙ rw e) in
+      part-filled ws o i w b r t with-part (tabulate i b with-part) e l W E F (tabulate o r (tabulate i b with-part))
+      (rest-filled ws o i w b r t with-part (tabulate i b with-part) e l W E F f (N .2) (P .2) h B)
+      h no-body (rw e (entered-kind o kindOf (startOf w) t R W room)) (rw e (entered-start o kindOf (startOf w) t R W room)) (N .1) P
+
 module _ (ws : List ℕ) where
-  filled : (o : ℕ) (b : Script) (t : Table) → Numbered (t .count) b → Placed ws b → t .count + parts b ≤ 64
-      → Room t → Owner o (t .count) → Below (t .count) (bodyIn (t .kids) o) → Filled ws o b t (tabulate o b t)
+  filled : (o : ℕ) (b : Script) → Fills ws o b
   unfolding tabulate sum tops mapHeads
   filled o close t N P l R W B = record {
     wrote = record { counts = omega arith; room = R; kinds-kept = λ j a. refl; starts-kept = λ j a. refl; kids-kept = λ j n a. refl };
     own = sym (append-nil (bodyIn (t .kids) o));
     held = tt;
   }
-  filled o (part i w b r) t N P l R W B =
-      let e : i ≡ t .count = N .0 in
-      let t₁ = entered o (kindNumber (w .head)) (startOf w) t in
-      let E = entered-wrote o (kindNumber (w .head)) (startOf w) t R W (omega arith) in
-      let c₁ : t₁ .count ≡ t .count + 1 = E .counts in
-      let x : Owner i (t₁ .count) = record { inside = omega arith; smaller = inl (omega arith) } in
-      let n : bodyIn (t₁ .kids) i ≡ [] = ap members (entered-kids o (kindNumber (w .head)) (startOf w) t R W (omega arith) i (other o (t .count) i W (omega arith) (omega arith))) ∙ R .fresh i (omega arith) (omega arith) in
-      let F = filled i b t₁ (rw c₁ (N .1)) (P .1) (omega arith) (E .room) x (rw n tt) in
-      let t₂ = tabulate i b t₁ in
-      let c₂ : t₂ .count ≡ t .count + 1 + parts b = F .wrote .counts ∙ ap (λ (z : ℕ). z + parts b) c₁ in
-      let own₁ : bodyIn (t₁ .kids) o ≡ bodyIn (t .kids) o ++ (i ∷ []) = entered-own o (kindNumber (w .head)) (startOf w) t R W (omega arith) B ∙ rw e in
-      let own₂ : bodyIn (t₂ .kids) o ≡ bodyIn (t .kids) o ++ (i ∷ []) = ap members (F .wrote .kids-kept o (λ z. other o (t .count) i W (omega arith) (omega arith) (sym z)) (⊎-elim (λ a. inl (omega arith)) (λ a. inr (omega arith)) (W .smaller))) ∙ own₁ in
-      let G = filled o r t₂ (rw c₂ (N .2)) (P .2) (omega arith) (F .wrote .room) (owner-more o (t .count) (t₂ .count) (omega arith) W) (rw own₂ (below-append (t₂ .count) (bodyIn (t .kids) o) (i ∷ []) (below-more (t .count) (t₂ .count) (bodyIn (t .kids) o) (omega arith) B) (omega arith, tt))) in
-      let u = tabulate o r t₂ in
-      let i-kind : getD (u .kinds) i 0 ≡ kindNumber (w .head) = G .wrote .kinds-kept i (omega arith) ∙ F .wrote .kinds-kept i (omega arith) ∙ rw e (entered-kind o (kindNumber (w .head)) (startOf w) t R W (omega arith)) in
-      let i-start : getD (u .starts) i 0 ≡ startOf w = G .wrote .starts-kept i (omega arith) ∙ F .wrote .starts-kept i (omega arith) ∙ rw e (entered-start o (kindNumber (w .head)) (startOf w) t R W (omega arith)) in
-      let i-body : bodyIn (u .kids) i ≡ tops b = ap members (G .wrote .kids-kept i (other o (t .count) i W (omega arith) (omega arith)) (inl (omega arith))) ∙ F .own ∙ ap (λ (l : List ℕ). l ++ tops b) n in
-      record {
-        wrote = record {
-          counts = G .wrote .counts ∙ (let z : t₂ .count + parts r ≡ t .count + (1 + (parts b + parts r)) = omega arith in z);
-          room = G .wrote .room;
-          kinds-kept = λ j a. G .wrote .kinds-kept j (omega arith) ∙ F .wrote .kinds-kept j (omega arith) ∙ E .kinds-kept j a;
-          starts-kept = λ j a. G .wrote .starts-kept j (omega arith) ∙ F .wrote .starts-kept j (omega arith) ∙ E .starts-kept j a;
-          kids-kept = λ j d a.
-              G .wrote .kids-kept j d (⊎-elim (λ z. inl (omega arith)) (λ z. inr (omega arith)) a)
-              ∙ F .wrote .kids-kept j (λ y. ⊎-elim (λ z. omega arith) (λ z. omega arith) a) (⊎-elim (λ z. inl (omega arith)) (λ z. inr (omega arith)) a)
-              ∙ E .kids-kept j d (⊎-elim (λ z. inl z) (λ z. inr (omega arith)) a);
-        };
-        own = G .own ∙ ap (λ (l : List ℕ). l ++ tops r) own₂ ∙ append-assoc (bodyIn (t .kids) o) (i ∷ []) (tops r);
-        held = (
-          rw (tops-map (λ (w : Written). w .head) b) i-body,
-          ap₂ (headAt ws) i-kind i-start ∙ P .0,
-          held-frame (λ w. w .head) (bodyIn (t₂ .kids)) (bodyIn (u .kids)) (headIn ws (t₂ .kinds) (t₂ .starts)) (headIn ws (u .kinds) (u .starts)) (t .count + 1) b (N .1)
-              (λ j a z. sym (ap members (G .wrote .kids-kept j (other o (t .count) j W (omega arith) (omega arith)) (inl (omega arith)))))
-              (λ j a z. sym (ap₂ (headAt ws) (G .wrote .kinds-kept j (omega arith)) (G .wrote .starts-kept j (omega arith))))
-              (F .held),
-          G .held,
-        );
-      }
+  filled o (part i w b r) t N P l R W B = both-filled ws o i w b r t (N .0) l R W (inside-filled ws o i w b r t (N .0) l R W (filled i b) (N .1) (P .1)) (filled o r) N P B
 
   -- the table of a script whose parts are numbered from 0 and stand where the words say
   pub tabled : (b : Script) → Numbered 0 b → Placed ws b → Low 1024 b → parts b ≤ 64 → Tabled ws (tabulate 64 b vacant) b

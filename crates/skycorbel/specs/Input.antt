@@ -5,7 +5,7 @@ use mathlib.Core.List.{List, [], _∷_}
 use mathlib.Core.Option.{Option, none, some}
 use lib.Dec.{leb, eqb}
 use lib.ListN.{length, take, drop, getD, replicate}
-use Rattle.checker.specs.Call.{answer}
+use Rattle.plain_call.specs.Call.{answer}
 use Rattle.checker.specs.Answering.{callOf}
 use Rattle.skycorbel.specs.Text.{refusalText, answerText}
 use Rattle.skycorbel.specs.declared.Counted.{Counted}

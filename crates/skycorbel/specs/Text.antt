@@ -5,7 +5,7 @@ use mathlib.Core.List.{List, [], _∷_, _++_}
 use mathlib.Core.Path.{_≡_}
 use lib.Dec.{ltb}
 use lib.ListN.{length, take}
-use Rattle.checker.specs.Call.{Verdict, accepted, refused, Answer}
+use Rattle.plain_call.specs.Call.{Verdict, accepted, refused, Answer}
 
 -- a hexadecimal digit: 0 to 9, then A to F
 unfoldable pub digit : ℕ → ℕ

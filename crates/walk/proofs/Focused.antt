@@ -9,7 +9,7 @@ use lib.Seq.{getD-set-same, getD-set-other}
 use Rattle.sets.specs.Sets.{members}
 use Rattle.scripts.specs.Tree.{one, tops, sum, parts, count}
 use Rattle.scripts.specs.Represents.{bodyIn}
-use Rattle.rules.specs.Rule.{Names, Rule, ruleIndex}
+use Rattle.rules.specs.Rule.{Names, Rule, ruleIndex, Later}
 use Rattle.rules.specs.Ruled.{Ruled}
 use Rattle.rules.specs.declared.RuleTable.{RuleTable}
 use Rattle.closure_machine.specs.Closure.{Closure, ClosureHead}
@@ -18,7 +18,7 @@ use Rattle.closures.specs.Represents.{heads, boundIn, Ready, Represents}
 use Rattle.closures.specs.declared.State.{State}
 use Rattle.closures.proofs.Holding.{differ, frame}
 use Rattle.walk.specs.Pieces.{withTop, Piece}
-use Rattle.walk.specs.Visits.{indices, Later, Stage}
+use Rattle.walk.specs.Visits.{indices, Stage}
 use Rattle.walk.specs.declared.Limits.{Limits}
 
 module _ (k : ℕ → List ℕ) (w : ℕ → ClosureHead) (b c : Closure) (P : Piece k w b c) where

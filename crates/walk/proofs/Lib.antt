@@ -10,5 +10,3 @@ pub mod Scenes
 pub mod Members
 pub mod Turns
 pub mod Lendings
-pub mod Begun
-pub mod Order

@@ -17,7 +17,7 @@ use Rattle.sets.proofs.Members.{first-below}
 use Rattle.scripts.specs.Tree.{ambient, close, part, tops, count}
 use Rattle.scripts.specs.Represents.{bodyIn}
 use Rattle.machine.specs.Moves.{sameName}
-use Rattle.rules.specs.Rule.{Names, termName, Rule, always, negation, either, void, at, beside, placed, ruleIndex}
+use Rattle.rules.specs.Rule.{Names, termName, Rule, always, negation, either, void, at, beside, placed, ruleIndex, Later}
 use Rattle.rules.specs.ReadRule.{termOf}
 use Rattle.rules.specs.Ruled.{Ruled, Said}
 use Rattle.rules.proofs.Inversion.{Told}
@@ -31,7 +31,7 @@ use Rattle.closures.specs.declared.State.{State}
 use Rattle.decision.specs.Walk.{says, ifAny, look, counted, walk}
 use Rattle.decision.specs.Walk as spec
 use Rattle.decision.specs.ClosureWalk.{closureSpace, only}
-use Rattle.walk.specs.Visits.{countOf, walkedOf, settingOf, indices, Later, nameSaid, Lendable, Scene, here, visits, Visits, Looks, Splits}
+use Rattle.walk.specs.Visits.{countOf, walkedOf, settingOf, indices, nameSaid, Lendable, Scene, here, visits, Visits, Looks, Splits}
 use Rattle.walk.specs.declared.Counts.{Counts}
 use Rattle.walk.specs.declared.Limits.{Limits}
 use Rattle.walk.specs.declared.Walked.{Walked}

@@ -16,7 +16,7 @@ use Rattle.scripts.specs.Tree.{ambient, close, part, sum, tops, count}
 use Rattle.scripts.specs.Represents.{bodyIn}
 use Rattle.machine.specs.Moves.{Moved}
 use Rattle.machine.proofs.Options.{byTest}
-use Rattle.rules.specs.Rule.{Term, constant, chosen, Names, lookup, termName, Rule, ruleIndex}
+use Rattle.rules.specs.Rule.{Term, constant, chosen, Names, lookup, termName, Rule, ruleIndex, Later}
 use Rattle.rules.specs.Ruled.{Ruled, Said}
 use Rattle.rules.specs.RuleTable.{termWord}
 use Rattle.rules.specs.declared.RuleTerm.the-variants as terms
@@ -26,7 +26,7 @@ use Rattle.closures.specs.Represents.{heads, boundIn, Represents}
 use Rattle.closures.specs.Lent.{stretch, kindsIn, startsIn, stateIn}
 use Rattle.closures.proofs.Copying.{length-stretch}
 use Rattle.walk.specs.Pieces.{Piece}
-use Rattle.walk.specs.Visits.{indices, Chosen, Later, Stage, nameSaid, Lendable, Scene}
+use Rattle.walk.specs.Visits.{indices, Chosen, Stage, nameSaid, Lendable, Scene}
 use Rattle.walk.specs.declared.Limits.{Limits}
 use Rattle.walk.proofs.Focused.{ready-top, stage-piece}
 use Rattle.walk.proofs.Targeted.{move-low}
@@ -301,6 +301,8 @@ name-told words somes i (chosen k) S greatest d e choices es C g s =
 -- what is lent serves with any set of top parts
 pub lendable-top : (script sets numbers : List ℕ) (top m : ℕ) → Lendable script sets numbers top → Lendable script sets numbers m
 lendable-top script sets numbers top m L = record {
+  sets-long = L .sets-long;
+  numbers-long = L .numbers-long;
   small = L .small;
   ready = ready-top script (kindsIn numbers) (startsIn numbers) (stateIn sets numbers top) (stretch 0 65 sets) m (L .ready);
 }

@@ -14,7 +14,7 @@ use Rattle.sets.proofs.Members.{members-step, first-below}
 use Rattle.sets.proofs.Divisions.{share-first}
 use Rattle.scripts.specs.Tree.{tops, count}
 use Rattle.scripts.specs.Represents.{bodyIn}
-use Rattle.rules.specs.Rule.{Names, Rule, beside, some-name, sometime, somewhere, ruleIndex}
+use Rattle.rules.specs.Rule.{Names, Rule, beside, some-name, sometime, somewhere, ruleIndex, Later}
 use Rattle.rules.specs.Ruled.{Ruled}
 use Rattle.rules.proofs.Inversion.{Told}
 use Rattle.closure_machine.specs.Closure.{Closure, ClosureHead, ClosureMachine, Bindings, closureMove}
@@ -30,7 +30,7 @@ use Rattle.decision.specs.Walk.{Count, range, onYes, onNo, firstYes, look, move
 use Rattle.decision.specs.Walk as spec
 use Rattle.decision.specs.ClosureWalk.{closureSpace, divisions, shares, insides, nexts}
 use Rattle.decision.specs.ClosureWalk as over
-use Rattle.walk.specs.Visits.{countOf, walkedOf, settingOf, indices, Later, Lendable, Scene, here, visits, Visits, Looks, Splits, Tries}
+use Rattle.walk.specs.Visits.{countOf, walkedOf, settingOf, indices, Lendable, Scene, here, visits, Visits, Looks, Splits, Tries}
 use Rattle.walk.specs.declared.Counts.{Counts}
 use Rattle.walk.specs.declared.Limits.{Limits}
 use Rattle.walk.specs.declared.Walked.{Walked}

@@ -10,7 +10,7 @@ use Rattle.sets.specs.Sets.{members, elem}
 use Rattle.messages.specs.Words.{kind, member}
 use Rattle.scripts.specs.Tree.{count}
 use Rattle.scripts.specs.Represents.{bodyIn}
-use Rattle.rules.specs.Rule.{Term, constant, chosen, Names, lookup, Rule, always, negation, either, void, at, beside, some-name, sometime, somewhere, placed, ruleIndex}
+use Rattle.rules.specs.Rule.{Later, Term, constant, chosen, Names, lookup, Rule, always, negation, either, void, at, beside, some-name, sometime, somewhere, placed, ruleIndex}
 use Rattle.messages.specs.Reading.{Cursor}
 use Rattle.rules.specs.Ruled.{Ruled, Tabled}
 use Rattle.rules.specs.declared.RuleTable.{RuleTable}
@@ -51,20 +51,6 @@ pub record Chosen (greatest : ℕ) (e : Names) (chosen : List ℕ) (somes : ℕ)
   pub number : length e ≡ somes
   pub names : (i : ℕ) → member i (indices e) ≡ true → (i < 256) × (lookup e i ≡ getD chosen i 0) × (getD chosen i 0 ≤ greatest + somes)
 
--- "The j-th PLACED word (from 0) makes part n + j": the PLACED words in a rule are m or later, and those inside another are
--- later than that
-abbrev pub Later : (m : ℕ) → Rule → Type 0
-Later m (always i) = Unit {0}
-Later m (negation i r) = Later m r
-Later m (either i r q) = Later m r × Later m q
-Later m (void i) = Unit {0}
-Later m (at i t r) = Later m r
-Later m (beside i r q) = Later m r × Later m q
-Later m (some-name i r) = Later m r
-Later m (sometime i r) = Later m r
-Later m (somewhere i r) = Later m r
-Later m (placed i j t r) = (m ≤ j) × Later (suc j) r
-
 -- What holds where the engine visits the rule q, at a word's index, on the state s, with `left` depths left: s stands for
 -- the closure b, all of whose numbers are below n + from, and no PLACED word in q is earlier than `from`.
 pub record Stage (words : List ℕ) (table : RuleTable) (script kinds starts : List ℕ) (limits : Limits) (chosen : List ℕ) (somes left : ℕ) (s : State) (index : ℕ)
@@ -95,6 +81,8 @@ nameSaid names (chosen i) = cond (ltb i 256) (getD names i 0) 0
 
 -- The lent arrays hold a state of which the bindings are counted, and what is kept of the parts is right.
 pub record Lendable (script sets numbers : List ℕ) (top : ℕ) : Type 0 where
+  pub sets-long : length sets ≡ 131
+  pub numbers-long : length numbers ≡ 481
   pub small : Small numbers
   pub ready : Ready script (kindsIn numbers) (startsIn numbers) (stateIn sets numbers top)
 

@@ -4,7 +4,7 @@ use Rattle.closure_machine.specs.Closure.{unfoldMachine}
 use Rattle.closures.specs.Represents.{boundIn}
 use Rattle.walk.specs.Visits.{walkedOf}
 use Rattle.walk.specs.declared.Walked as declared
-use Rattle.checker.specs.Call.{refusal, walked}
+use Rattle.plain_call.specs.Call.{refusal, walked}
 use Rattle.checker.specs.Answering.{callOf}
 use borrow.Author.Needs.{needs}
 use Rattle.checker.proofs.after_walk.Statement.{statement}

@@ -4,7 +4,7 @@ use mathlib.Core.Path.{sym, ap, _∙_}
 use lib.Dec.{ltb}
 use borrow.Author.Tests.{eq-eqb, ne-eqb, lt-ltb, le-ltb}
 use Rattle.messages.specs.Words.{kind, operand}
-use Rattle.checker.specs.Call.{moveFits}
+use Rattle.plain_call.specs.Call.{moveFits}
 use borrow.Author.Needs.{needs}
 use Rattle.checker.proofs.move_fits.Statement.{statement}
 use Rattle.checker.proofs.move_fits.Tie as tie

@@ -5,7 +5,7 @@ use mathlib.Core.Path.{sym, _∙_, subst}
 use lib.ListN.{getD, length}
 use Rattle.closures.specs.Represents.{Ready}
 use Rattle.closures.specs.Makes.{Tries}
-use Rattle.checker.specs.Call.{target}
+use Rattle.plain_call.specs.Call.{target}
 use Rattle.checker.proofs.Listed.{Going, going-none, going-ends, going-unfit, going-stuck, going-on, fitting}
 use borrow.Author.Needs.{needs}
 use Rattle.checker.proofs.run_list.Statement.{statement}

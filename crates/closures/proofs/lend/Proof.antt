@@ -5,7 +5,8 @@ use mathlib.Core.Path.{_≡_, ap, _∙_}
 use native.Mathlib.Omega.{arith}
 use lib.ListN.{length, getD, set}
 use Rattle.closures.specs.Lent.{stretch}
-use Rattle.closures.proofs.Copying.{set-same, small-in, small-of, from-start, to-start}
+use Rattle.closures.proofs.Standing.{standing-kids}
+use Rattle.closures.proofs.Copying.{small-in, small-of, from-start, to-start}
 use borrow.Author.Needs.{needs}
 use borrow.Author.Needs.{needs}
 use Rattle.closures.proofs.lend.Statement.{statement}
@@ -15,13 +16,6 @@ use Rattle.closures.proofs.lend.Lts as lts
 use Rattle.closures.proofs.all_sets.Reads as all-sets-reads
 use Rattle.closures.proofs.part_numbers.Reads as part-numbers-reads
 use Rattle.closures.proofs.with_bindings.Reads as with-bindings-reads
-
--- the sets are an array
-abbrev Start : Type 0
-Start = lts.Start (part-numbers-reads.Asked, part-numbers-reads.Learnt, with-bindings-reads.Asked, with-bindings-reads.Learnt, all-sets-reads.Asked, all-sets-reads.Learnt) reads.Pre reads.Post
-
-long : (s : Start) → length (s .args .state .kids) ≡ 65
-long s = search needs
 
 with-bindings-requires : tie.Need-with-bindings-requires
 with-bindings-requires c κs = c .before .before .before .before .before .before .before .pre
@@ -35,8 +29,7 @@ returns c =
     let r = c .before .with-bindings .result in
     let parts = c .before .before .part-numbers .result in
     let kids = x .state .kids in
-    let d : length kids ≡ 65 = long (c .before .before .before .before .before .before .before .before .before) in
-    let ek : set (stretch 0 65 (c .all-sets .result)) 64 (getD kids 64 0) ≡ kids = ap (λ (l : List ℕ). set l 64 (getD kids 64 0)) (s .0) ∙ set-same kids 64 (omega arith) in (
+    let ek : set (stretch 0 65 (c .all-sets .result)) 64 (getD (c .all-sets .result) 64 0) ≡ kids = standing-kids (c .all-sets .result) ∙ s .0 in (
       (
         w .1 0 64 (omega arith) ∙ p .0 .0,
         w .1 64 64 (omega arith) ∙ p .0 .1,

@@ -1,0 +1,8 @@
+-- The theorems about the call as a definition: demand 2, the weight, the bound, and the same told by closures.
+pub mod Runs
+pub mod Door
+pub mod Begun
+pub mod Answers
+pub mod Verdicts
+pub mod ClosureRuns
+pub mod Called

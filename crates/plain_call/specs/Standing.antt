@@ -1,0 +1,57 @@
+-- What a call's yes or no is about (demand 2), and what its moves keep to (demand 3's weight and bound). Not the walk: the
+-- script and the rule as read, and the tree that stands after the moves. Assumes nothing: these are definitions.
+use Prim.Native.Nat.{ℕ, _≤_}
+use mathlib.Core.Bool.{true, false}
+use mathlib.Core.List.{List, []}
+use mathlib.Core.Path.{_≡_}
+use lib.ListN.{length, take}
+use Rattle.messages.specs.Reading.{Cursor, got}
+use Rattle.scripts.specs.Script.{Script, readScript}
+use Rattle.scripts.specs.Measures.{movesBound}
+use Rattle.scripts.specs.Tree.{parts}
+use Rattle.machine.specs.PlainMachine.{Machine, weightOf}
+use Rattle.rules.specs.Rule.{Rule}
+use Rattle.rules.specs.ReadRule.{readWholeRule}
+use Rattle.calculus.specs.Satisfaction.{Sat}
+use Rattle.calculus.specs.Calculus.{Satisfies, process}
+use Rattle.plain_call.specs.Call.{Call, Verdict, accepted, refused, Ran, moved, run, begun, answer}
+
+-- what stands when the walk begins
+pub record Standing (c : Call) : Type 0 where
+  pub script : Script × Cursor
+  pub rule : Rule × Cursor
+  pub machine : Machine
+  pub script-read : readScript (c .script) ≡ got script
+  pub rule-read : readWholeRule (script .1 .number) (c .rule) ≡ got rule
+  pub moves-made : run (script .1 .number) 0 (c .moves) (begun (script .0)) ≡ moved machine
+
+-- the tree that stands meets the rule, read on normal forms
+abbrev pub Meets : (c : Call) → Standing c → Type 0
+Meets c s = Sat (s .script .1 .number) [] (s .rule .0) (s .machine .tree)
+
+-- the process of the tree that stands satisfies the rule, by the paper's own relation
+abbrev pub Holds : (c : Call) → Standing c → Type 0
+Holds c s = Satisfies [] (process (s .machine .tree)) (s .rule .0)
+
+-- demand 2: yes only where the process that stands satisfies the rule, no only where it does not
+abbrev pub Decides : (c : Call) → Verdict → Type 0
+Decides c (accepted true) = (s : Standing c) × Holds c s
+Decides c (accepted false) = (s : Standing c) × ¬ Holds c s
+Decides c (refused q i) = Unit {0}
+
+-- the machine after the first k moves of the list
+abbrev pub After : (c : Call) → Script × Cursor → ℕ → Machine → Type 0
+After c p k m = run (p .1 .number) 0 (take k (c .moves)) (begun (p .0)) ≡ moved m
+
+-- "parts in the tree plus twice the receipts made are at most the script's parts", before the first move and after each
+abbrev pub WeightHolds : Call → Type 0
+WeightHolds c = (p : Script × Cursor) → readScript (c .script) ≡ got p → (k : ℕ) (m : Machine) → After c p k m → weightOf m ≤ parts (p .0)
+
+-- the bound, r + a × s ^ (r + 1): "The bound counts the moves made, in a refused call too"; here of every beginning of a list
+-- that is made
+abbrev pub BoundHolds : Call → Type 0
+BoundHolds c = (p : Script × Cursor) → readScript (c .script) ≡ got p → (k : ℕ) (m : Machine) → k ≤ length (c .moves) → After c p k m → k ≤ movesBound (p .0)
+
+-- and so of what the call answers, refused or not
+abbrev pub MovesBounded : Call → Type 0
+MovesBounded c = (p : Script × Cursor) → readScript (c .script) ≡ got p → answer c .moves ≤ movesBound (p .0)

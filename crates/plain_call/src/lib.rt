@@ -1,0 +1,1 @@
+// The call as the plain machine answers it: definitions and theorems, no code.

@@ -1,0 +1,39 @@
+-- `either` meets its contract. Assumes nothing.
+use Prim.Native.Nat.{ℕ, _-_}
+use native.Mathlib.Omega.{arith}
+use borrow.Author.Needs.{needs}
+use Rattle.walk.proofs.Members.{either-stops, either-goes}
+use Rattle.visits.proofs.+at_name+beside+either+moves_of+negation+placed_in+some_name+sometime+somewhere+split+visit.Lts-either as lts
+use Rattle.visits.proofs.either.Reads as reads
+use Rattle.visits.proofs.+at_name+beside+either+moves_of+negation+placed_in+some_name+sometime+somewhere+split+visit.Proof.Measures.{either-at, either-claims}
+
+module _ (t : ℕ) where
+  pub add-visit : lts.Need-add-visit (either-claims t) (either-at t) reads.Post
+  add-visit c = search needs
+
+  pub visit-requires : lts.Need-visit-requires (either-claims t) (either-at t) reads.Post
+  visit-requires c κs = (omega (arith, c .before .pre .0), (omega (arith, c .before .pre .1 .1), c .before .pre .1 .2, c .before .pre .1 .3, c .before .pre .1 .4, c .before .pre .1 .5, c .before .pre .1 .6))
+
+  pub enum-known-on-left : lts.Need-enum-known-on-left (either-claims t) (either-at t) reads.Post
+  enum-known-on-left c = search needs
+
+  pub returns : lts.Need-returns (either-claims t) (either-at t) reads.Post
+  returns c = let x = c .before .before .before .args in either-stops (x .program .now) (x .script .now) (x .sets .now) (x .numbers .now) (x .chosen .now) (x .top) (x .somes) (x .left) (x .at) (x .limits) (x .c) _ (c .before .visit .ensures) (c .match .keys2)
+
+  pub add-wide : lts.Need-add-wide (either-claims t) (either-at t) reads.Post
+  add-wide c = search needs
+
+  pub mul-wide : lts.Need-mul-wide (either-claims t) (either-at t) reads.Post
+  mul-wide c = search needs
+
+  pub element-copy-out-wide : lts.Need-element-copy-out-wide (either-claims t) (either-at t) reads.Post
+  element-copy-out-wide c = search needs
+
+  pub wide-requires : lts.Need-wide-requires (either-claims t) (either-at t) reads.Post
+  wide-requires c κs = search needs
+
+  pub visit-requires-2 : lts.Need-visit-requires-2 (either-claims t) (either-at t) reads.Post
+  visit-requires-2 c κs = (omega (arith, c .before .before .before .before .before .before .before .pre .0), (omega (arith, c .before .before .before .before .before .before .before .pre .1 .1), c .before .before .before .before .before .before .before .pre .1 .2, c .before .before .before .before .before .before .before .pre .1 .3, c .before .before .before .before .before .before .before .pre .1 .4, c .before .before .before .before .before .before .before .pre .1 .5, c .before .before .before .before .before .before .before .pre .1 .6))
+
+  pub returns-2 : lts.Need-returns-2 (either-claims t) (either-at t) reads.Post
+  returns-2 c = let x = c .before .before .before .before .before .before .before .before .args in either-goes (x .program .now) (x .script .now) (x .sets .now) (x .numbers .now) (x .chosen .now) (x .top) (x .somes) (x .left) (x .at) (x .limits) (x .c) _ _ _ _ (c .before .before .before .before .before .before .visit .ensures) (c .before .before .before .before .on-left .given .1) (c .before .wide .ensures) (c .visit2 .ensures)

@@ -1,0 +1,21 @@
+-- `negation` meets its contract. Assumes nothing.
+use Prim.Native.Nat.{ℕ, _-_}
+use native.Mathlib.Omega.{arith}
+use borrow.Author.Needs.{needs}
+use Rattle.walk.proofs.Members.{negation-finds}
+use Rattle.visits.proofs.+at_name+beside+either+moves_of+negation+placed_in+some_name+sometime+somewhere+split+visit.Lts-negation as lts
+use Rattle.visits.proofs.negation.Reads as reads
+use Rattle.visits.proofs.+at_name+beside+either+moves_of+negation+placed_in+some_name+sometime+somewhere+split+visit.Proof.Measures.{negation-at, negation-claims}
+
+module _ (t : ℕ) where
+  pub add-visit : lts.Need-add-visit (negation-claims t) (negation-at t) reads.Post
+  add-visit c = search needs
+
+  pub visit-requires : lts.Need-visit-requires (negation-claims t) (negation-at t) reads.Post
+  visit-requires c κs = (omega (arith, c .before .pre .0), (omega (arith, c .before .pre .1 .1), c .before .pre .1 .2, c .before .pre .1 .3, c .before .pre .1 .4, c .before .pre .1 .5, c .before .pre .1 .6))
+
+  pub turned-requires : lts.Need-turned-requires (negation-claims t) (negation-at t) reads.Post
+  turned-requires c κs = search needs
+
+  pub returns : lts.Need-returns (negation-claims t) (negation-at t) reads.Post
+  returns c = let x = c .before .before .before .args in negation-finds (x .program .now) (x .script .now) (x .sets .now) (x .numbers .now) (x .chosen .now) (x .top) (x .somes) (x .left) (x .at) (x .limits) (x .c) _ _ (c .before .visit .ensures) (c .turned .ensures)

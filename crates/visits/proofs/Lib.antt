@@ -1,0 +1,2 @@
+-- The whole walk, from the first word on. Assumes nothing.
+pub mod Begun

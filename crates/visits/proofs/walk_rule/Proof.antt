@@ -1,0 +1,32 @@
+-- `walk_rule` meets its contract: the rule is loaded, the state lent, and the first word visited. Assumes nothing.
+use Prim.Native.Nat.{ℕ}
+use mathlib.Core.List.{List}
+use mathlib.Core.Path.{refl}
+use native.Mathlib.Omega.{arith}
+use Rattle.closures.specs.Represents.{Ready}
+use Rattle.closures.specs.declared.State.{State}
+use Rattle.walk.proofs.Lendings.{carried}
+use Rattle.visits.proofs.Begun.{whole-walk}
+use borrow.Author.Needs.{needs}
+use Rattle.visits.proofs.walk_rule.Statement.{statement}
+use Rattle.visits.proofs.walk_rule.Tie as tie
+use Rattle.visits.proofs.walk_rule.Reads as reads
+use Rattle.visits.proofs.walk_rule.Lts as lts
+use Rattle.walk.proofs.lend_state.Reads as lend-state-reads
+use Rattle.walk.proofs.loaded.Reads as loaded-reads
+use Rattle.visits.proofs.visit.Reads as visit-reads
+
+loaded-requires : tie.Need-loaded-requires
+loaded-requires c κs = search needs
+
+lend-state-requires : tie.Need-lend-state-requires
+lend-state-requires c κs = c .before .before .before .before .before .pre .3 .bound .within
+
+visit-requires : tie.Need-visit-requires
+visit-requires c κs = let x = c .before .before .before .before .before .before .before .before .before .before .before .args in let p = c .before .before .before .before .before .before .before .before .before .before .before .pre in let n = c .before .before .before .before .before .lend-state .result in let t = c .before .before .before .before .before .lend-state .ensures .0 in let e = c .before .before .before .before .before .lend-state .ensures .1 in (omega arith, omega arith, p .0, p .1, p .2, record { sets-long = t .3; numbers-long = t .4; small = t .2; ready = carried (λ (k : List ℕ) (l : List ℕ) (s : State). Ready (x .script .now) k l s) (x .kinds) _ (x .starts) _ (x .state) _ (t .0) (t .1) e (p .3) })
+
+returns : tie.Need-returns
+returns c = let x = c .before .before .before .before .before .before .before .before .before .before .before .before .args in let p = c .before .before .before .before .before .before .before .before .before .before .before .before .pre in let n = c .before .before .before .before .before .before .lend-state .result in let t = c .before .before .before .before .before .before .lend-state .ensures .0 in let e = c .before .before .before .before .before .before .lend-state .ensures .1 in whole-walk _ (x .rule .now) (x .script .now) (x .kinds) (x .starts) (n .sets) (n .numbers) _ (x .table) (n .top) (x .state) (x .limits) _ _ (c .before .before .before .before .before .before .before .loaded .ensures .0) (c .before .before .before .before .before .before .before .loaded .ensures .1) (t .0) (t .1) e (p .3) (p .0) (p .2) refl refl (c .visit .ensures)
+
+pub walk-rule-spec : {M : Type 1} → statement M
+walk-rule-spec = tie.close (tie.spec loaded-requires lend-state-requires visit-requires returns)
