@@ -3,7 +3,7 @@ use Prim.Native.Nat.{ℕ, zero, suc, _+_, _*_, _-_, _/_, _%_, _≤_, min}
 use mathlib.Core.Bool.{Bool, true, false, cond, _&&_}
 use mathlib.Core.List.{List, [], _∷_, _++_}
 use mathlib.Core.Option.{Option, none, some}
-use mathlib.Core.Path.{_≡_, refl, sym, ap, _∙_, subst}
+use mathlib.Core.Path.{_≡_, refl, ap, _∙_}
 use native.Mathlib.Omega.{arith}
 use borrow.Author.Tests.{leb-true}
 use lib.Dec.{leb, ltb, lit≤}
@@ -18,7 +18,7 @@ use Rattle.decision.specs.Walk.{Count, Walked, stopped, says, walkFrom}
 use Rattle.decision.specs.PlainWalk.{plainSpace}
 use Rattle.plain_call.specs.Call.{Call, Verdict, accepted, refused, Answer, answer, refusal, Ran, halted, moved, run, begun, written, finish, walked, setting, ruleRun, ruleRead, scriptRead}
 use Rattle.checker.specs.Answering.{callOf}
-use Rattle.skycorbel.specs.Text.{digit, hexadecimal, line, lines, decimalBy, decimal, refusedText, atText, movesText, visitsText, deepestText, weightText, wordsText, refusalText, countsText, saidText, verdictText, answerText, Puts}
+use Rattle.skycorbel.specs.Text.{digit, hexadecimal, line, lines, decimalBy, decimal, refusedText, atText, movesText, visitsText, deepestText, weightText, wordsText, refusalText, countsText, saidText, verdictText, Puts}
 use Rattle.skycorbel.specs.Input.{counted, replied, unfitText, callReply, ruleReply, movesReply, scriptReply, wordsReply, reply}
 
 -- ---- an answer's buffer is as long as the lent one
@@ -176,9 +176,9 @@ words-short s =
     replied-short (counted s) (λ script rest. scriptReply script rest) λ script rest. replied-short (counted rest) (λ moves more. movesReply script moves more) λ moves more. replied-short (counted more) (λ rule last. ruleReply script moves rule last) λ rule last. rule-short script moves rule last
 
 -- the whole text stands in a buffer that is long enough
-pub puts-all : (old new input : List ℕ) (r : ℕ) (piece : List ℕ) → Puts old new 0 r piece → 40960 ≤ length old → Short piece → piece ≡ reply input → Counts r new × (take r new ≡ reply input)
-puts-all old new input r piece x e l f =
-    let u = x .1 (omega (arith, e, l)) in
-    let h : r ≤ length new = omega (arith, u .0, x .0, e, l) in
+pub puts-all : {old new : List ℕ} (input : List ℕ) {r : ℕ} {piece : List ℕ} → Puts old new 0 r piece → 40960 ≤ length old → Short piece → piece ≡ reply input → Counts r new × (take r new ≡ reply input)
+puts-all {old} {new} input {r} x e l f =
+    let u = x .put (omega (arith, e, l)) in
+    let h : r ≤ length new = omega (arith, u .0, x .kept, e, l) in
     let k : r ≡ length (take r new) = omega (arith, length-take r new, h) in
     ((h, k), u .1 ∙ f)

@@ -1,14 +1,13 @@
 -- Numbers as text: their digits one by one. Assumes nothing.
 use Prim.Native.Nat.{ℕ, zero, suc, _+_, _-_, _/_, _%_, _^_, _≤_, _<_}
-use mathlib.Core.Bool.{true, false}
 use mathlib.Core.List.{List, [], _∷_, _++_, append-nil, append-assoc}
-use mathlib.Core.Path.{_≡_, refl, sym, ap, _∙_, subst}
+use mathlib.Core.Path.{_≡_, refl, sym, ap, _∙_}
 use native.Mathlib.Nat.{pow-suc}
 use native.Mathlib.Omega.{arith}
 use borrow.Author.Tests.{lt-ltb, le-ltb}
 use lib.ListN.{length, take, getD}
 use Rattle.skycorbel.specs.Text.{digit, hexadecimal, line, lines, decimalBy, Puts}
-use Rattle.skycorbel.proofs.Putting.{puts-more, next-is, whole}
+use Rattle.skycorbel.proofs.Putting.{puts-more, puts-as, next-is}
 
 -- ---- base ten
 
@@ -25,13 +24,14 @@ pub twenty-digits : (n : ℕ) → n < 18446744073709551616 → n < 10 ^ 20
 twenty-digits n l = omega (arith, l)
 
 -- the last digit behind the others
-pub puts-decimal : (a b c : List ℕ) (i j r n : ℕ) → 10 ≤ n
+pub puts-decimal : {a b c : List ℕ} {i j r : ℕ} (n : ℕ) → 10 ≤ n
     → ((k : ℕ) → n / 10 < 10 ^ suc k → Puts a b i j (decimalBy (suc k) (n / 10)))
     → Puts b c j r ((48 + n % 10) ∷ [])
     → (k : ℕ) → n < 10 ^ suc k → Puts a c i r (decimalBy (suc k) n)
-puts-decimal a b c i j r n l x y zero h = absurd (let z : ⊥ = omega (arith, h, pow-suc 10 0) in z)
-puts-decimal a b c i j r n l x y (suc k) h =
-    subst (λ (q : List ℕ). Puts a c i r q) (decimal-more (suc k) n l) (puts-more a b c i j r (decimalBy (suc k) (n / 10)) ((48 + n % 10) ∷ []) (x k (omega (arith, h, pow-suc 10 (suc k)))) y)
+puts-decimal n l x y zero h = absurd (let z : ⊥ = omega (arith, h, pow-suc 10 0) in z)
+puts-decimal n l x y (suc k) h =
+    let m : n / 10 < 10 ^ suc k = omega (arith, h, pow-suc 10 (suc k)) in
+    puts-as (decimal-more (suc k) n l) (puts-more (x k m) y)
 
 -- ---- base sixteen
 
@@ -40,13 +40,10 @@ unfolding hexadecimal
 hex-none zero w e = refl
 hex-none (suc k) w e = absurd (let z : ⊥ = omega (arith, e) in z)
 
-hex-more : (k w : ℕ) → 0 < k → hexadecimal (k - 1) (w / 16) ++ (digit (w % 16) ∷ []) ≡ hexadecimal k w
+pub hex-more : (k w : ℕ) → 0 < k → hexadecimal (k - 1) (w / 16) ++ (digit (w % 16) ∷ []) ≡ hexadecimal k w
 unfolding hexadecimal
 hex-more zero w l = absurd (let z : ⊥ = omega (arith, l) in z)
 hex-more (suc k) w l = let e : suc k - 1 ≡ k = omega arith in ap (λ (j : ℕ). hexadecimal j (w / 16) ++ (digit (w % 16) ∷ [])) e
-
-pub puts-hex : (a b c : List ℕ) (i j r k w : ℕ) → 0 < k → Puts a b i j (hexadecimal (k - 1) (w / 16)) → Puts b c j r (digit (w % 16) ∷ []) → Puts a c i r (hexadecimal k w)
-puts-hex a b c i j r k w l x y = subst (λ (q : List ℕ). Puts a c i r q) (hex-more k w l) (puts-more a b c i j r (hexadecimal (k - 1) (w / 16)) (digit (w % 16) ∷ []) x y)
 
 pub digit-low : (d : ℕ) → d < 10 → 48 + d ≡ digit d
 unfolding digit
@@ -71,11 +68,7 @@ lines-one : (w : ℕ) → lines (w ∷ []) ≡ line w
 unfolding lines
 lines-one w = append-nil (line w)
 
-pub puts-line : (a b c : List ℕ) (i j k n : ℕ) (p : List ℕ) → n < length p → Puts a b i j (lines (take n p)) → Puts b c j k (line (getD p n 0)) → Puts a c i k (lines (take (n + 1) p))
-puts-line a b c i j k n p l x y =
-    subst (λ (q : List ℕ). Puts a c i k q)
-    (ap (λ (r : List ℕ). lines (take n p) ++ r) (sym (lines-one (getD p n 0))) ∙ sym (lines-append (take n p) (getD p n 0 ∷ [])) ∙ ap lines (next-is p n l))
-    (puts-more a b c i j k (lines (take n p)) (line (getD p n 0)) x y)
-
-pub puts-lines : (a b : List ℕ) (i j n : ℕ) (p : List ℕ) → length p ≤ n → Puts a b i j (lines (take n p)) → Puts a b i j (lines p)
-puts-lines a b i j n p l x = subst (λ (q : List ℕ). Puts a b i j (lines q)) (whole p n l) x
+-- one line more
+pub lines-next : (p : List ℕ) (n : ℕ) → n < length p → lines (take n p) ++ line (getD p n 0) ≡ lines (take (n + 1) p)
+lines-next p n l =
+    ap (λ (r : List ℕ). lines (take n p) ++ r) (sym (lines-one (getD p n 0))) ∙ sym (lines-append (take n p) (getD p n 0 ∷ [])) ∙ ap lines (next-is p n l)

@@ -94,9 +94,9 @@ answerText r = verdictText (r .verdict) r
 
 -- A piece is put into a text at a place, and the next place is behind it. Where the text has no room for it, nothing is
 -- said but that the text is as long as before.
-abbrev pub Puts : (old new : List ℕ) (at next : ℕ) (piece : List ℕ) → Type 0
-Puts old new at next piece =
-    (length new ≡ length old) × (at + length piece ≤ length old → (next ≡ at + length piece) × (take next new ≡ take at old ++ piece))
+pub record Puts (old new : List ℕ) (at next : ℕ) (piece : List ℕ) : Type 0 where
+  pub kept : length new ≡ length old
+  pub put : at + length piece ≤ length old → (next ≡ at + length piece) × (take next new ≡ take at old ++ piece)
 
 -- To unfold this is to unfold every definition of this module: for a proof by computation.
 unfoldable pub computing : Unit {0}

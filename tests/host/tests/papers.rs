@@ -26,7 +26,7 @@ fn move_word(actor: u32, target: u32) -> u32 {
     0x1000_0000 | actor << 8 | target
 }
 
-/// A script in which a message is handed through receipts, each of which makes 2^bits copies of it in one path, and its
+/// A script in which a message is handed through receipts, each of which makes so many copies of it in one path, and its
 /// last one does with it what `last` says of its variable. The list makes every receipt.
 struct Handed {
     script: Vec<u32>,
@@ -35,31 +35,30 @@ struct Handed {
     part: u32,
 }
 
-fn handed(message: &[u32], bits: &[u32], last: impl Fn(u32) -> Vec<u32>) -> Handed {
+fn handed(message: &[u32], times: &[u32], last: impl Fn(u32) -> Vec<u32>) -> Handed {
     let mut script = [&[OUT], message].concat();
     let mut moves = Vec::new();
-    for (k, bits) in bits.iter().enumerate() {
+    for (k, times) in times.iter().enumerate() {
         let variable = VAR | script.len() as u32;
         script.extend([REC, OUT]);
-        script.extend(copies(*bits, variable));
+        script.extend(copies(*times, variable));
         moves.push(move_word(2 * k as u32 + 1, 2 * k as u32));
     }
-    let receipts = bits.len() as u32;
+    let receipts = times.len() as u32;
     let variable = VAR | script.len() as u32;
     script.push(REC);
     script.extend(last(variable));
-    script.extend(vec![0; bits.len() + 2]);
+    script.extend(vec![0; times.len() + 2]);
     moves.push(move_word(2 * receipts + 1, 2 * receipts));
     Handed { script, moves, part: 2 * receipts + 2 }
 }
 
-/// 2^bits copies of a word in a path.
-fn copies(bits: u32, word: u32) -> Vec<u32> {
-    if bits == 0 {
+/// So many copies of a word in a path, its PATHs as flat as can be.
+fn copies(times: u32, word: u32) -> Vec<u32> {
+    if times == 1 {
         return vec![word];
     }
-    let half = copies(bits - 1, word);
-    [&[PATH], &half[..], &half[..]].concat()
+    [vec![PATH], copies(times / 2, word), copies(times - times / 2, word)].concat()
 }
 
 /// 1[the variable as action] beside 2, as in 000's P_0.
@@ -78,7 +77,7 @@ fn refused(question: u32, moves: u32, visits: u32) -> Answer {
 #[test]
 fn the_doubling_family_to_its_end() {
     for k in 0..=10 {
-        let mut family = handed(IN_AND_OUT, &vec![1; k], p_and_q);
+        let mut family = handed(IN_AND_OUT, &vec![2; k], p_and_q);
         let step = move_word(family.part + 1, family.part + 2);
         family.moves.extend(vec![step; 2 << k]);
         let mut out = [9; 16];
@@ -100,7 +99,7 @@ fn the_doubling_family_to_its_end() {
 #[test]
 fn the_doubling_family_to_4096_moves() {
     for k in 11..=29 {
-        let mut family = handed(IN_AND_OUT, &vec![1; k], p_and_q);
+        let mut family = handed(IN_AND_OUT, &vec![2; k], p_and_q);
         let step = move_word(family.part + 1, family.part + 2);
         let rest = 4096 - family.moves.len();
         family.moves.extend(vec![step; rest]);
@@ -121,8 +120,8 @@ fn the_doubling_family_to_4096_moves() {
 #[test]
 fn messages_of_many_items() {
     for bits in 4..=40u32 {
-        let mut steps = vec![2; bits as usize / 2];
-        steps.extend(vec![1; bits as usize % 2]);
+        let mut steps = vec![4; bits as usize / 2];
+        steps.extend(vec![2; bits as usize % 2]);
         let mut long = handed(&[IN, NAME | 2], &steps, p_and_q);
         let begin = Instant::now();
         let mut out = [9; 64];
@@ -149,8 +148,8 @@ fn messages_of_many_items() {
 fn messages_of_many_leaves() {
     let guarded = |variable| vec![ACT, variable, AMB, NAME | 1, 0, 0];
     for bits in 4..=40u32 {
-        let mut steps = vec![2; bits as usize / 2];
-        steps.extend(vec![1; bits as usize % 2]);
+        let mut steps = vec![4; bits as usize / 2];
+        steps.extend(vec![2; bits as usize % 2]);
         let empty = handed(&[EMPTY], &steps, guarded);
         let mut out = [9; 5];
         let answer = call(&empty.script, &empty.moves, &[AT | 1, 0x3000_0000], 99, &mut out);
@@ -171,7 +170,7 @@ fn messages_of_many_leaves() {
 fn both_agree_on_short_ones() {
     for bits in 0..=12 {
         for message in [IN_AND_OUT, &[EMPTY], &[IN, NAME | 2], &[PATH, EMPTY, IN, NAME | 2], &[NAME | 2]] {
-            let mut long = handed(message, &vec![1; bits], p_and_q);
+            let mut long = handed(message, &vec![2; bits], p_and_q);
             long.moves.extend(vec![move_word(long.part + 1, long.part + 2); 3]);
             for made in 0..=long.moves.len() {
                 let (mut ours, mut theirs) = (vec![9; 40_000], vec![9; 40_000]);
@@ -184,24 +183,28 @@ fn both_agree_on_short_ones() {
     }
 }
 
-/// A tree of 2^28 words fits a buffer of so many and no shorter one; one of more never fits, since no more words count.
-/// It takes a buffer of 1 GiB: `cargo test --release --offline --test papers -- --ignored`.
+/// A tree of 2^28 words fits a buffer of so many and no shorter one; a tree of one word more fits none, since no more words
+/// count. It takes a buffer of 1 GiB: `cargo test --release --offline --test papers -- --ignored`.
 #[test]
 #[ignore]
 fn a_tree_of_2_to_the_28_words() {
     const MOST: usize = 1 << 28;
-    // OUT, a message of (w + 1) × 2^k - 1 words and the CLOSE: with w + 1 a power of two, one word more than that power.
-    let tree = |w: usize, bits: &[u32]| {
+    // A message of w words, copied n times, has n × (w + 1) - 1 words; OUT and CLOSE make it two more. So w + 1 and the
+    // numbers of copies multiply to one less than the words of the tree.
+    let tree = |w: usize, times: &[u32]| {
         let message = [vec![IN; w - 1], vec![NAME | 1]].concat();
-        handed(&message, bits, |variable| vec![OUT, variable])
+        handed(&message, times, |variable| vec![OUT, variable])
     };
     let mut out = vec![9u32; MOST + 8];
-    let exact = tree(3, &[1; 25]);
-    // (3 + 1) × 2^25 - 1 words, OUT and CLOSE: 2^27 + 1.
-    let answer = call(&exact.script, &exact.moves, &[TRUE], 1, &mut out);
-    assert_eq!((answer.verdict, answer.words as usize), (Verdict::Accepted(true), (1 << 27) + 1));
-    assert_eq!(out[(1 << 27) + 1..], vec![9u32; (1 << 27) + 7]);
-    let long = tree(3, &[1; 26]);
+    let just = tree(14, &[29, 43, 113, 127]);
+    let short = call(&just.script, &just.moves, &[TRUE], 1, &mut out[..MOST - 1]);
+    assert_eq!(short, refused(19, just.moves.len() as u32, 1));
+    assert!(out.iter().all(|word| *word == 9));
+    let fits = call(&just.script, &just.moves, &[TRUE], 1, &mut out[..MOST]);
+    assert_eq!((fits.verdict, fits.words as usize), (Verdict::Accepted(true), MOST));
+    assert_eq!((out[0], out[1], out[MOST - 2], out[MOST - 1]), (OUT, PATH, NAME | 1, 0));
+    assert_eq!(out[MOST..], [9; 8]);
+    let long = tree(3, &[2; 26]);
     out.fill(9);
     let answer = call(&long.script, &long.moves, &[TRUE], 1, &mut out);
     assert_eq!(answer, refused(19, long.moves.len() as u32, 1));

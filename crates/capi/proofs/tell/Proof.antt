@@ -2,8 +2,7 @@
 use Prim.Native.Nat.{_≤_, _<_}
 use lib.ListN.{length}
 use native.Mathlib.Omega.{arith}
-use mathlib.Core.List.{[], _∷_}
-use lib.Seq.{lt-length-sets, sets-eq}
+use lib.Seq.{lt-length-set, sets-eq}
 use Rattle.checker.specs.Answering.{answerOf}
 use Rattle.capi.specs.Told.{told}
 use borrow.Author.Needs.{needs}
@@ -13,37 +12,37 @@ use Rattle.capi.proofs.tell.Tie as tie
 slice-write-answer-2 : tie.Need-slice-write-answer-2
 slice-write-answer-2 c =
     let h : 1 < length (c .before .before .before .args .answer .now) = omega (arith, c .before .before .before .pre) in
-    lt-length-sets (c .before .before .before .args .answer .now) 0 (c .before .said .result ∷ []) h
+    search (lt-length-set, h) depth 9
 
 slice-write-answer-3 : tie.Need-slice-write-answer-3
 slice-write-answer-3 c =
     let h : 2 < length (c .before .before .before .before .before .args .answer .now) = omega (arith, c .before .before .before .before .before .pre) in
-    lt-length-sets (c .before .before .before .before .before .args .answer .now) 0 (c .before .before .before .said .result ∷ c .before .before .question-of .result ∷ []) h
+    search (lt-length-set, h) depth 9
 
 slice-write-answer-4 : tie.Need-slice-write-answer-4
 slice-write-answer-4 c =
     let h : 3 < length (c .before .before .before .before .before .before .args .answer .now) = omega (arith, c .before .before .before .before .before .before .pre) in
-    lt-length-sets (c .before .before .before .before .before .before .args .answer .now) 0 (c .before .before .before .before .said .result ∷ c .before .before .before .question-of .result ∷ c .before .narrow .result ∷ []) h
+    search (lt-length-set, h) depth 9
 
 slice-write-answer-5 : tie.Need-slice-write-answer-5
 slice-write-answer-5 c =
     let h : 4 < length (c .before .before .before .before .before .before .args .answer .now) = omega (arith, c .before .before .before .before .before .before .pre) in
-    lt-length-sets (c .before .before .before .before .before .before .args .answer .now) 0 (c .before .before .before .before .said .result ∷ c .before .before .before .question-of .result ∷ c .before .narrow .result ∷ c .narrow2 .result ∷ []) h
+    search (lt-length-set, h) depth 9
 
 slice-write-answer-6 : tie.Need-slice-write-answer-6
 slice-write-answer-6 c =
     let h : 5 < length (c .before .before .before .before .before .before .args .answer .now) = omega (arith, c .before .before .before .before .before .before .pre) in
-    lt-length-sets (c .before .before .before .before .before .before .args .answer .now) 0 (c .before .before .before .before .said .result ∷ c .before .before .before .question-of .result ∷ c .before .narrow .result ∷ c .narrow2 .result ∷ c .before .before .before .before .before .before .args .a .visits ∷ []) h
+    search (lt-length-set, h) depth 9
 
 slice-write-answer-7 : tie.Need-slice-write-answer-7
 slice-write-answer-7 c =
     let h : 6 < length (c .before .before .before .before .before .before .before .args .answer .now) = omega (arith, c .before .before .before .before .before .before .before .pre) in
-    lt-length-sets (c .before .before .before .before .before .before .before .args .answer .now) 0 (c .before .before .before .before .before .said .result ∷ c .before .before .before .before .question-of .result ∷ c .before .before .narrow .result ∷ c .before .narrow2 .result ∷ c .before .before .before .before .before .before .before .args .a .visits ∷ c .before .before .before .before .before .before .before .args .a .deepest ∷ []) h
+    search (lt-length-set, h) depth 9
 
 slice-write-answer-8 : tie.Need-slice-write-answer-8
 slice-write-answer-8 c =
     let h : 7 < length (c .before .before .before .before .before .before .before .args .answer .now) = omega (arith, c .before .before .before .before .before .before .before .pre) in
-    lt-length-sets (c .before .before .before .before .before .before .before .args .answer .now) 0 (c .before .before .before .before .before .said .result ∷ c .before .before .before .before .question-of .result ∷ c .before .before .narrow .result ∷ c .before .narrow2 .result ∷ c .before .before .before .before .before .before .before .args .a .visits ∷ c .before .before .before .before .before .before .before .args .a .deepest ∷ c .narrow3 .result ∷ []) h
+    search (lt-length-set, h) depth 9
 
 returns : tie.Need-returns
 unfolding told answerOf

@@ -1,21 +1,18 @@
 -- `put_answer` meets its contract, by the verdict. Assumes nothing.
-use Prim.Native.Nat.{ℕ}
-use mathlib.Core.List.{List}
-use mathlib.Core.Path.{subst}
-use Rattle.skycorbel.specs.Text.{Puts}
+use Rattle.skycorbel.proofs.Putting.{puts-as}
 use Rattle.skycorbel.proofs.Answers.{yes-text, no-text, refused-text}
 use borrow.Author.Needs.{needs}
 use Rattle.skycorbel.proofs.put_answer.Statement.{statement}
 use Rattle.skycorbel.proofs.put_answer.Tie as tie
 
 returns : tie.Need-returns
-returns c = subst (λ (q : List ℕ). Puts (c .before .before .before .before .before .before .before .before .before .args .text .now) (c .before .before .put-said .last .0) 0 (c .before .before .put-said .result) q) (yes-text (c .before .before .before .before .before .before .before .before .before .args .a) (c .before .before .before .before .before .before .before .before .before .args .out .now) (c .before .before .before .before .before .enum-told .given .1)) (c .before .before .put-said .ensures)
+returns c = puts-as (yes-text (c .before .before .before .before .before .before .before .before .before .args .a) (c .before .before .before .before .before .before .before .before .before .args .out .now) (c .before .before .before .before .before .enum-told .given .1)) (c .before .before .put-said .ensures)
 
 returns-2 : tie.Need-returns-2
-returns-2 c = subst (λ (q : List ℕ). Puts (c .before .before .before .before .before .before .before .before .before .args .text .now) (c .before .before .put-said2 .last .0) 0 (c .before .before .put-said2 .result) q) (no-text (c .before .before .before .before .before .before .before .before .before .args .a) (c .before .before .before .before .before .before .before .before .before .args .out .now) (c .before .before .before .before .before .enum-told2 .given .1)) (c .before .before .put-said2 .ensures)
+returns-2 c = puts-as (no-text (c .before .before .before .before .before .before .before .before .before .args .a) (c .before .before .before .before .before .before .before .before .before .args .out .now) (c .before .before .before .before .before .enum-told2 .given .1)) (c .before .before .put-said2 .ensures)
 
 returns-3 : tie.Need-returns-3
-returns-3 c = subst (λ (q : List ℕ). Puts (c .before .before .before .before .before .before .before .before .before .args .text .now) (c .before .before .put-refusal .last .0) 0 (c .before .before .put-refusal .result) q) (refused-text (c .before .before .before .before .before .before .before .before .before .args .a) (c .before .before .before .before .before .before .before .before .before .args .out .now) (c .before .before .before .before .before .verdict .given .0 .0) (c .before .before .before .before .before .verdict .given .0 .1 .0) (c .before .before .before .before .before .verdict .given .1)) (c .before .before .put-refusal .ensures)
+returns-3 c = puts-as (refused-text (c .before .before .before .before .before .before .before .before .before .args .a) (c .before .before .before .before .before .before .before .before .before .args .out .now) (c .before .before .before .before .before .verdict .given .0 .0) (c .before .before .before .before .before .verdict .given .0 .1 .0) (c .before .before .before .before .before .verdict .given .1)) (c .before .before .put-refusal .ensures)
 
 pub put-answer-spec : {M : Type 1} → statement M
 put-answer-spec =

@@ -1,8 +1,6 @@
 -- `put_call` meets its contract. Assumes nothing.
-use Prim.Native.Nat.{ℕ}
-use mathlib.Core.List.{List}
-use mathlib.Core.Path.{subst, ap}
-use Rattle.skycorbel.specs.Text.{Puts}
+use mathlib.Core.Path.{ap}
+use Rattle.skycorbel.proofs.Putting.{puts-as}
 use Rattle.plain_call.specs.Call.{Answer}
 use Rattle.skycorbel.specs.Text.{answerText}
 use borrow.Author.Needs.{needs}
@@ -10,7 +8,7 @@ use Rattle.skycorbel.proofs.put_call.Statement.{statement}
 use Rattle.skycorbel.proofs.put_call.Tie as tie
 
 returns : tie.Need-returns
-returns c = subst (λ (q : List ℕ). Puts (c .before .before .before .before .before .before .before .before .before .before .before .before .args .text .now) (c .before .before .put-answer .last .0) 0 (c .before .before .put-answer .result) q) (ap (λ (a : Answer). answerText a) (c .before .before .before .before .before .before .call .ensures .0)) (c .before .before .put-answer .ensures)
+returns c = puts-as (ap (λ (a : Answer). answerText a) (c .before .before .before .before .before .before .call .ensures .0)) (c .before .before .put-answer .ensures)
 
 pub put-call-spec : {M : Type 1} → statement M
 put-call-spec =

@@ -1,6 +1,4 @@
 -- `put_count` meets its contract. Assumes nothing.
-use mathlib.Core.List.{_++_}
-use Rattle.skycorbel.specs.Text.{decimal}
 use Rattle.skycorbel.proofs.Putting.{puts-more}
 use Rattle.skycorbel.proofs.Numbers.{twenty-digits}
 use borrow.Author.Needs.{needs}
@@ -8,7 +6,7 @@ use Rattle.skycorbel.proofs.put_count.Statement.{statement}
 use Rattle.skycorbel.proofs.put_count.Tie as tie
 
 returns : tie.Need-returns
-returns c = puts-more (c .before .before .before .before .before .before .before .before .before .before .args .text .now) (c .before .before .before .before .before .before .put-bytes .last .0) (c .before .before .put-decimal .last .0) (c .before .before .before .before .before .before .before .before .before .before .args .at) (c .before .before .before .before .before .before .put-bytes .result) (c .before .before .put-decimal .result) (c .before .before .before .before .before .before .before .before .before .before .args .name .now) (decimal (c .before .before .before .before .before .before .before .before .before .before .args .count)) (c .before .before .before .before .before .before .put-bytes .ensures) (c .before .before .put-decimal .ensures 19 (twenty-digits (c .before .before .before .before .before .before .before .before .before .before .args .count) (c .before .before .before .before .before .before .before .before .before .before .fits .count .fits)))
+returns c = puts-more (c .before .before .before .before .before .before .put-bytes .ensures) (c .before .before .put-decimal .ensures 19 (twenty-digits (c .before .before .before .before .before .before .before .before .before .before .args .count) (c .before .before .before .before .before .before .before .before .before .before .fits .count .fits)))
 
 pub put-count-spec : {M : Type 1} → statement M
 put-count-spec = tie.close (tie.spec (λ c κs. search needs) (λ c κs. search needs) (λ c. search needs) returns)

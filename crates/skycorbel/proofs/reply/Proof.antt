@@ -1,8 +1,7 @@
 -- `reply` meets its contract: the text has room. Assumes nothing.
 use Prim.Native.Nat.{_/_}
-use mathlib.Core.Path.{_≡_}
 use lib.ListN.{length}
-use Rattle.skycorbel.specs.Input.{wordsOf, unfitText, wordsReply}
+use Rattle.skycorbel.specs.Input.{wordsOf}
 use Rattle.skycorbel.proofs.Replies.{reply-long, reply-odd, reply-words}
 use Rattle.skycorbel.proofs.Bounds.{unfit-short, words-short, puts-all}
 use borrow.Author.Needs.{needs}
@@ -10,13 +9,13 @@ use Rattle.skycorbel.proofs.reply.Statement.{statement}
 use Rattle.skycorbel.proofs.reply.Tie as tie
 
 returns : tie.Need-returns
-returns c = puts-all (c .before .before .before .before .before .before .before .args .text .now) (c .before .before .put-unfit .last .0) (c .before .before .before .before .before .before .before .args .input .now) (c .before .before .put-unfit .result) (unfitText) (c .before .before .put-unfit .ensures) (c .before .before .before .before .before .before .before .pre) unfit-short (reply-long (c .before .before .before .before .before .before .before .args .input .now) (c .before .before .before .before .if1 .taken))
+returns c = puts-all (c .before .before .before .before .before .before .before .args .input .now) (c .before .before .put-unfit .ensures) (c .before .before .before .before .before .before .before .pre) unfit-short (reply-long (c .before .before .before .before .before .before .before .args .input .now) (c .before .before .before .before .if1 .taken))
 
 returns-2 : tie.Need-returns-2
-returns-2 c = puts-all (c .before .before .before .before .before .before .before .before .args .text .now) (c .before .before .put-unfit2 .last .0) (c .before .before .before .before .before .before .before .before .args .input .now) (c .before .before .put-unfit2 .result) (unfitText) (c .before .before .put-unfit2 .ensures) (c .before .before .before .before .before .before .before .before .pre) unfit-short (reply-odd (c .before .before .before .before .before .before .before .before .args .input .now) (c .before .before .before .before .before .if1 .left) (c .before .before .before .before .if2 .taken))
+returns-2 c = puts-all (c .before .before .before .before .before .before .before .before .args .input .now) (c .before .before .put-unfit2 .ensures) (c .before .before .before .before .before .before .before .before .pre) unfit-short (reply-odd (c .before .before .before .before .before .before .before .before .args .input .now) (c .before .before .before .before .before .if1 .left) (c .before .before .before .before .if2 .taken))
 
 returns-3 : tie.Need-returns-3
-returns-3 c = puts-all (c .before .before .before .before .before .before .before .before .args .text .now) (c .before .before .reply-to-bytes .last .1 .1 .0) (c .before .before .before .before .before .before .before .before .args .input .now) (c .before .before .reply-to-bytes .result) (wordsReply (wordsOf (length (c .before .before .before .before .before .before .before .before .args .input .now) / 4) (c .before .before .before .before .before .before .before .before .args .input .now))) (c .before .before .reply-to-bytes .ensures) (c .before .before .before .before .before .before .before .before .pre) (words-short (wordsOf (length (c .before .before .before .before .before .before .before .before .args .input .now) / 4) (c .before .before .before .before .before .before .before .before .args .input .now))) (reply-words (c .before .before .before .before .before .before .before .before .args .input .now) (c .before .before .before .before .before .if1 .left) (c .before .before .before .before .if2 .left))
+returns-3 c = puts-all (c .before .before .before .before .before .before .before .before .args .input .now) (c .before .before .reply-to-bytes .ensures) (c .before .before .before .before .before .before .before .before .pre) (words-short (wordsOf (length (c .before .before .before .before .before .before .before .before .args .input .now) / 4) (c .before .before .before .before .before .before .before .before .args .input .now))) (reply-words (c .before .before .before .before .before .before .before .before .args .input .now) (c .before .before .before .before .before .if1 .left) (c .before .before .before .before .if2 .left))
 
 pub reply-spec : {M : Type 1} → statement M
 reply-spec =

@@ -1,15 +1,15 @@
 -- `reply_to_bytes` meets its contract. Assumes nothing.
 use Prim.Native.Nat.{ℕ}
 use mathlib.Core.List.{List}
-use mathlib.Core.Path.{subst, ap, _∙_}
-use Rattle.skycorbel.specs.Text.{Puts}
+use mathlib.Core.Path.{ap, _∙_}
+use Rattle.skycorbel.proofs.Putting.{puts-as}
 use Rattle.skycorbel.specs.Input.{wordsReply}
 use borrow.Author.Needs.{needs}
 use Rattle.skycorbel.proofs.reply_to_bytes.Statement.{statement}
 use Rattle.skycorbel.proofs.reply_to_bytes.Tie as tie
 
 returns : tie.Need-returns
-returns c = subst (λ (q : List ℕ). Puts (c .before .before .before .before .before .before .before .before .before .before .before .args .text .now) (c .before .before .reply-to-words .last .1 .0) 0 (c .before .before .reply-to-words .result) q) (ap (λ (s : List ℕ). wordsReply s) (c .before .before .before .before .head .ensures ∙ c .before .before .before .before .before .before .before .unpack .ensures)) (c .before .before .reply-to-words .ensures)
+returns c = puts-as (ap (λ (s : List ℕ). wordsReply s) (c .before .before .before .before .head .ensures ∙ c .before .before .before .before .before .before .before .unpack .ensures)) (c .before .before .reply-to-words .ensures)
 
 pub reply-to-bytes-spec : {M : Type 1} → statement M
 reply-to-bytes-spec =

@@ -1,18 +1,15 @@
 -- `reply_with_rule` meets its contract. Assumes nothing.
-use Prim.Native.Nat.{ℕ}
-use mathlib.Core.List.{List}
-use mathlib.Core.Path.{subst}
-use Rattle.skycorbel.specs.Text.{Puts}
+use Rattle.skycorbel.proofs.Putting.{puts-as}
 use Rattle.skycorbel.proofs.Replies.{rule-one, rule-unfit}
 use borrow.Author.Needs.{needs}
 use Rattle.skycorbel.proofs.reply_with_rule.Statement.{statement}
 use Rattle.skycorbel.proofs.reply_with_rule.Tie as tie
 
 returns : tie.Need-returns
-returns c = subst (λ (q : List ℕ). Puts (c .before .before .before .before .before .before .before .before .before .before .args .text .now) (c .before .before .put-unfit .last .0) 0 (c .before .before .put-unfit .result) q) (rule-unfit (c .before .before .before .before .before .before .before .before .before .before .args .script .now) (c .before .before .before .before .before .before .before .before .before .before .args .moves .now) (c .before .before .before .before .before .before .before .before .before .before .args .rule .now) (c .before .before .before .before .before .before .before .before .before .before .args .s .now) (c .before .before .before .before .if1 .taken)) (c .before .before .put-unfit .ensures)
+returns c = puts-as (rule-unfit (c .before .before .before .before .before .before .before .before .before .before .args .script .now) (c .before .before .before .before .before .before .before .before .before .before .args .moves .now) (c .before .before .before .before .before .before .before .before .before .before .args .rule .now) (c .before .before .before .before .before .before .before .before .before .before .args .s .now) (c .before .before .before .before .if1 .taken)) (c .before .before .put-unfit .ensures)
 
 returns-2 : tie.Need-returns-2
-returns-2 c = subst (λ (q : List ℕ). Puts (c .before .before .before .before .before .before .before .before .before .before .before .args .text .now) (c .before .before .put-call .last .1 .1 .1 .1 .0) 0 (c .before .before .put-call .result) q) (rule-one (c .before .before .before .before .before .before .before .before .before .before .before .args .script .now) (c .before .before .before .before .before .before .before .before .before .before .before .args .moves .now) (c .before .before .before .before .before .before .before .before .before .before .before .args .rule .now) (c .before .before .before .before .before .before .before .before .before .before .before .args .s .now) (c .before .before .before .before .before .if1 .left)) (c .before .before .put-call .ensures)
+returns-2 c = puts-as (rule-one (c .before .before .before .before .before .before .before .before .before .before .before .args .script .now) (c .before .before .before .before .before .before .before .before .before .before .before .args .moves .now) (c .before .before .before .before .before .before .before .before .before .before .before .args .rule .now) (c .before .before .before .before .before .before .before .before .before .before .before .args .s .now) (c .before .before .before .before .before .if1 .left)) (c .before .before .put-call .ensures)
 
 pub reply-with-rule-spec : {M : Type 1} → statement M
 reply-with-rule-spec =

@@ -1,7 +1,7 @@
 -- `unpack` meets its contract: the first i words are there. Assumes nothing.
 use Prim.Native.Nat.{_≤_, _-_}
 use native.Mathlib.Omega.{arith}
-use lib.ListN.{length, length-set}
+use lib.ListN.{length-set}
 use Rattle.skycorbel.proofs.Reading.{Unpacked, unpacked-none, unpacked-next, unpacked-all}
 use borrow.Author.Needs.{needs}
 use Rattle.skycorbel.proofs.unpack.Statement.{statement}

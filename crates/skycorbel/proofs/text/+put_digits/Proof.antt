@@ -1,14 +1,13 @@
 -- `put_digits` meets its contract. The measure is how many digits are left. Assumes nothing.
-use Prim.Native.Nat.{ℕ, _<_, _%_}
-use mathlib.Core.List.{List, [], _∷_}
-use mathlib.Core.Path.{subst}
+use Prim.Native.Nat.{ℕ, _<_}
+use mathlib.Core.List.{[], _∷_}
+use mathlib.Core.Path.{ap}
 use native.Mathlib.Omega.{arith}
 use borrow.Author.Needs.{needs}
 use borrow.Fn.Kinds.{In}
 use borrow.Fn.PlainCycle.{Measures, is, falls, and}
-use Rattle.skycorbel.specs.Text.{digit, Puts}
-use Rattle.skycorbel.proofs.Putting.{puts-none}
-use Rattle.skycorbel.proofs.Numbers.{hex-none, puts-hex}
+use Rattle.skycorbel.proofs.Putting.{puts-none, puts-more, puts-as}
+use Rattle.skycorbel.proofs.Numbers.{hex-none, hex-more}
 use Rattle.skycorbel.proofs.text.put_digits.Reads as put-digits
 use Rattle.skycorbel.proofs.text.put_digits.Kinds as put-digits-kinds
 use Rattle.skycorbel.proofs.text.+put_digits.Lts-put_digits as put-digits-lts
@@ -30,13 +29,15 @@ abbrev claims : ℕ → put-digits-lts.Claims
 claims t = (put-digits-below t, put-digits.Post, glyph-reads.Asked, glyph-reads.Learnt, put-byte-reads.Asked, put-byte-reads.Learnt)
 
 put-digits-returns : (t : ℕ) → put-digits-lts.Need-returns (claims t) (put-digits-at t) put-digits.Post
-put-digits-returns t c = subst (λ (q : List ℕ). Puts (c .before .before .args .text .now) (c .before .before .args .text .now) (c .before .before .args .at) (c .before .before .args .at) q) (hex-none (c .before .before .args .digits) (c .before .before .args .w) (c .if1 .taken)) (puts-none (c .before .before .args .text .now) (c .before .before .args .at))
+put-digits-returns t c = puts-as (hex-none (c .before .before .args .digits) (c .before .before .args .w) (c .if1 .taken)) puts-none
 
 put-digits-put-digits-requires : (t : ℕ) → put-digits-lts.Need-put-digits-requires (claims t) (put-digits-at t) put-digits.Post
 put-digits-put-digits-requires t c κs = (omega (arith, c .before .if1 .left), tt)
 
 put-digits-returns-2 : (t : ℕ) → put-digits-lts.Need-returns-2 (claims t) (put-digits-at t) put-digits.Post
-put-digits-returns-2 t c = puts-hex (c .before .before .before .before .before .before .before .before .before .before .before .args .text .now) _ _ (c .before .before .before .before .before .before .before .before .before .before .before .args .at) (c .before .before .before .before .before .before .before .put-digits .result) (c .before .before .put-byte .result) (c .before .before .before .before .before .before .before .before .before .before .before .args .digits) (c .before .before .before .before .before .before .before .before .before .before .before .args .w) (omega (arith, c .before .before .before .before .before .before .before .before .before .if1 .left)) (c .before .before .before .before .before .before .before .put-digits .ensures) (subst (λ (d : ℕ). Puts (c .before .before .before .before .before .before .before .put-digits .last .0) (c .before .before .put-byte .last .0) (c .before .before .before .before .before .before .before .put-digits .result) (c .before .before .put-byte .result) (d ∷ [])) (c .before .before .before .glyph .ensures) (c .before .before .put-byte .ensures))
+put-digits-returns-2 t c =
+    let more : 0 < c .before .before .before .before .before .before .before .before .before .before .before .args .digits = omega (arith, c .before .before .before .before .before .before .before .before .before .if1 .left) in
+    puts-as (hex-more (c .before .before .before .before .before .before .before .before .before .before .before .args .digits) (c .before .before .before .before .before .before .before .before .before .before .before .args .w) more) (puts-more (c .before .before .before .before .before .before .before .put-digits .ensures) (puts-as (ap (λ (d : ℕ). d ∷ []) (c .before .before .before .glyph .ensures)) (c .before .before .put-byte .ensures)))
 
 pub +put-digits-spec : {M : Type 1} → statement M
 +put-digits-spec =

@@ -5,10 +5,10 @@ use Rattle.skycorbel.proofs.text.put_byte.Statement.{statement}
 use Rattle.skycorbel.proofs.text.put_byte.Tie as tie
 
 returns : tie.Need-returns
-returns c = puts-byte (c .before .args .text .now) (c .before .args .at) (c .before .args .byte) (c .if1 .taken)
+returns c = puts-byte (c .if1 .taken)
 
 returns-2 : tie.Need-returns-2
-returns-2 c = puts-cut (c .before .args .text .now) (c .before .args .at) (c .before .args .byte) (c .if1 .left)
+returns-2 c = puts-cut (c .if1 .left)
 
 pub put-byte-spec : {M : Type 1} → statement M
 put-byte-spec = tie.close (tie.spec (λ c. search needs) (λ c. search needs) (λ c. search needs) returns returns-2)

@@ -1,9 +1,8 @@
 -- `put_bytes` meets its contract: the first i bytes are put. Assumes nothing.
 use Prim.Native.Nat.{_≤_, _-_}
-use native.Mathlib.Omega.{arith}
 use lib.ListN.{length, take}
 use Rattle.skycorbel.specs.Text.{Puts}
-use Rattle.skycorbel.proofs.Putting.{puts-none, puts-next, puts-whole}
+use Rattle.skycorbel.proofs.Putting.{puts-none, puts-more, puts-as, next-is, whole}
 use borrow.Author.Needs.{needs}
 use Rattle.skycorbel.proofs.text.put_bytes.Statement.{statement}
 use Rattle.skycorbel.proofs.text.put_bytes.Tie as tie
@@ -15,7 +14,7 @@ abbrev μ-loop : tie.MeasureT-loop
 μ-loop text₀ at piece next₀ i₀ text next i = length piece - i
 
 loop-holds : tie.Need-loop-holds Inv-loop μ-loop
-loop-holds c = (search needs, puts-none (c .before .before .args .text .now) (c .before .before .args .at))
+loop-holds c = (search needs, puts-none)
 
 shared-slice-read-put-byte : tie.Need-shared-slice-read-put-byte Inv-loop μ-loop
 shared-slice-read-put-byte c = search needs
@@ -30,13 +29,13 @@ loop-less : tie.Need-loop-less Inv-loop μ-loop
 loop-less c = search needs
 
 loop-again : tie.Need-loop-again Inv-loop μ-loop
-loop-again c = (search needs, puts-next (c .before .before .before .before .before .before .before .before .before .args .text .now) (c .before .before .before .before .before .before .loop .text) _ (c .before .before .before .before .before .before .before .before .before .args .at) (c .before .before .before .before .before .before .loop .next) _ (c .before .before .before .before .before .before .loop .i) (c .before .before .before .before .before .before .before .before .before .args .piece .now) (c .before .before .before .before .before .loop-test .taken) (c .before .before .before .before .before .before .loop .inv .1) (c .before .before .put-byte .ensures))
+loop-again c = (search needs, puts-as (next-is (c .before .before .before .before .before .before .before .before .before .args .piece .now) (c .before .before .before .before .before .before .loop .i) (c .before .before .before .before .before .loop-test .taken)) (puts-more (c .before .before .before .before .before .before .loop .inv .1) (c .before .before .put-byte .ensures)))
 
 same-length : tie.Need-same-length Inv-loop μ-loop
-same-length c = c .before .loop .inv .1 .0
+same-length c = c .before .loop .inv .1 .kept
 
 returns : tie.Need-returns Inv-loop μ-loop
-returns c = puts-whole (c .before .before .before .before .args .text .now) (c .before .loop .text) (c .before .before .before .before .args .at) (c .before .loop .next) (c .before .loop .i) (c .before .before .before .before .args .piece .now) (c .loop-test .left) (c .before .loop .inv .1)
+returns c = puts-as (whole (c .before .before .before .before .args .piece .now) (c .before .loop .i) (c .loop-test .left)) (c .before .loop .inv .1)
 
 pub put-bytes-spec : {M : Type 1} → statement M
 put-bytes-spec =

@@ -1,6 +1,5 @@
 -- `put_word` meets its contract. Assumes nothing.
-use mathlib.Core.List.{[], _∷_, _++_}
-use Rattle.skycorbel.specs.Text.{hexadecimal, line}
+use Rattle.skycorbel.specs.Text.{line}
 use Rattle.skycorbel.proofs.Putting.{puts-more}
 use borrow.Author.Needs.{needs}
 use Rattle.skycorbel.proofs.text.put_word.Statement.{statement}
@@ -8,7 +7,7 @@ use Rattle.skycorbel.proofs.text.put_word.Tie as tie
 
 returns : tie.Need-returns
 unfolding line
-returns c = puts-more (c .before .before .before .before .before .before .before .before .before .args .text .now) (c .before .before .before .before .before .before .put-digits .last .0) (c .before .before .put-byte .last .0) (c .before .before .before .before .before .before .before .before .before .args .at) (c .before .before .before .before .before .before .put-digits .result) (c .before .before .put-byte .result) (hexadecimal 8 (c .before .before .before .before .before .before .before .before .before .args .w)) (10 ∷ []) (c .before .before .before .before .before .before .put-digits .ensures) (c .before .before .put-byte .ensures)
+returns c = puts-more (c .before .before .before .before .before .before .put-digits .ensures) (c .before .before .put-byte .ensures)
 
 pub put-word-spec : {M : Type 1} → statement M
 put-word-spec = tie.close (tie.spec (λ c κs. search needs) (λ c κs. search needs) (λ c. search needs) returns)

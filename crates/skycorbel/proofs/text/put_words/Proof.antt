@@ -1,10 +1,11 @@
 -- `put_words` meets its contract: the first i words are put. Assumes nothing.
-use Prim.Native.Nat.{_≤_, _-_}
-use native.Mathlib.Omega.{arith}
+use Prim.Native.Nat.{ℕ, _≤_, _-_}
+use mathlib.Core.List.{List}
+use mathlib.Core.Path.{ap}
 use lib.ListN.{length, take}
 use Rattle.skycorbel.specs.Text.{lines, Puts}
-use Rattle.skycorbel.proofs.Putting.{puts-none}
-use Rattle.skycorbel.proofs.Numbers.{puts-line, puts-lines}
+use Rattle.skycorbel.proofs.Putting.{puts-none, puts-more, puts-as, whole}
+use Rattle.skycorbel.proofs.Numbers.{lines-next}
 use borrow.Author.Needs.{needs}
 use Rattle.skycorbel.proofs.text.put_words.Statement.{statement}
 use Rattle.skycorbel.proofs.text.put_words.Tie as tie
@@ -17,7 +18,7 @@ abbrev μ-loop : tie.MeasureT-loop
 
 loop-holds : tie.Need-loop-holds Inv-loop μ-loop
 unfolding lines
-loop-holds c = (search needs, puts-none (c .before .before .args .text .now) (c .before .before .args .at))
+loop-holds c = (search needs, puts-none)
 
 mul-put-word : tie.Need-mul-put-word Inv-loop μ-loop
 mul-put-word c = search needs
@@ -35,13 +36,13 @@ loop-less : tie.Need-loop-less Inv-loop μ-loop
 loop-less c = search needs
 
 loop-again : tie.Need-loop-again Inv-loop μ-loop
-loop-again c = (search needs, puts-line (c .before .before .before .before .before .before .before .before .before .args .text .now) (c .before .before .before .before .before .before .loop .text) (c .before .before .put-word .last .0) (c .before .before .before .before .before .before .before .before .before .args .at) (c .before .before .before .before .before .before .loop .next) (c .before .before .put-word .result) (c .before .before .before .before .before .before .loop .i) (c .before .before .before .before .before .before .before .before .before .args .words .now) (c .before .before .before .before .before .loop-test .taken) (c .before .before .before .before .before .before .loop .inv .1) (c .before .before .put-word .ensures))
+loop-again c = (search needs, puts-as (lines-next (c .before .before .before .before .before .before .before .before .before .args .words .now) (c .before .before .before .before .before .before .loop .i) (c .before .before .before .before .before .loop-test .taken)) (puts-more (c .before .before .before .before .before .before .loop .inv .1) (c .before .before .put-word .ensures)))
 
 same-length : tie.Need-same-length Inv-loop μ-loop
-same-length c = c .before .loop .inv .1 .0
+same-length c = c .before .loop .inv .1 .kept
 
 returns : tie.Need-returns Inv-loop μ-loop
-returns c = puts-lines (c .before .before .before .before .args .text .now) (c .before .loop .text) (c .before .before .before .before .args .at) (c .before .loop .next) (c .before .loop .i) (c .before .before .before .before .args .words .now) (c .loop-test .left) (c .before .loop .inv .1)
+returns c = puts-as (ap (λ (p : List ℕ). lines p) (whole (c .before .before .before .before .args .words .now) (c .before .loop .i) (c .loop-test .left))) (c .before .loop .inv .1)
 
 pub put-words-spec : {M : Type 1} → statement M
 put-words-spec =
