@@ -1,6 +1,8 @@
 // The call. It rests on the promises of all layers below.
 use bindings::tail;
 use closures::State;
+use closures::borrowed;
+use closures::lend;
 use closures::weigh;
 use messages::Outcome;
 use moves::first_state;
@@ -26,6 +28,7 @@ ghost use Rattle.scripts.specs.Script.{Script, readScript};
 ghost use Rattle.scripts.specs.Measures.{greatestName, movesBound};
 ghost use Rattle.rules.specs.Rule.{greatestRuleName};
 ghost use Rattle.closure_machine.specs.Closure.{Closure, unfolded, unfoldMachine};
+ghost use Rattle.closures.specs.Lent.{kindsIn, startsIn, standing, Lends};
 ghost use Rattle.closures.specs.Represents.{boundIn, Ready, Represents};
 ghost use Rattle.walk.specs.Visits.{walkedOf};
 ghost use Rattle.writer.specs.Bodies.{Scripted};
@@ -61,12 +64,6 @@ pub enum Ended {
     Halted { question: u32, place: usize },
 }
 
-// How it ends, and the state then.
-pub struct Run {
-    pub ended: Ended,
-    pub state: State,
-}
-
 // The actor and the target of a move word.
 fn actor_of(w: u32) -> usize
     ensures { λ r. ⌜ r ≡ actor w ⌝ }
@@ -96,47 +93,39 @@ fn move_fits(w: u32, parts: usize) -> bool
     target_of(w) < parts
 }
 
-// The moves of the list, one by one on the state that the last one left.
-fn run_list<'a>(
+// The moves of the list, one by one, made on the state that is lent.
+fn run_list<'a, 'b>(
     script: &'a [u32],
-    kinds: &'a [u8; 64],
-    starts: &'a [u32; 64],
-    state: State,
+    sets: &'b mut [u64; 131],
+    numbers: &'b mut [u32; 481],
     moves: &'a [u32],
     parts: usize,
-) -> Run
-    requires { ⌜ (parts ≤ 64) × (length (now moves) ≤ 4096) × Ready (now script) (now kinds) (now starts) state ⌝ }
-    ensures ready { λ r. ⌜ Ready (now (script .entry)) (now (kinds .entry)) (now (starts .entry)) (r .state) ⌝ }
-    ensures runs { λ r. ⌜ Runs (now (script .entry)) (now (kinds .entry)) (now (starts .entry)) parts (now (moves .entry)) state (r .ended) (r .state) ⌝ }
+) -> Ended
+    requires { ⌜ (parts ≤ 64) × (length (now moves) ≤ 4096) × Lends (now script) (now sets) (now numbers) ⌝ }
+    ensures lends { λ r. ⌜ Lends (now (script .entry)) (now (sets .exit)) (now (numbers .exit)) ⌝ }
+    ensures table { λ r. ⌜ (kindsIn (now (numbers .exit)) ≡ kindsIn (now (numbers .entry))) × (startsIn (now (numbers .exit)) ≡ startsIn (now (numbers .entry))) ⌝ }
+    ensures runs { λ r. ⌜ Runs (now (script .entry)) (kindsIn (now (numbers .entry))) (startsIn (now (numbers .entry))) parts (now (moves .entry)) (standing (now (sets .entry)) (now (numbers .entry))) r (standing (now (sets .exit)) (now (numbers .exit))) ⌝ }
 {
-    let mut s = state;
     let mut i: usize = 0;
     while i < moves.len() {
         let w = moves[i];
         if move_fits(w, parts) {
-            let tried = try_move(script, kinds, starts, s, actor_of(w), target_of(w));
-            s = tried.state;
-            if tried.made {
+            if try_move(script, sets, numbers, actor_of(w), target_of(w)) {
                 i += 1;
             } else {
-                let ended = Ended::Halted {
+                return Ended::Halted {
                     question: 16,
                     place: i,
                 };
-                return Run { ended, state: s };
             }
         } else {
-            let ended = Ended::Halted {
+            return Ended::Halted {
                 question: 15,
                 place: i,
             };
-            return Run { ended, state: s };
         }
     }
-    Run {
-        ended: Ended::Made,
-        state: s,
-    }
+    Ended::Made
 }
 
 // The answer to a call that is refused.
@@ -332,13 +321,17 @@ fn with_rule<'a, 'b>(
     let starts = parts.starts;
     let kids = parts.kids;
     let begun = first_state(script, &kinds, &starts, kids);
-    let run = run_list(script, &kinds, &starts, begun, moves, parts.count);
-    let ended = run.ended;
+    let l = lend(kinds, starts, begun);
+    let mut sets = l.sets;
+    let mut numbers = l.numbers;
+    let ended = run_list(script, &mut sets, &mut numbers, moves, parts.count);
     let Ended::Halted { question, place } = ended else {
+        let top = sets[64];
+        let after = borrowed(&sets, &numbers, top);
         return with_moves(
             script,
             parts,
-            run.state,
+            after.state,
             moves.len(),
             rule,
             table,

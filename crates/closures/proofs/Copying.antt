@@ -1,14 +1,17 @@
 -- Arrays copied into a stretch of another, and out of one. Assumes nothing.
 use Prim.Native.Nat.{ℕ, zero, suc, _+_, _≤_, _<_}
 use mathlib.Core.List.{List}
-use mathlib.Core.Path.{_≡_, refl, sym, ap, _∙_, subst}
+use mathlib.Core.Path.{_≡_, refl, sym, ap, _∙_, subst, transport}
 use native.Mathlib.Omega.{arith}
 use lib.Dec.{eqb}
 use lib.ListN.{getD, set, length, length-set}
 use lib.Seq.{getD-set-same, getD-set-other, ext-getD}
 use borrow.Author.Tests.{eqb-true, eqb-false}
 use Rattle.machine.proofs.Options.{byTest}
-use Rattle.closures.specs.Lent.{stretch, Put}
+use Rattle.sets.specs.Sets.{members}
+use Rattle.scripts.specs.Represents.{bodyIn}
+use Rattle.closures.specs.Lent.{stretch, stateIn, Put}
+use Rattle.closures.specs.Targets.{TargetsOf}
 
 -- ---- a stretch
 
@@ -99,3 +102,12 @@ set-same l i m = ext-getD 0 (set l i (getD l i 0)) l (length-set l i (getD l i 0
     (λ j n. byTest (eqb j i)
     (λ t. rw (eqb-true j i t) (getD-set-same l i (getD l i 0) 0 m))
     (λ t. getD-set-other l i j (getD l i 0) 0 (eqb-false j i t)))
+
+-- ---- the targets of an actor, found in what is lent
+
+-- what is read of the lent arrays is what the state keeps
+pub targets-lent : (sets numbers : List ℕ) (top : ℕ) (kids : List ℕ) → kids ≡ set (stretch 0 65 sets) 64 top → (p : ℕ → ℕ) (a : ℕ) (r : List ℕ) → a < 64
+    → TargetsOf (bodyIn kids) (getD numbers (256 + a) 0) (members (getD sets (65 + a) 0)) p a r
+    → TargetsOf (bodyIn (stateIn sets numbers top .kids)) (getD (stateIn sets numbers top .looks .acts) a 0) (members (getD (stateIn sets numbers top .looks .aims) a 0)) p a r
+targets-lent sets numbers top kids e p a r l T =
+    transport (λ q. TargetsOf (bodyIn (e q)) (sym (getD-stretch 256 64 a numbers l) q) (members (sym (getD-stretch 65 64 a sets l) q)) p a r) T

@@ -12,7 +12,7 @@ ghost use mathlib.Core.Bool.{Bool, true, false, cond};
 ghost use mathlib.Core.List.{List};
 ghost use Prim.Native.Nat.{ℕ, _+_, _*_, _-_, _≤_, _<_};
 ghost use lib.Dec.{eqb};
-ghost use lib.ListN.{length, getD};
+ghost use lib.ListN.{length, getD, set};
 ghost use Rattle.sets.specs.Sets.{members, elem, insert};
 ghost use Rattle.scripts.specs.Tree.{parts};
 ghost use Rattle.scripts.specs.Represents.{bodyIn};
@@ -563,6 +563,15 @@ pub fn lend(kinds: [u8; 64], starts: [u32; 64], state: State) -> Lent
     Lent { sets, numbers }
 }
 
+// The bodies that were lent, with top as the set of the top parts.
+pub fn bodies(sets: &[u64; 131], top: u64) -> [u64; 65]
+    ensures { λ r. ⌜ r ≡ set (stretch 0 65 (now (sets .entry))) 64 top ⌝ }
+{
+    let mut kids = sets_65(sets, 0);
+    kids[64] = top;
+    kids
+}
+
 // What was lent, with top as the set of the top parts.
 pub fn borrowed<'a>(sets: &'a [u64; 131], numbers: &'a [u32; 481], top: u64) -> Placed
     ensures { λ r. ⌜ (Small (now (numbers .entry)) → (r .kinds ≡ kindsIn (now (numbers .entry))) × (r .starts ≡ startsIn (now (numbers .entry))) × (r .state ≡ stateIn (now (sets .entry)) (now (numbers .entry)) top)) ⌝ }
@@ -679,16 +688,14 @@ fn aimed_around(aim: u64, places: &[usize; 64], p: usize) -> u64
 // The targets of the actor a's moves, by what it does first and where it stands.
 pub fn targets<'a>(
     kids: &'a [u64; 65],
-    acts: &'a [u8; 64],
-    aims: &'a [u64; 64],
+    act: u32,
+    aim: u64,
     places: &'a [usize; 64],
     a: usize,
 ) -> u64
     requires { ⌜ a < 64 ⌝ }
-    ensures { λ r. ⌜ TargetsOf (bodyIn (now (kids .entry))) (getD (now (acts .entry)) a 0) (members (getD (now (aims .entry)) a 0)) (λ i. getD (now (places .entry)) i 0) a (members r) ⌝ }
+    ensures { λ r. ⌜ TargetsOf (bodyIn (now (kids .entry))) act (members aim) (λ i. getD (now (places .entry)) i 0) a (members r) ⌝ }
 {
-    let act = acts[a];
-    let aim = aims[a];
     let p = places[a];
     match act {
         1 => aimed_within(kids, aim, p),

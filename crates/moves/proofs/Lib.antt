@@ -5,3 +5,4 @@ pub mod Placing
 pub mod Finishing
 pub mod Dispatch
 pub mod LentMoves
+pub mod Trying

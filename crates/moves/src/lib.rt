@@ -5,6 +5,7 @@ use bindings::tail;
 use bindings::wide;
 use closures::Placed;
 use closures::State;
+use closures::bodies;
 use closures::borrowed;
 use closures::item_deed;
 use closures::lend;
@@ -353,43 +354,26 @@ pub fn make_move<'a, 'b>(
     carry_around(script, sets, numbers, places, p, a, t, act == 2)
 }
 
-// Whether a move was made, and the state then.
-pub struct Tried {
-    pub made: bool,
-    pub state: State,
-}
-
-// The move (a, t) where the machine can make it, and the state as it was where it cannot.
-pub fn try_move<'a>(
+// The move (a, t) where the machine can make it, and whether it can.
+pub fn try_move<'a, 'b>(
     script: &'a [u32],
-    kinds: &'a [u8; 64],
-    starts: &'a [u32; 64],
-    state: State,
+    sets: &'b mut [u64; 131],
+    numbers: &'b mut [u32; 481],
     a: usize,
     t: usize,
-) -> Tried
-    requires { ⌜ (a < 64) × (t < 64) × Ready (now script) (now kinds) (now starts) state ⌝ }
-    ensures ready { λ r. ⌜ Ready (now (script .entry)) (now (kinds .entry)) (now (starts .entry)) (r .state) ⌝ }
-    ensures tried { λ r. ⌜ Tries (now (script .entry)) (now (kinds .entry)) (now (starts .entry)) state (r .state) (r .made) a t ⌝ }
+) -> bool
+    requires { ⌜ (a < 64) × (t < 64) × Lends (now script) (now sets) (now numbers) ⌝ }
+    ensures lends { λ r. ⌜ Lends (now (script .entry)) (now (sets .exit)) (now (numbers .exit)) ⌝ }
+    ensures table { λ r. ⌜ (kindsIn (now (numbers .exit)) ≡ kindsIn (now (numbers .entry))) × (startsIn (now (numbers .exit)) ≡ startsIn (now (numbers .entry))) ⌝ }
+    ensures tried { λ r. ⌜ Tries (now (script .entry)) (kindsIn (now (numbers .entry))) (startsIn (now (numbers .entry))) (standing (now (sets .entry)) (now (numbers .entry))) (standing (now (sets .exit)) (now (numbers .exit))) r a t ⌝ }
 {
-    let looks = state.looks;
-    let kids = state.kids;
-    let acts = looks.acts;
-    let aims = looks.aims;
-    let places = locate(&kids, looks.named);
-    let aimed = targets(&kids, &acts, &aims, &places, a);
+    let top = sets[64];
+    let kids = bodies(sets, top);
+    let places = locate(&kids, sets[129]);
+    let aimed = targets(&kids, numbers[256 + a], sets[65 + a], &places, a);
     if sets::has(aimed, t) {
-        let l = lend(*kinds, *starts, state);
-        let mut sets = l.sets;
-        let mut numbers = l.numbers;
-        make_move(script, &mut sets, &mut numbers, &places, a, t);
-        let top = sets[64];
-        let b = borrowed(&sets, &numbers, top);
-        let next = b.state;
-        return Tried {
-            made: true,
-            state: next,
-        };
+        make_move(script, sets, numbers, &places, a, t);
+        return true;
     }
-    Tried { made: false, state }
+    false
 }

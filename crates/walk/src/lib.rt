@@ -2,6 +2,7 @@
 // lent as two arrays and made only where a move or PLACED changes it. It rests on the promises of moves, closures, rules
 // and sets.
 use closures::State;
+use closures::bodies;
 use closures::borrowed;
 use closures::lend;
 use closures::locate;
@@ -172,22 +173,18 @@ pub fn is_called<'a>(sets: &'a [u64; 131], numbers: &'a [u32; 481], i: usize, na
 
 // The places of all parts of the state that is lent, and the targets of all actors.
 pub fn all_targets<'a>(sets: &'a [u64; 131], numbers: &'a [u32; 481], top: u64) -> Found
-    requires { ⌜ Small (now numbers) ⌝ }
     ensures places { λ r. ⌜ Located (members (getD (now (sets .entry)) 129 0)) (bodyIn (stateIn (now (sets .entry)) (now (numbers .entry)) top .kids)) (λ i. getD (r .places) i 0) ⌝ }
     ensures targets { λ r. ⌜ ((a : ℕ) → a < 64 → TargetsOf (bodyIn (stateIn (now (sets .entry)) (now (numbers .entry)) top .kids)) (getD (stateIn (now (sets .entry)) (now (numbers .entry)) top .looks .acts) a 0) (members (getD (stateIn (now (sets .entry)) (now (numbers .entry)) top .looks .aims) a 0)) (λ i. getD (r .places) i 0) a (members (getD (r .targets) a 0))) ⌝ }
 {
-    let b = borrowed(sets, numbers, top);
-    let s = b.state;
-    let kids = s.kids;
-    let looks = s.looks;
-    let places = locate(&kids, looks.named);
+    let kids = bodies(sets, top);
+    let places = locate(&kids, sets[129]);
     let mut found = Found {
         places,
         targets: [0; 64],
     };
     let mut a: usize = 0;
     while a < 64 {
-        found.targets[a] = targets(&kids, &looks.acts, &looks.aims, &places, a);
+        found.targets[a] = targets(&kids, numbers[256 + a], sets[65 + a], &places, a);
         a += 1;
     }
     found

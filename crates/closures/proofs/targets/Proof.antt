@@ -16,10 +16,10 @@ abbrev k : tie.Start → ℕ → List ℕ
 k s = bodyIn (s .args .kids .now)
 
 abbrev act : tie.Start → ℕ
-act s = getD (s .args .acts .now) (s .args .a) 0
+act s = s .args .act
 
 abbrev aim : tie.Start → List ℕ
-aim s = members (getD (s .args .aims .now) (s .args .a) 0)
+aim s = members (s .args .aim)
 
 abbrev at : tie.Start → ℕ → ℕ
 at s i = getD (s .args .places .now) i 0
@@ -32,23 +32,23 @@ answers s n r = targets-of (k s) (act s) (aim s) (at s) (s .args .a) (members r)
 
 returns : tie.Need-returns
 unfolding isTarget
-returns c = answers (c .before .before .before .before .before) 1 (c .aimed-within .result) (c .before .match .keys1) (c .aimed-within .ensures)
+returns c = answers (c .before .before .before) 1 (c .aimed-within .result) (c .before .match .keys1) (c .aimed-within .ensures)
 
 returns-2 : tie.Need-returns-2
 unfolding isTarget
-returns-2 c = answers (c .before .before .before .before .before) 2 (c .aimed-beside .result) (c .before .match .keys2) (c .aimed-beside .ensures)
+returns-2 c = answers (c .before .before .before) 2 (c .aimed-beside .result) (c .before .match .keys2) (c .aimed-beside .ensures)
 
 returns-3 : tie.Need-returns-3
 unfolding isTarget
-returns-3 c = answers (c .before .before .before .before .before) 3 (c .aimed-around .result) (c .before .match .keys3) (c .aimed-around .ensures)
+returns-3 c = answers (c .before .before .before) 3 (c .aimed-around .result) (c .before .match .keys3) (c .aimed-around .ensures)
 
 returns-4 : tie.Need-returns-4
 unfolding isTarget
-returns-4 c = answers (c .before .before .before .before .before) 4 (c .aimed-within2 .result) (c .before .match .keys4) (c .aimed-within2 .ensures)
+returns-4 c = answers (c .before .before .before) 4 (c .aimed-within2 .result) (c .before .match .keys4) (c .aimed-within2 .ensures)
 
 returns-5 : tie.Need-returns-5
 returns-5 c =
-    let s : tie.Start = c .before .before .before .before in
+    let s : tie.Start = c .before .before in
     answers s (act s) 0 refl
     (λ t. in-none t ∙ sym (no-target (k s) (act s) (at s (s .args .a)) (at s (at s (s .args .a))) t (elem t (aim s)) (c .match .rest .0 .0 .0 .1) (c .match .rest .0 .0 .1) (c .match .rest .0 .1) (c .match .rest .1)))
 
@@ -56,9 +56,6 @@ pub targets-spec : {M : Type 1} → statement M
 targets-spec =
     tie.close
     (tie.spec
-    (λ c. search needs)
-    (λ c. search needs)
-    (λ c. search needs)
     (λ c. search needs)
     (λ c. search needs)
     (λ c κs. search needs)

@@ -1,5 +1,5 @@
 -- `all_targets` meets its contract: the places are found once, and each actor is asked. Assumes nothing.
-use Prim.Native.Nat.{ℕ, _-_, _≤_, _<_}
+use Prim.Native.Nat.{ℕ, _+_, _-_, _≤_, _<_}
 use mathlib.Core.List.{List}
 use mathlib.Core.Path.{_≡_, refl, sym, subst}
 use native.Mathlib.Omega.{arith}
@@ -8,52 +8,71 @@ use Rattle.sets.specs.Sets.{members}
 use Rattle.scripts.specs.Represents.{bodyIn}
 use Rattle.closures.specs.Searches.{Located}
 use Rattle.closures.specs.Targets.{TargetsOf}
-use Rattle.closures.specs.declared.State.{State}
+use Rattle.closures.specs.Lent.{stateIn}
 use Rattle.walk.proofs.Lendings.{filled-more}
+use Rattle.closures.proofs.Copying.{targets-lent}
 use borrow.Author.Needs.{needs}
 use Rattle.walk.proofs.all_targets.Statement.{statement}
 use Rattle.walk.proofs.all_targets.Tie as tie
-use Rattle.walk.proofs.all_targets.Reads as reads
-use Rattle.walk.proofs.all_targets.Lts as lts
-use Rattle.closures.proofs.borrowed.Reads as borrowed-reads
-use Rattle.closures.proofs.locate.Reads as locate-reads
-use Rattle.closures.proofs.targets.Reads as targets-reads
 
 abbrev Inv-loop : tie.InvT-loop
-Inv-loop sets numbers top kids looks places found₀ a₀ found a = (a ≤ 64) × (found .places ≡ places) × (length (found .targets) ≡ 64) × ((b : ℕ) → b < a → TargetsOf (bodyIn kids) (getD (looks .acts) b 0) (members (getD (looks .aims) b 0)) (λ i. getD places i 0) b (members (getD (found .targets) b 0)))
+Inv-loop sets numbers top kids places found₀ a₀ found a = (a ≤ 64) × (found .places ≡ places) × (length (found .targets) ≡ 64) × ((b : ℕ) → b < a → TargetsOf (bodyIn kids) (getD numbers (256 + b) 0) (members (getD sets (65 + b) 0)) (λ i. getD places i 0) b (members (getD (found .targets) b 0)))
 
 abbrev μ-loop : tie.MeasureT-loop
-μ-loop sets numbers top kids looks places found₀ a₀ found a = 64 - a
-
-borrowed-requires : tie.Need-borrowed-requires Inv-loop μ-loop
-borrowed-requires c κs = search needs
-
-locate-requires : tie.Need-locate-requires Inv-loop μ-loop
-locate-requires c κs = search needs
+μ-loop sets numbers top kids places found₀ a₀ found a = 64 - a
 
 loop-holds : tie.Need-loop-holds Inv-loop μ-loop
 loop-holds c = (omega arith, refl, refl, λ b h. absurd (let z : ⊥ = omega arith in z))
 
+add-targets : tie.Need-add-targets Inv-loop μ-loop
+add-targets c = omega (arith, c .before .loop-test .taken)
+
+mul-targets : tie.Need-mul-targets Inv-loop μ-loop
+mul-targets c = omega (arith, c .before .loop-test .taken)
+
+element-copy-out-targets : tie.Need-element-copy-out-targets Inv-loop μ-loop
+element-copy-out-targets c = search (c .before .loop-test .taken, needs)
+
+add-targets-2 : tie.Need-add-targets-2 Inv-loop μ-loop
+add-targets-2 c = omega (arith, c .before .before .loop-test .taken)
+
+mul-targets-2 : tie.Need-mul-targets-2 Inv-loop μ-loop
+mul-targets-2 c = omega (arith, c .before .before .loop-test .taken)
+
+element-copy-out-targets-2 : tie.Need-element-copy-out-targets-2 Inv-loop μ-loop
+element-copy-out-targets-2 c = search (c .before .before .loop-test .taken, needs)
+
 targets-requires : tie.Need-targets-requires Inv-loop μ-loop
-targets-requires c κs = omega (arith, c .before .before .before .before .before .loop-test .taken)
+targets-requires c κs = omega (arith, c .before .before .before .before .loop-test .taken)
 
 mul-found : tie.Need-mul-found Inv-loop μ-loop
-mul-found c = omega (arith, c .before .before .before .before .before .before .loop-test .taken)
+mul-found c = omega (arith, c .before .before .before .before .before .loop-test .taken)
 
 element-write-found : tie.Need-element-write-found Inv-loop μ-loop
-element-write-found c = omega (arith, c .before .before .before .before .before .before .loop-test .taken, c .before .before .before .before .before .before .before .loop .inv .2)
+element-write-found c = omega (arith, c .before .before .before .before .before .loop-test .taken, c .before .before .before .before .before .before .loop .inv .2)
 
 add-a : tie.Need-add-a Inv-loop μ-loop
-add-a c = omega (arith, c .before .before .before .before .before .before .loop-test .taken)
+add-a c = omega (arith, c .before .before .before .before .before .loop-test .taken)
 
 loop-less : tie.Need-loop-less Inv-loop μ-loop
-loop-less c = omega (arith, c .before .before .before .before .before .before .loop-test .taken)
+loop-less c = omega (arith, c .before .before .before .before .before .loop-test .taken)
 
 loop-again : tie.Need-loop-again Inv-loop μ-loop
-loop-again c = (omega (arith, c .before .before .before .before .before .before .loop-test .taken), c .before .before .before .before .before .before .before .loop .inv .1, search needs, filled-more (λ (b : ℕ) (m : ℕ). TargetsOf (bodyIn (c .before .before .before .before .before .before .before .before .before .before .before .before .before .borrowed .result .state .kids)) (getD (c .before .before .before .before .before .before .before .before .before .before .before .before .before .borrowed .result .state .looks .acts) b 0) (members (getD (c .before .before .before .before .before .before .before .before .before .before .before .before .before .borrowed .result .state .looks .aims) b 0)) (λ i. getD (c .before .before .before .before .before .before .before .before .locate .result) i 0) b (members m)) (c .before .before .before .before .before .before .before .loop .found .targets) (c .before .before .before .before .before .before .before .loop .a) _ (omega (arith, c .before .before .before .before .before .before .loop-test .taken, c .before .before .before .before .before .before .before .loop .inv .2)) (c .before .before .before .before .before .before .before .loop .inv .3) (c .targets .ensures))
+loop-again c = (
+  omega (arith, c .before .before .before .before .before .loop-test .taken),
+  c .before .before .before .before .before .before .loop .inv .1,
+  search needs,
+  filled-more (λ (b : ℕ) (m : ℕ). TargetsOf (bodyIn (c .before .before .before .before .before .before .before .before .before .before .bodies .result)) (getD (c .before .before .before .before .before .before .before .before .before .before .before .args .numbers .now) (256 + b) 0) (members (getD (c .before .before .before .before .before .before .before .before .before .before .before .args .sets .now) (65 + b) 0)) (λ i. getD (c .before .before .before .before .before .before .before .locate .result) i 0) b (members m)) (c .before .before .before .before .before .before .loop .found .targets) (c .before .before .before .before .before .before .loop .a) _ (omega (arith, c .before .before .before .before .before .loop-test .taken, c .before .before .before .before .before .before .loop .inv .2)) (c .before .before .before .before .before .before .loop .inv .3) (c .targets .ensures),
+)
 
 returns : tie.Need-returns Inv-loop μ-loop
-returns c = let x = c .before .before .before .before .before .before .before .before .args in let e = c .before .before .before .before .before .before .before .borrowed .ensures (c .before .before .before .before .before .before .before .before .pre) .2 in let p = c .before .loop .inv .1 in (subst (λ (s : State). Located (members (s .looks .named)) (bodyIn (s .kids)) (λ i. getD (c .before .loop .found .places) i 0)) e (subst (λ (l : List ℕ). Located (members (c .before .before .before .before .before .before .before .borrowed .result .state .looks .named)) (bodyIn (c .before .before .before .before .before .before .before .borrowed .result .state .kids)) (λ i. getD l i 0)) (sym p) (c .before .before .locate .ensures)), λ a h. subst (λ (s : State). TargetsOf (bodyIn (s .kids)) (getD (s .looks .acts) a 0) (members (getD (s .looks .aims) a 0)) (λ i. getD (c .before .loop .found .places) i 0) a (members (getD (c .before .loop .found .targets) a 0))) e (subst (λ (l : List ℕ). TargetsOf (bodyIn (c .before .before .before .before .before .before .before .borrowed .result .state .kids)) (getD (c .before .before .before .before .before .before .before .borrowed .result .state .looks .acts) a 0) (members (getD (c .before .before .before .before .before .before .before .borrowed .result .state .looks .aims) a 0)) (λ i. getD l i 0) a (members (getD (c .before .loop .found .targets) a 0))) (sym p) (c .before .loop .inv .3 a (omega (arith, c .loop-test .left)))))
+returns c =
+    let p = c .before .loop .inv .1 in
+    let placed : Located (members (getD (c .before .before .before .before .before .before .args .sets .now) 129 0)) (bodyIn (stateIn (c .before .before .before .before .before .before .args .sets .now) (c .before .before .before .before .before .before .args .numbers .now) (c .before .before .before .before .before .before .args .top) .kids)) (λ i. getD (c .before .before .locate .result) i 0) = subst (λ (l : List ℕ). Located (members (getD (c .before .before .before .before .before .before .args .sets .now) 129 0)) (bodyIn l) (λ i. getD (c .before .before .locate .result) i 0)) (c .before .before .before .before .before .bodies .ensures) (c .before .before .locate .ensures) in (
+      subst (λ (l : List ℕ). Located (members (getD (c .before .before .before .before .before .before .args .sets .now) 129 0)) (bodyIn (stateIn (c .before .before .before .before .before .before .args .sets .now) (c .before .before .before .before .before .before .args .numbers .now) (c .before .before .before .before .before .before .args .top) .kids)) (λ i. getD l i 0)) (sym p) placed,
+      λ a h. subst (λ (l : List ℕ). TargetsOf (bodyIn (stateIn (c .before .before .before .before .before .before .args .sets .now) (c .before .before .before .before .before .before .args .numbers .now) (c .before .before .before .before .before .before .args .top) .kids)) (getD (stateIn (c .before .before .before .before .before .before .args .sets .now) (c .before .before .before .before .before .before .args .numbers .now) (c .before .before .before .before .before .before .args .top) .looks .acts) a 0) (members (getD (stateIn (c .before .before .before .before .before .before .args .sets .now) (c .before .before .before .before .before .before .args .numbers .now) (c .before .before .before .before .before .before .args .top) .looks .aims) a 0)) (λ i. getD l i 0) a (members (getD (c .before .loop .found .targets) a 0))) (sym p)
+          (targets-lent (c .before .before .before .before .before .before .args .sets .now) (c .before .before .before .before .before .before .args .numbers .now) (c .before .before .before .before .before .before .args .top) (c .before .before .before .before .before .bodies .result) (c .before .before .before .before .before .bodies .ensures) (λ i. getD (c .before .before .locate .result) i 0) a (members (getD (c .before .loop .found .targets) a 0)) h (c .before .loop .inv .3 a (omega (arith, c .loop-test .left)))),
+    )
 
 pub all-targets-spec : {M : Type 1} → statement M
 all-targets-spec =
@@ -61,9 +80,16 @@ all-targets-spec =
     (tie.spec
     Inv-loop
     μ-loop
-    borrowed-requires
-    locate-requires
+    (λ c κs. search needs)
+    (λ c. search needs)
+    (λ c κs. search needs)
     loop-holds
+    add-targets
+    mul-targets
+    element-copy-out-targets
+    add-targets-2
+    mul-targets-2
+    element-copy-out-targets-2
     targets-requires
     mul-found
     element-write-found

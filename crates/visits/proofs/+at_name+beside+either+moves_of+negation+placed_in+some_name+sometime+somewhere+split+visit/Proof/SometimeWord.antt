@@ -28,7 +28,7 @@ module _ (t : ℕ) where
   returns c = let x = c .before .before .before .before .args in sometime-first (x .program .now) (x .script .now) (x .sets .now) (x .numbers .now) (x .chosen .now) (x .spot .top) (x .spot .somes) (x .spot .left) (x .spot .at) (x .limits) (x .c) _ (c .before .visit .ensures) (c .match .keys2)
 
   pub all-targets-requires : lts.Need-all-targets-requires (sometime-claims t) (sometime-at t) reads.Post Inv-loop μ-loop
-  all-targets-requires c κs = c .before .before .before .before .before .before .pre .1 .6 .small
+  all-targets-requires c κs = tt
 
   pub loop-holds : lts.Need-loop-holds (sometime-claims t) (sometime-at t) reads.Post Inv-loop μ-loop
   loop-holds c = let x = c .before .before .before .before .before .before .before .args in (omega arith, refl, acting-holds (x .program .now) (x .script .now) (x .sets .now) (x .numbers .now) (x .chosen .now) (x .spot .top) (x .spot .somes) (x .spot .left) (x .spot .at) (x .limits) _)
