@@ -22,13 +22,13 @@ pub carry-around-spec : {M : Type 1} → statement M
 carry-around-spec =
     tie.close
     (tie.spec
-    (λ c. search needs)
-    (λ c. search needs)
+    (λ c. omega (arith, c .before .before .pre .0, c .before .before .pre .2))
+    (λ c. omega (arith, c .before .before .pre .0, c .before .before .pre .2))
     returns
-    (λ c κs. search needs)
+    (λ c κs. (omega (arith, c .before .before .before .before .before .before .pre .0, c .before .before .before .before .before .before .pre .1, c .before .before .before .before .before .before .pre .2, c .before .before .if2 .left), omega (arith, c .before .before .before .before .before .before .pre .0, c .before .before .before .before .before .before .pre .1, c .before .before .before .before .before .before .pre .2, c .before .before .if2 .left), omega (arith, c .before .before .before .before .before .before .pre .0, c .before .before .before .before .before .before .pre .1, c .before .before .before .before .before .before .pre .2, c .before .before .if2 .left), omega (arith, c .before .before .before .before .before .before .pre .0, c .before .before .before .before .before .before .pre .1, c .before .before .before .before .before .before .pre .2, c .before .before .if2 .left), c .before .before .before .before .before .before .pre .3))
     returns-2
-    (λ c. search needs)
-    (λ c. search needs)
+    (λ c. omega (arith, c .before .before .pre .0, c .before .before .pre .2))
+    (λ c. omega (arith, c .before .before .pre .0, c .before .before .pre .2))
     returns-3
-    (λ c κs. search needs)
+    (λ c κs. (omega (arith, c .before .before .before .before .before .before .pre .0, c .before .before .before .before .before .before .pre .1, c .before .before .before .before .before .before .pre .2, c .before .before .if3 .left), omega (arith, c .before .before .before .before .before .before .pre .0, c .before .before .before .before .before .before .pre .1, c .before .before .before .before .before .before .pre .2, c .before .before .if3 .left), omega (arith, c .before .before .before .before .before .before .pre .0, c .before .before .before .before .before .before .pre .1, c .before .before .before .before .before .before .pre .2, c .before .before .if3 .left), omega (arith, c .before .before .before .before .before .before .pre .0, c .before .before .before .before .before .before .pre .1, c .before .before .before .before .before .before .pre .2, c .before .before .if3 .left), c .before .before .before .before .before .before .pre .3))
     returns-4)

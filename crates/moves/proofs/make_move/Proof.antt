@@ -99,16 +99,16 @@ pub make-move-spec : {M : Type 1} → statement M
 make-move-spec =
     tie.close
     (tie.spec
-    (λ c. search needs)
-    (λ c. search needs)
+    (λ c. omega (arith, c .before .pre .0))
+    (λ c. omega (arith, c .before .pre .0))
     returns
-    (λ c. search needs)
-    (λ c. search needs)
-    (λ c. search needs)
-    (λ c κs. search needs)
+    (λ c. omega (arith, c .before .before .before .pre .0))
+    (λ c. omega (arith, c .before .before .before .pre .0))
+    (λ c. omega (arith, c .before .before .before .pre .0))
+    (λ c κs. (omega (arith, c .before .before .before .before .if1 .left, c .before .before .before .before .before .before .before .pre .0, c .before .before .before .before .before .before .before .pre .1), omega (arith, c .before .before .before .before .if1 .left, c .before .before .before .before .before .before .before .pre .0, c .before .before .before .before .before .before .before .pre .1), omega (arith, c .before .before .before .before .if1 .left, c .before .before .before .before .before .before .before .pre .0, c .before .before .before .before .before .before .before .pre .1), c .before .before .before .before .before .before .before .pre .2))
     returns-2
-    (λ c κs. search needs)
+    (λ c κs. (omega (arith, c .before .before .before .before .before .if1 .left, c .before .before .before .before .before .before .before .before .pre .0, c .before .before .before .before .before .before .before .before .pre .1), omega (arith, c .before .before .before .before .before .if1 .left, c .before .before .before .before .before .before .before .before .pre .0, c .before .before .before .before .before .before .before .before .pre .1), omega (arith, c .before .before .before .before .before .if1 .left, c .before .before .before .before .before .before .before .before .pre .0, c .before .before .before .before .before .before .before .before .pre .1), c .before .before .before .before .before .before .before .before .pre .2))
     returns-3
     returns-4
-    (λ c κs. search needs)
+    (λ c κs. (omega (arith, c .before .before .before .before .before .before .if1 .left, c .before .before .if4 .left, c .before .before .before .before .before .before .before .before .before .pre .0, c .before .before .before .before .before .before .before .before .before .pre .1), omega (arith, c .before .before .before .before .before .before .if1 .left, c .before .before .if4 .left, c .before .before .before .before .before .before .before .before .before .pre .0, c .before .before .before .before .before .before .before .before .before .pre .1), omega (arith, c .before .before .before .before .before .before .if1 .left, c .before .before .if4 .left, c .before .before .before .before .before .before .before .before .before .pre .0, c .before .before .before .before .before .before .before .before .before .pre .1), c .before .before .before .before .before .before .before .before .before .pre .2))
     returns-5)
