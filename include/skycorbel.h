@@ -33,7 +33,7 @@ enum {
  * Returns 1. Where answer_words is below 8 it returns 0 and does nothing. A refused call leaves out as it was, an accepted
  * one every word behind the tree; words of answer behind the eighth stay as they were.
  *
- * A call takes up to 2 MiB of stack.
+ * The deepest walks of the tests run with 2 MiB of stack.
  */
 uint32_t skycorbel_call(const uint32_t *script, size_t script_words, const uint32_t *moves, size_t moves_words,
                         const uint32_t *rule, size_t rule_words, uint32_t patience, uint32_t *out, size_t out_words,

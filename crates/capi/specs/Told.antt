@@ -22,7 +22,7 @@ unfoldable pub placeOf : Verdict → ℕ
 placeOf (accepted a) = 0
 placeOf (refused q i) = i
 
--- a count as a word
+-- a count as a word: the greatest word where it is greater
 abbrev pub narrowed : ℕ → ℕ
 narrowed n = min n 4294967295
 

@@ -50,7 +50,7 @@ fn place_of(v: Verdict) -> usize
     }
 }
 
-// A count as a word. No count of an answer is so great that it would be cut.
+// A count as a word: the greatest word where it is greater, which the questions at the door keep it from being.
 fn narrow(n: usize) -> u32
     ensures { λ r. ⌜ r ≡ narrowed n ⌝ }
 {

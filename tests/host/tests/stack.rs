@@ -52,6 +52,9 @@ fn through_every_kind() {
     // BESIDE: nothing on the left, everything on the right.
     let beside = [[0x5000_0000, 0x3000_0000].repeat(62), vec![0x7000_0000, 0x3000_0000]].concat();
     assert_eq!(deepest(&beside), "refused 17 at 125\n");
+    // AT: the process is put into an ambient, and its inside is asked again.
+    let at = [[0x9000_0001, 0x4000_0001].repeat(31), vec![0x7000_0000, 0x3000_0000]].concat();
+    assert_eq!(deepest(&at), "refused 17 at 63\n");
 }
 
 /// The deepest script and the deepest message beside the deepest walk: 64 bodies, 64 words IN.
