@@ -1,7 +1,4 @@
--- The laws of the program's text and input.
-pub mod Putting
-pub mod Numbers
+-- The laws of the program's input, of its replies, and that they fit.
 pub mod Reading
-pub mod Answers
 pub mod Replies
 pub mod Bounds

@@ -7,7 +7,7 @@ use lib.Dec.{leb, eqb}
 use lib.ListN.{length, take, drop, getD, replicate}
 use Rattle.plain_call.specs.Call.{answer}
 use Rattle.checker.specs.Answering.{callOf}
-use Rattle.skycorbel.specs.Text.{refusalText, answerText}
+use Rattle.text.specs.Text.{refusalText, answerText}
 use Rattle.skycorbel.specs.declared.Counted.{Counted}
 use Rattle.skycorbel.specs.declared.Counted.the-variants.{Words, Short}
 

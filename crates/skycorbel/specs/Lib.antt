@@ -1,3 +1,2 @@
--- What the contracts of the program cite: its text and its input. Assumes nothing: these are definitions.
-pub mod Text
+-- What the contracts of the program cite: its input and its reply. Assumes nothing: these are definitions.
 pub mod Input

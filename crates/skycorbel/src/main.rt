@@ -1,34 +1,18 @@
 // The program: the call that standard input spells, and its answer as text. Everything between the bytes read and the
 // bytes written is `reply`. It rests on the call, and for reading and writing on io.
-mod text;
-
 use bindings::tail;
-use checker::Answer;
-use checker::Verdict;
 use checker::call;
-use text::put_byte;
-use text::put_bytes;
-use text::put_decimal;
-use text::put_words;
+use text::head;
+use text::put_answer;
+use text::put_refusal;
 ghost use mathlib.Core.Path.{_≡_};
-ghost use mathlib.Core.List.{_++_};
 ghost use Prim.Native.Nat.{_+_, _*_, _≤_, _<_};
 ghost use lib.ListN.{length, take, drop};
 ghost use Rattle.io.specs.Counts.{Counts};
-ghost use Rattle.checker.specs.Answering.{answerOf};
-ghost use Rattle.skycorbel.specs.Text.{decimal, refusalText, countsText, answerText, Puts};
-ghost use Rattle.skycorbel.specs.Text.{lines};
+ghost use Rattle.text.specs.Text.{Puts};
 ghost use Rattle.skycorbel.specs.Input.{wordOf, wordsOf, countedBy, unfitText, callReply, ruleReply, movesReply, scriptReply, wordsReply};
 ghost use Rattle.skycorbel.specs.Input.{counted};
 ghost use Rattle.skycorbel.specs.Input.{reply as replyOf};
-
-// The words at the start of a slice, or all of it where there are no more.
-fn head(s: &[u32], n: usize) -> &[u32]
-    ensures { λ r. ⌜ now r ≡ take n (now (s .entry)) ⌝ }
-{
-    let most = s.len();
-    if n <= most { &s[..n] } else { &s[..most] }
-}
 
 // How many words a count at the start of a slice counts, or that there are not so many behind it.
 enum Counted {
@@ -47,58 +31,6 @@ fn read_count(s: &[u32]) -> Counted
         return Counted::Short;
     }
     Counted::Words(n)
-}
-
-// "a refusal as the one line `refused`, number, `at`, place"
-fn put_refusal(text: &mut [u8], question: u32, place: usize) -> usize
-    ensures { λ r. ⌜ Puts (now (text .entry)) (now (text .exit)) 0 r (refusalText question place) ⌝ }
-{
-    let a = put_bytes(text, 0, b"refused ");
-    let b = put_decimal(text, a, question as u64);
-    let c = put_bytes(text, b, b" at ");
-    let d = put_decimal(text, c, place as u64);
-    put_byte(text, d, 10)
-}
-
-// A count behind its name.
-fn put_count(text: &mut [u8], at: usize, name: &[u8], count: u64) -> usize
-    ensures { λ r. ⌜ Puts (now (text .entry)) (now (text .exit)) at r (now (name .entry) ++ decimal count) ⌝ }
-{
-    let next = put_bytes(text, at, name);
-    put_decimal(text, next, count)
-}
-
-// The counts of an answer, behind its yes or no.
-fn put_counts(text: &mut [u8], at: usize, a: Answer) -> usize
-    ensures { λ r. ⌜ Puts (now (text .entry)) (now (text .exit)) at r (countsText (a .moves) (a .visits) (a .deepest) (a .weight) (a .words)) ⌝ }
-{
-    let b = put_count(text, at, b" moves ", a.moves as u64);
-    let c = put_count(text, b, b" visits ", a.visits as u64);
-    let d = put_count(text, c, b" deepest ", a.deepest as u64);
-    let e = put_count(text, d, b" weight ", a.weight as u64);
-    let f = put_count(text, e, b" words ", a.words as u64);
-    put_byte(text, f, 10)
-}
-
-// The line of a yes or no, then "the tree's words one a line"
-fn put_said(text: &mut [u8], said: &[u8], a: Answer, out: &[u32]) -> usize
-    ensures { λ r. ⌜ Puts (now (text .entry)) (now (text .exit)) 0 r (now (said .entry) ++ countsText (a .moves) (a .visits) (a .deepest) (a .weight) (a .words) ++ lines (take (a .words) (now (out .entry)))) ⌝ }
-{
-    let b = put_bytes(text, 0, said);
-    let c = put_counts(text, b, a);
-    put_words(text, c, head(out, a.words as usize))
-}
-
-// An answer as text.
-fn put_answer(text: &mut [u8], a: Answer, out: &[u32]) -> usize
-    ensures { λ r. ⌜ Puts (now (text .entry)) (now (text .exit)) 0 r (answerText (answerOf a (now (out .entry)))) ⌝ }
-{
-    let verdict = a.verdict;
-    match verdict {
-        Verdict::Yes => put_said(text, b"yes", a, out),
-        Verdict::No => put_said(text, b"no", a, out),
-        Verdict::Refused { question, place } => put_refusal(text, question, place),
-    }
 }
 
 // Question 20, where it is no.

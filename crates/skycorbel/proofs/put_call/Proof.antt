@@ -1,8 +1,8 @@
 -- `put_call` meets its contract. Assumes nothing.
 use mathlib.Core.Path.{ap}
-use Rattle.skycorbel.proofs.Putting.{puts-as}
+use Rattle.text.proofs.Putting.{puts-as}
 use Rattle.plain_call.specs.Call.{Answer}
-use Rattle.skycorbel.specs.Text.{answerText}
+use Rattle.text.specs.Text.{answerText}
 use borrow.Author.Needs.{needs}
 use Rattle.skycorbel.proofs.put_call.Statement.{statement}
 use Rattle.skycorbel.proofs.put_call.Tie as tie

@@ -1,5 +1,5 @@
 -- `reply_to_words` meets its contract. Assumes nothing.
-use Rattle.skycorbel.proofs.Putting.{puts-as}
+use Rattle.text.proofs.Putting.{puts-as}
 use Rattle.skycorbel.specs.Input.{scriptReply}
 use Rattle.skycorbel.proofs.Replies.{replied-words, replied-short}
 use borrow.Author.Needs.{needs}

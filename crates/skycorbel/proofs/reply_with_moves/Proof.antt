@@ -1,5 +1,5 @@
 -- `reply_with_moves` meets its contract. Assumes nothing.
-use Rattle.skycorbel.proofs.Putting.{puts-as}
+use Rattle.text.proofs.Putting.{puts-as}
 use Rattle.skycorbel.specs.Input.{ruleReply}
 use Rattle.skycorbel.proofs.Replies.{replied-words, replied-short}
 use borrow.Author.Needs.{needs}

@@ -1,5 +1,5 @@
 -- `reply_with_rule` meets its contract. Assumes nothing.
-use Rattle.skycorbel.proofs.Putting.{puts-as}
+use Rattle.text.proofs.Putting.{puts-as}
 use Rattle.skycorbel.proofs.Replies.{rule-one, rule-unfit}
 use borrow.Author.Needs.{needs}
 use Rattle.skycorbel.proofs.reply_with_rule.Statement.{statement}

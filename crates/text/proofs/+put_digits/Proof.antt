@@ -1,0 +1,56 @@
+-- `put_digits` meets its contract. The measure is how many digits are left. Assumes nothing.
+use Prim.Native.Nat.{ℕ, _<_}
+use mathlib.Core.List.{[], _∷_}
+use mathlib.Core.Path.{ap}
+use native.Mathlib.Omega.{arith}
+use borrow.Author.Needs.{needs}
+use borrow.Fn.Kinds.{In}
+use borrow.Fn.PlainCycle.{Measures, is, falls, and}
+use Rattle.text.proofs.Putting.{puts-none, puts-more, puts-as}
+use Rattle.text.proofs.Numbers.{hex-none, hex-more}
+use Rattle.text.proofs.put_digits.Reads as put-digits
+use Rattle.text.proofs.put_digits.Kinds as put-digits-kinds
+use Rattle.text.proofs.+put_digits.Lts-put_digits as put-digits-lts
+use Rattle.text.proofs.glyph.Reads as glyph-reads
+use Rattle.text.proofs.put_byte.Reads as put-byte-reads
+use Rattle.text.proofs.+put_digits.{statement}
+use Rattle.text.proofs.+put_digits.Tie.{close}
+
+abbrev μ-put-digits : Measures 1 put-digits-kinds.ps ℕ
+μ-put-digits κs a = a .1 .1 .1 .0
+
+abbrev put-digits-at : ℕ → In 1 put-digits-kinds.ps
+put-digits-at t = and 1 put-digits-kinds.ps (is 1 put-digits-kinds.ps μ-put-digits t) put-digits.Pre
+
+abbrev put-digits-below : ℕ → In 1 put-digits-kinds.ps
+put-digits-below t = and 1 put-digits-kinds.ps (falls 1 put-digits-kinds.ps _<_ μ-put-digits t) put-digits.Pre
+
+abbrev claims : ℕ → put-digits-lts.Claims
+claims t = (put-digits-below t, put-digits.Post, glyph-reads.Asked, glyph-reads.Learnt, put-byte-reads.Asked, put-byte-reads.Learnt)
+
+put-digits-returns : (t : ℕ) → put-digits-lts.Need-returns (claims t) (put-digits-at t) put-digits.Post
+put-digits-returns t c = puts-as (hex-none (c .before .before .args .digits) (c .before .before .args .w) (c .if1 .taken)) puts-none
+
+put-digits-put-digits-requires : (t : ℕ) → put-digits-lts.Need-put-digits-requires (claims t) (put-digits-at t) put-digits.Post
+put-digits-put-digits-requires t c κs = (omega (arith, c .before .if1 .left), tt)
+
+put-digits-returns-2 : (t : ℕ) → put-digits-lts.Need-returns-2 (claims t) (put-digits-at t) put-digits.Post
+put-digits-returns-2 t c =
+    let more : 0 < c .before .before .before .before .before .before .before .before .before .before .before .args .digits = omega (arith, c .before .before .before .before .before .before .before .before .before .if1 .left) in
+    puts-as (hex-more (c .before .before .before .before .before .before .before .before .before .before .before .args .digits) (c .before .before .before .before .before .before .before .before .before .before .before .args .w) more) (puts-more (c .before .before .before .before .before .before .before .put-digits .ensures) (puts-as (ap (λ (d : ℕ). d ∷ []) (c .before .before .before .glyph .ensures)) (c .before .before .put-byte .ensures)))
+
+pub +put-digits-spec : {M : Type 1} → statement M
++put-digits-spec =
+    close
+    μ-put-digits
+    λ t. put-digits-lts.spec
+    (claims t)
+    (put-digits-at t)
+    put-digits.Post
+    (put-digits-returns t)
+    (λ c. search needs)
+    (put-digits-put-digits-requires t)
+    (λ c κs. search needs)
+    (λ c κs. search needs)
+    (λ c. search needs)
+    (put-digits-returns-2 t)

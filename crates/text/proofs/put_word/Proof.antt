@@ -1,0 +1,13 @@
+-- `put_word` meets its contract. Assumes nothing.
+use Rattle.text.specs.Text.{line}
+use Rattle.text.proofs.Putting.{puts-more}
+use borrow.Author.Needs.{needs}
+use Rattle.text.proofs.put_word.Statement.{statement}
+use Rattle.text.proofs.put_word.Tie as tie
+
+returns : tie.Need-returns
+unfolding line
+returns c = puts-more (c .before .before .before .before .before .before .put-digits .ensures) (c .before .before .put-byte .ensures)
+
+pub put-word-spec : {M : Type 1} → statement M
+put-word-spec = tie.close (tie.spec (λ c κs. search needs) (λ c κs. search needs) (λ c. search needs) returns)
