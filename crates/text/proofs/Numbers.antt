@@ -60,10 +60,6 @@ unfolding lines
 lines-append [] b = refl
 lines-append (w ∷ a) b = ap (λ (r : List ℕ). line w ++ r) (lines-append a b) ∙ sym (append-assoc (line w) (lines a) (lines b))
 
-pub lines-none : [] ≡ lines []
-unfolding lines
-lines-none = refl
-
 lines-one : (w : ℕ) → lines (w ∷ []) ≡ line w
 unfolding lines
 lines-one w = append-nil (line w)
