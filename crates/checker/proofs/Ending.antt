@@ -14,7 +14,8 @@ use Rattle.machine.proofs.Sums.{map-sum}
 use Rattle.closure_machine.specs.Closure.{Closure, unfoldHead, unfolded, unfoldMachine}
 use Rattle.closures.specs.Represents.{boundIn, Counted}
 use Rattle.closures.specs.declared.State.{State}
-use Rattle.writer.specs.Buffer.{over, room, answered, buffered}
+use Rattle.message_writer.specs.Buffer.{over}
+use Rattle.writer.specs.Room.{room, answered, buffered}
 use Rattle.writer.specs.declared.Fitting.{Fitting}
 use Rattle.writer.specs.declared.Fitting.the-variants.{Words, Refused}
 use Rattle.decision.specs.Walk.{Count}

@@ -30,9 +30,9 @@ ghost use Rattle.closure_machine.specs.Closure.{Closure, unfolded, unfoldMachin
 ghost use Rattle.closures.specs.Lent.{kindsIn, startsIn, standing, Lends};
 ghost use Rattle.closures.specs.Represents.{boundIn, Ready, Represents};
 ghost use Rattle.walk.specs.Visits.{walkedOf};
+ghost use Rattle.message_writer.specs.Write.{write};
 ghost use Rattle.writer.specs.Bodies.{Scripted};
-ghost use Rattle.writer.specs.Buffer.{answered, buffered};
-ghost use Rattle.writer.specs.Write.{write};
+ghost use Rattle.writer.specs.Room.{answered, buffered};
 ghost use Rattle.plain_call.specs.Call.{actor, target, moveFits, accepted, refusal, walked, answer};
 ghost use Rattle.plain_call.specs.Call.{finish as finished};
 ghost use Rattle.checker.specs.Answering.{verdictOf, answerOf, callOf};

@@ -1,7 +1,7 @@
 -- The whole call (document 01, "Questions at the door" and "What demand 3 compares"): the questions in their order, the
 -- moves, the walk, and what is answered and written. Assumes nothing: these are definitions.
-use Prim.Native.Nat.{ℕ, zero, suc, _+_, _/_, _%_, max, min}
-use mathlib.Core.Bool.{Bool, true, false, _&&_, cond}
+use Prim.Native.Nat.{ℕ, suc, _+_, _/_, _%_, max, min}
+use mathlib.Core.Bool.{Bool, _&&_, cond}
 use mathlib.Core.List.{List, [], _∷_, _++_}
 use mathlib.Core.Option.{Option, none, some}
 use lib.ListN.{length, drop}
@@ -9,12 +9,11 @@ use lib.Dec.{leb, ltb, eqb}
 use Rattle.messages.specs.Words.{kind, operand}
 use Rattle.messages.specs.Reading.{Cursor, Reading, refuse, got}
 use Rattle.messages.specs.Message.{Message}
-use Rattle.scripts.specs.Tree.{Body, Plain}
 use Rattle.scripts.specs.Script.{Script, readScript, started}
 use Rattle.scripts.specs.Measures.{greatestName}
 use Rattle.machine.specs.Moves.{Moved}
 use Rattle.machine.specs.PlainMachine.{move, Machine, weightOf}
-use Rattle.writer.specs.Write.{write}
+use Rattle.message_writer.specs.Write.{write}
 use Rattle.rules.specs.Rule.{Rule, greatestRuleName}
 use Rattle.rules.specs.ReadRule.{readWholeRule}
 use Rattle.decision.specs.Walk.{Count, Walked, stopped, says, Setting, walkFrom}

@@ -4,7 +4,7 @@ use Prim.Native.Nat.{ℕ, _-_}
 use mathlib.Core.Bool.{Bool, true, false}
 use mathlib.Core.List.{List, [], _∷_, _++_, map}
 use mathlib.Core.Path.{_≡_, refl}
-use lib.ListN.{length, replicate}
+use lib.ListN.{replicate}
 use Rattle.messages.specs.Words
 use Rattle.messages.specs.Reading
 use Rattle.messages.specs.Reading.{Cursor, Reading, refuse, got}
@@ -18,12 +18,12 @@ use Rattle.scripts.specs.Measures.{movesBound}
 use Rattle.machine.specs.Bodies
 use Rattle.machine.specs.Moves
 use Rattle.machine.specs.PlainMachine
-use Rattle.writer.specs.Write
+use Rattle.message_writer.specs.Write
 use Rattle.rules.specs.Rule
 use Rattle.rules.specs.ReadRule
 use Rattle.decision.specs.Walk
 use Rattle.decision.specs.PlainWalk
-use Rattle.plain_call.specs.Call.{Call, Answer, Verdict, accepted, refused, answer}
+use Rattle.plain_call.specs.Call.{Call, Answer, accepted, refused, answer}
 use Rattle.plain_call.specs.Call
 
 abbrev pub row : List ℕ → List ℕ → List ℕ → ℕ → Call

@@ -7,7 +7,8 @@ use lib.ListN.{length, take, drop, drop-of-length-le}
 use lib.Seq.{length-take-le}
 use borrow.Author.Tests.{le-leb, lt-leb}
 use Rattle.bindings.specs.Measures.{capped}
-use Rattle.writer.specs.Buffer.{over, Wrote, room, answered, buffered}
+use Rattle.message_writer.specs.Buffer.{over, Wrote}
+use Rattle.writer.specs.Room.{room, answered, buffered}
 use Rattle.writer.specs.declared.Fitting.the-variants.{Words, Refused}
 
 -- n is the number of the words, as far as it is counted

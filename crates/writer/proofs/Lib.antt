@@ -1,7 +1,3 @@
--- The laws of `writer` that its own proofs and the crates above cite.
-pub mod Lending
-pub mod Receipts
-pub mod Words
-pub mod Items
+-- The laws of `writer` that its own proofs cite.
 pub mod Parts
 pub mod Answers

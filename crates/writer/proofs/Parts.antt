@@ -10,7 +10,7 @@ use Rattle.messages.specs.Words.{word}
 use Rattle.messages.specs.Message.{items}
 use Rattle.messages.specs.Spelling.{messageAt}
 use Rattle.sets.specs.Sets.{headOr, tail}
-use Rattle.scripts.specs.Tree.{ambient, action, receipt, output, close, part, kindNumber, tops, sum, parts, mapHeads, PlainHead, Plain}
+use Rattle.scripts.specs.Tree.{ambient, action, receipt, output, close, part, kindNumber, tops, sum, parts, mapHeads, Plain}
 use Rattle.scripts.specs.Represents.{Held}
 use Rattle.bindings.specs.Resolve.{resolve}
 use Rattle.bindings.specs.Measures.{capped, cappedItems}
@@ -20,8 +20,9 @@ use Rattle.closure_machine.specs.Closure.{ClosureHead, Closure, Bindings, items
 use Rattle.closures.specs.Represents.{headOf}
 use Rattle.closures.proofs.Heads.{by-kind, head-action, head-receipt}
 use Rattle.closures.proofs.Holding.{no-cons}
-use Rattle.writer.specs.Write.{Indices, writeMessage, whole, writeHead, within, writeInside, write}
-use Rattle.writer.specs.Bodies.{hasBody, writeLabel, writePart, CountsPart, Counts}
+use Rattle.message_writer.specs.Write.{Indices, writeMessage, whole, writeHead, within, writeInside, write, writePart}
+use Rattle.message_writer.proofs.Trees.{write-part}
+use Rattle.writer.specs.Bodies.{hasBody, writeLabel, CountsPart, Counts}
 
 -- ---- a part, by its kind
 
@@ -93,10 +94,6 @@ part-only ix i σ (output m) b t = sym (append-nil (writeHead ix (output (resolv
 
 -- ---- a body, by its first part
 
-write-part : (ix : Indices) (i k : ℕ) (h : PlainHead) (b r : Plain) → writePart ix i h b ++ write ix (i + length (writePart ix i h b)) r ≡ write ix i (part k h b r)
-unfolding writePart write
-write-part ix i k h b r = refl
-
 unfolded-part : (σ : Bindings) (k : ℕ) (h : ClosureHead) (b r : Closure) → unfolded σ (part k h b r) ≡ part k (unfoldHead σ h) (unfolded σ b) (unfolded σ r)
 unfolding unfolded mapHeads
 unfolded-part σ k h b r = refl
@@ -104,11 +101,6 @@ unfolded-part σ k h b r = refl
 write-close : (ix : Indices) (i : ℕ) (σ : Bindings) → write ix i (unfolded σ close) ≡ word 0 0 ∷ []
 unfolding unfolded mapHeads write
 write-close ix i σ = refl
-
-pub some-written : (ix : Indices) (i : ℕ) (b : Plain) → 0 < length (write ix i b)
-some-written ix i close = unfold write in omega arith
-some-written ix i (part k h b r) =
-    omega (arith, ap length (write-part ix i k h b r), length-append (writePart ix i h b) (write ix (i + length (writePart ix i h b)) r), some-written ix (i + length (writePart ix i h b)) r)
 
 -- a closure with no parts
 pub no-tops : (left : List ℕ) → left ≡ [] → (ix : Indices) (i : ℕ) (σ : Bindings) (b : Closure) → left ≡ tops b → word 0 0 ∷ [] ≡ write ix i (unfolded σ b)

@@ -1,16 +1,16 @@
 -- What the writers of parts and bodies go by: a part's words, and what a closure is written with that the arrays hold.
 -- Assumes nothing: these are definitions.
-use Prim.Native.Nat.{ℕ, _+_, _≤_, _<_}
+use Prim.Native.Nat.{ℕ, _≤_, _<_}
 use mathlib.Core.Bool.{Bool, true, false}
-use mathlib.Core.List.{List, [], _++_}
+use mathlib.Core.List.{List, []}
 use mathlib.Core.Path.{_≡_}
 use lib.ListN.{length, getD}
-use Rattle.scripts.specs.Tree.{Head, ambient, action, receipt, output, tops, parts, PlainHead, Plain}
+use Rattle.scripts.specs.Tree.{Head, ambient, action, receipt, output, tops, parts, PlainHead}
 use Rattle.scripts.specs.Represents.{Held}
 use Rattle.bindings.specs.Measures.{capped}
 use Rattle.closure_machine.specs.Closure.{ClosureHead, Closure, Bindings, unfolded, unfoldHead}
-use Rattle.writer.specs.Write.{Indices, writeMessage, whole, writeHead, within, writeInside, write}
-use Rattle.writer.specs.Buffer.{Wrote}
+use Rattle.message_writer.specs.Write.{Indices, writeMessage, whole, write, writePart}
+use Rattle.message_writer.specs.Buffer.{Wrote}
 
 -- "0 CLOSE. 1 AMB: message, body. 2 ACT (action): message, body. 3 REC (receipt): body .. 4 OUT (output): message.": who has a body
 unfoldable pub hasBody : {A : Type 0} → Head A → Bool
@@ -25,10 +25,6 @@ writeLabel ix (ambient m) = writeMessage ix m
 writeLabel ix (action is) = writeMessage ix (whole is)
 writeLabel ix (receipt v) = []
 writeLabel ix (output m) = writeMessage ix m
-
--- the words of a part, the first of which has index i
-unfoldable pub writePart : Indices → (i : ℕ) → PlainHead → Plain → List ℕ
-writePart ix i h b = writeHead ix h ++ writeInside h (write (within h i ix) (i + length (writeHead ix h)) b)
 
 -- The parts' messages stand in the script, none being a name that PLACED gave, and no action has 2^31 items spent.
 pub record Scripted (starts offsets : List ℕ) : Type 0 where
@@ -57,5 +53,5 @@ WritesPart ix σ bodies heads inside h i fuel before after r =
 
 -- To unfold this is to unfold every definition of this module: for a proof by computation.
 unfoldable pub computing : Unit {0}
-unfolding hasBody writeLabel writePart
+unfolding hasBody writeLabel
 computing = tt

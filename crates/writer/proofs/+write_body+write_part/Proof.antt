@@ -1,6 +1,6 @@
 -- `write_body` and `write_part` meet their contracts: the first part, then those beside it; a part's head, then its body.
 -- The measure is twice the fuel, and one more for a part. Assumes nothing.
-use Prim.Native.Nat.{ℕ, suc, _+_, _-_, _*_, _<_}
+use Prim.Native.Nat.{ℕ, suc, _+_, _*_, _<_}
 use mathlib.Core.List.{List, _∷_}
 use mathlib.Core.Path.{_≡_, sym, ap, _∙_}
 use native.Mathlib.Omega.{arith}
@@ -13,11 +13,12 @@ use Rattle.scripts.specs.Represents.{bodyIn}
 use Rattle.bindings.specs.Resolve.{bindingsIn}
 use Rattle.closure_machine.specs.Closure.{ClosureHead, Bindings, unfoldHead, unfolded}
 use Rattle.closures.specs.Represents.{heads}
-use Rattle.writer.specs.Write.{Indices, within, write}
-use Rattle.writer.specs.Buffer.{Wrote}
+use Rattle.message_writer.specs.Write.{Indices, within, write}
+use Rattle.message_writer.specs.Buffer.{Wrote}
 use Rattle.writer.specs.Around.{indicesOf}
-use Rattle.writer.proofs.Lending.{joined, lent-length, joined-length, wrote-as, wrote-more, wrote-full}
-use Rattle.writer.proofs.Parts.{some-written, no-tops, no-parts, part-body, part-only, by-first}
+use Rattle.message_writer.proofs.Lending.{joined, lent-length, joined-length, wrote-as, wrote-more, wrote-full}
+use Rattle.message_writer.proofs.Trees.{some-written}
+use Rattle.writer.proofs.Parts.{no-tops, no-parts, part-body, part-only, by-first}
 use Prim.Native.Nat.{ℕ, _<_}
 use borrow.Fn.Kinds.{In}
 use borrow.Fn.PlainCycle.{Measures, is, falls, and}
@@ -32,7 +33,7 @@ use Rattle.sets.proofs.rest.Reads as rest-reads
 use Rattle.writer.proofs.around_body.Reads as around-body-reads
 use Rattle.writer.proofs.has_body.Reads as has-body-reads
 use Rattle.writer.proofs.write_head.Reads as write-head-reads
-use Rattle.writer.proofs.write_word.Reads as write-word-reads
+use Rattle.message_writer.proofs.write_word.Reads as write-word-reads
 use Rattle.writer.proofs.+write_body+write_part.{statement}
 use Rattle.writer.proofs.+write_body+write_part.Tie.{close}
 

@@ -4,7 +4,7 @@ use mathlib.Core.Path.{_≡_, _∙_}
 use native.Mathlib.Omega.{arith}
 use lib.ListN.{length}
 use Rattle.writer.specs.Around.{indicesOf}
-use Rattle.writer.proofs.Receipts.{indexed-front, indices-front}
+use Rattle.message_writer.proofs.Receipts.{indexed-front, indices-front}
 use Rattle.writer.proofs.Parts.{within-other, within-receipt}
 use borrow.Author.Needs.{needs}
 use Rattle.writer.proofs.around_body.Statement.{statement}

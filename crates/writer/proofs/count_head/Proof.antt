@@ -7,7 +7,7 @@ use Rattle.messages.specs.Spelling.{messageAt}
 use Rattle.bindings.specs.Resolve.{resolve, bindingsIn}
 use Rattle.bindings.specs.Measures.{capped, cappedItems}
 use Rattle.closures.specs.Represents.{headOf}
-use Rattle.writer.proofs.Words.{message-length, items-length}
+use Rattle.message_writer.proofs.Words.{message-length, items-length}
 use Rattle.writer.proofs.Parts.{label-action, label-receipt, label-message, counted-label}
 use borrow.Author.Needs.{needs}
 use Rattle.writer.proofs.count_head.Statement.{statement}

@@ -1,6 +1,7 @@
 -- `nothing_around` meets its contract. Assumes nothing.
 use borrow.Author.Needs.{needs}
-use Rattle.writer.specs.Around.{indicesIn, indicesOf}
+use Rattle.message_writer.specs.Indices.{indicesIn}
+use Rattle.writer.specs.Around.{indicesOf}
 use Rattle.writer.proofs.nothing_around.Statement.{statement}
 use Rattle.writer.proofs.nothing_around.Tie as tie
 

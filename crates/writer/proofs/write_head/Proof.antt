@@ -4,7 +4,7 @@ use native.Mathlib.Omega.{arith}
 use Rattle.bindings.specs.Resolve.{bindingsIn}
 use Rattle.closures.specs.Represents.{headOf}
 use Rattle.writer.specs.Around.{indicesOf}
-use Rattle.writer.proofs.Lending.{lent-length, joined-length, wrote-as, wrote-more}
+use Rattle.message_writer.proofs.Lending.{lent-length, joined-length, wrote-as, wrote-more}
 use Rattle.writer.proofs.Parts.{head-words}
 use borrow.Author.Needs.{needs}
 use Rattle.writer.proofs.write_head.Statement.{statement}

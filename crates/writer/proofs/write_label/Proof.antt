@@ -1,8 +1,8 @@
 -- `write_label` meets its contract, kind by kind. Assumes nothing.
 use native.Mathlib.Omega.{arith}
 use Rattle.bindings.specs.Resolve.{bindingsIn}
-use Rattle.writer.specs.Around.{indicesIn}
-use Rattle.writer.proofs.Lending.{wrote-none, wrote-as}
+use Rattle.message_writer.specs.Indices.{indicesIn}
+use Rattle.message_writer.proofs.Lending.{wrote-none, wrote-as}
 use Rattle.writer.proofs.Parts.{label-action, label-receipt, label-message}
 use borrow.Author.Needs.{needs}
 use Rattle.writer.proofs.write_label.Statement.{statement}

@@ -1,6 +1,6 @@
 -- `write_from` meets its contract: a variable with a binding is the message of that binding, any other word stands for itself.
 -- The measure falls with the bindings, and then with the words and messages that are left. Assumes nothing.
-use Prim.Native.Nat.{ℕ, _+_, _-_, _*_, _<_}
+use Prim.Native.Nat.{ℕ, _+_, _*_, _<_}
 use mathlib.Core.Path.{sym, ap, _∙_}
 use native.Mathlib.Omega.{arith}
 use borrow.Author.Needs.{needs}
@@ -10,24 +10,24 @@ use Rattle.bindings.specs.Resolve.{bindingsIn}
 use Rattle.bindings.specs.Passes.{firstWord}
 use Rattle.bindings.proofs.Passing.{unbound-free, room}
 use Rattle.bindings.proofs.Counting.{rank, rank-less, rank-older}
-use Rattle.writer.specs.Around.{indicesIn}
-use Rattle.writer.proofs.Lending.{lent-length, joined-length, wrote-none, wrote-as, wrote-more}
-use Rattle.writer.proofs.Words.{first-name, none-written, written-first, written-bound}
+use Rattle.message_writer.specs.Indices.{indicesIn}
+use Rattle.message_writer.proofs.Lending.{lent-length, joined-length, wrote-none, wrote-as, wrote-more}
+use Rattle.message_writer.proofs.Words.{first-name, none-written, written-first, written-bound}
 use Prim.Native.Nat.{ℕ, _<_}
 use borrow.Fn.Kinds.{In}
 use borrow.Fn.PlainCycle.{Measures, is, falls, and}
-use Rattle.writer.proofs.write_from.Reads as write-from
-use Rattle.writer.proofs.write_from.Kinds as write-from-kinds
-use Rattle.writer.proofs.+write_from.Lts-write_from as write-from-lts
+use Rattle.message_writer.proofs.write_from.Reads as write-from
+use Rattle.message_writer.proofs.write_from.Kinds as write-from-kinds
+use Rattle.message_writer.proofs.+write_from.Lts-write_from as write-from-lts
 use Rattle.bindings.proofs.arity.Reads as arity-reads
 use Rattle.bindings.proofs.bound.Reads as bound-reads
 use Rattle.bindings.proofs.first_word.Reads as first-word-reads
 use Rattle.bindings.proofs.given.Reads as given-reads
 use Rattle.bindings.proofs.tail.Reads as tail-reads
-use Rattle.writer.proofs.plain_word.Reads as plain-word-reads
-use Rattle.writer.proofs.write_word.Reads as write-word-reads
-use Rattle.writer.proofs.+write_from.{statement}
-use Rattle.writer.proofs.+write_from.Tie.{close}
+use Rattle.message_writer.proofs.plain_word.Reads as plain-word-reads
+use Rattle.message_writer.proofs.write_word.Reads as write-word-reads
+use Rattle.message_writer.proofs.+write_from.{statement}
+use Rattle.message_writer.proofs.+write_from.Tie.{close}
 
 abbrev μ-write-from : Measures 7 write-from-kinds.ps ℕ
 μ-write-from κs a = rank (length (a .1 .1 .1 .0 .now)) (3 * length (a .1 .0 .now) + a .1 .1 .0)

@@ -5,7 +5,7 @@ use mathlib.Core.Path.{_≡_, refl, sym, ap, _∙_}
 use native.Mathlib.Omega.{arith}
 use lib.ListN.{length, take, drop, set, length-append, length-drop, drop-of-length-le}
 use lib.Seq.{take-all, drop-drop, take-at, drop-at}
-use Rattle.writer.specs.Buffer.{over, Wrote}
+use Rattle.message_writer.specs.Buffer.{over, Wrote}
 
 -- the tail of the buffer behind m words, as it is lent, and the buffer when the tail comes back as ys
 abbrev pub lent : ℕ → List ℕ → List ℕ

@@ -1,9 +1,9 @@
 -- `write_word` meets its contract: one word, where there is room for one. Assumes nothing.
 use native.Mathlib.Omega.{arith}
-use Rattle.writer.proofs.Lending.{wrote-one, wrote-full}
+use Rattle.message_writer.proofs.Lending.{wrote-one, wrote-full}
 use borrow.Author.Needs.{needs}
-use Rattle.writer.proofs.write_word.Statement.{statement}
-use Rattle.writer.proofs.write_word.Tie as tie
+use Rattle.message_writer.proofs.write_word.Statement.{statement}
+use Rattle.message_writer.proofs.write_word.Tie as tie
 
 returns : tie.Need-returns
 returns c =

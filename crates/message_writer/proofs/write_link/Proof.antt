@@ -1,11 +1,11 @@
 -- `write_link` meets its contract. Assumes nothing.
 use Rattle.messages.specs.Words.{word}
-use Rattle.writer.proofs.Lending.{wrote-none, wrote-as}
-use Rattle.writer.proofs.Items.{link-last, link-more}
+use Rattle.message_writer.proofs.Lending.{wrote-none, wrote-as}
+use Rattle.message_writer.proofs.Items.{link-last, link-more}
 use native.Mathlib.Omega.{arith}
 use borrow.Author.Needs.{needs}
-use Rattle.writer.proofs.write_link.Statement.{statement}
-use Rattle.writer.proofs.write_link.Tie as tie
+use Rattle.message_writer.proofs.write_link.Statement.{statement}
+use Rattle.message_writer.proofs.write_link.Tie as tie
 
 returns : tie.Need-returns
 returns c =

@@ -9,8 +9,8 @@ use borrow.Author.Tests.{eq-eqb, ne-eqb, eqb-true, eqb-false}
 use Rattle.bindings.specs.Resolve.{place}
 use Rattle.bindings.proofs.Resolving.{by-test}
 use Rattle.messages.proofs.Tails.{drop-set}
-use Rattle.writer.specs.Write.{Indices, newIndex}
-use Rattle.writer.specs.Around.{indicesIn, Indexed}
+use Rattle.message_writer.specs.Write.{Indices, newIndex}
+use Rattle.message_writer.specs.Indices.{indicesIn, Indexed}
 
 new-hit : (v u n : ℕ) (ix : Indices) → u ≡ v → newIndex ((v, n) ∷ ix) u ≡ n
 unfolding newIndex

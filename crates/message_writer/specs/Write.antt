@@ -2,13 +2,13 @@
 -- their items (several as PATH item rest; none as one EMPTY), VAR with the REC's new index".
 -- Assumes nothing: these are definitions.
 use Prim.Native.Nat.{ℕ, _+_}
-use mathlib.Core.Bool.{Bool, true, false, cond}
+use mathlib.Core.Bool.{cond}
 use mathlib.Core.List.{List, [], _∷_, _++_}
 use lib.ListN.{length}
 use lib.Dec.{eqb}
 use Rattle.messages.specs.Words.{word}
 use Rattle.messages.specs.Message.{Message, name, variable, enter, exit, opens, empty, path}
-use Rattle.scripts.specs.Tree.{Head, ambient, action, receipt, output, Body, close, part, Plain}
+use Rattle.scripts.specs.Tree.{Head, ambient, action, receipt, output, close, part, PlainHead, Plain}
 
 -- where the receipts around now stand: each variable with its receipt's new index
 abbrev pub Indices : Type 0
@@ -62,7 +62,11 @@ write ix i (part k h b r) =
     let t = s ++ writeInside h (write (within h i ix) (i + length s) b) in
     t ++ write ix (i + length t) r
 
+-- the words of a part, the first of which has index i
+unfoldable pub writePart : Indices → (i : ℕ) → PlainHead → Plain → List ℕ
+writePart ix i h b = writeHead ix h ++ writeInside h (write (within h i ix) (i + length (writeHead ix h)) b)
+
 -- To unfold this is to unfold every definition of this module: for a proof by computation.
 unfoldable pub computing : Unit {0}
-unfolding newIndex writeMessage whole writeHead within writeInside write
+unfolding newIndex writeMessage whole writeHead within writeInside write writePart
 computing = tt

@@ -20,8 +20,8 @@ use Rattle.bindings.specs.Measures.{size, itemsSize}
 use Rattle.bindings.specs.Passes.{firstWord, firsts, shapeOf, arityOf, boundAt}
 use Rattle.bindings.proofs.Resolving.{by-test, resolve-name, resolve-enter, resolve-exit, resolve-opens, resolve-empty, resolve-path}
 use Rattle.bindings.proofs.Passing.{firsts-first, Free, bound, bound-variable, given-place}
-use Rattle.writer.specs.Write.{Indices, writeMessage, whole}
-use Rattle.writer.specs.Passes.{allWritten, plainWord}
+use Rattle.message_writer.specs.Write.{Indices, writeMessage, whole}
+use Rattle.message_writer.specs.Passes.{allWritten, plainWord}
 
 -- how many words a message is written with, and an action's items
 

@@ -3,12 +3,12 @@ use mathlib.Core.Path.{ap}
 use native.Mathlib.Omega.{arith}
 use lib.ListN.{drop, length, length-drop}
 use Rattle.bindings.specs.Resolve.{bindingsIn}
-use Rattle.writer.specs.Around.{indicesIn}
-use Rattle.writer.proofs.Lending.{wrote-as}
-use Rattle.writer.proofs.Words.{one-written}
+use Rattle.message_writer.specs.Indices.{indicesIn}
+use Rattle.message_writer.proofs.Lending.{wrote-as}
+use Rattle.message_writer.proofs.Words.{one-written}
 use borrow.Author.Needs.{needs}
-use Rattle.writer.proofs.write_message.Statement.{statement}
-use Rattle.writer.proofs.write_message.Tie as tie
+use Rattle.message_writer.proofs.write_message.Statement.{statement}
+use Rattle.message_writer.proofs.write_message.Tie as tie
 
 write-from-requires : tie.Need-write-from-requires
 write-from-requires c κs =

@@ -1,22 +1,13 @@
--- Where words come to stand in a buffer that is lent (document 01, "An accepted call .. writes the tree at the buffer's
--- start; words behind it keep their content"). Assumes nothing: these are definitions.
-use Prim.Native.Nat.{ℕ, min, _≤_}
+-- Whether the written tree fits the buffer that is lent (document 01, question 19), what is then answered, and the buffer after
+-- the call. Assumes nothing: these are definitions.
+use Prim.Native.Nat.{ℕ, min}
 use mathlib.Core.Bool.{cond}
-use mathlib.Core.List.{List, _++_}
-use mathlib.Core.Path.{_≡_}
+use mathlib.Core.List.{List}
 use lib.Dec.{leb}
-use lib.ListN.{length, drop}
+use lib.ListN.{length}
+use Rattle.message_writer.specs.Buffer.{over}
 use Rattle.writer.specs.declared.Fitting.{Fitting}
 use Rattle.writer.specs.declared.Fitting.the-variants.{Words, Refused}
-
--- the buffer with the words at its start: "words behind it keep their content"
-unfoldable pub over : (words buffer : List ℕ) → List ℕ
-over ws buffer = ws ++ drop (length ws) buffer
-
--- what a writer does that is lent the buffer `before`, leaves `after` and answers r: where the words fit they are written,
--- and r is their number
-pub record Wrote (words before after : List ℕ) (r : ℕ) : Type 0 where
-  pub right : length words ≤ length before → (r ≡ length words) × (after ≡ over words before)
 
 -- question 19: "the output buffer, of which no more than the first 2^28 words count"
 unfoldable pub room : (buffer : List ℕ) → ℕ
@@ -33,5 +24,5 @@ buffered ws buffer = cond (leb (length ws) (room buffer)) (over ws buffer) buffe
 
 -- To unfold this is to unfold every definition of this module: for a proof by computation.
 unfoldable pub computing : Unit {0}
-unfolding over room answered buffered
+unfolding room answered buffered
 computing = tt

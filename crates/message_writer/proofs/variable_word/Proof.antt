@@ -3,10 +3,10 @@ use Prim.Native.Nat.{ℕ, _+_}
 use mathlib.Core.Path.{ap}
 use native.Mathlib.Omega.{arith}
 use Rattle.messages.specs.Words.{word}
-use Rattle.writer.proofs.Receipts.{index-found, index-none}
+use Rattle.message_writer.proofs.Receipts.{index-found, index-none}
 use borrow.Author.Needs.{needs}
-use Rattle.writer.proofs.variable_word.Statement.{statement}
-use Rattle.writer.proofs.variable_word.Tie as tie
+use Rattle.message_writer.proofs.variable_word.Statement.{statement}
+use Rattle.message_writer.proofs.variable_word.Tie as tie
 
 mul-result : tie.Need-mul-result
 mul-result c =

@@ -13,9 +13,9 @@ use Rattle.bindings.specs.Resolve.{resolve}
 use Rattle.bindings.specs.Measures.{capped}
 use Rattle.bindings.specs.Passes.{firsts}
 use Rattle.bindings.proofs.Counting.{whole-count, below-count, drop-within}
-use Rattle.writer.specs.Write.{Indices, writeMessage, whole}
-use Rattle.writer.specs.Passes.{allWritten, link, strung}
-use Rattle.writer.proofs.Words.{some-words, one-written}
+use Rattle.message_writer.specs.Write.{Indices, writeMessage, whole}
+use Rattle.message_writer.specs.Passes.{allWritten, link, strung}
+use Rattle.message_writer.proofs.Words.{some-words, one-written}
 
 pub link-more : (l : ℕ) → 1 < l → word 14 0 ∷ [] ≡ link l
 unfolding link

@@ -1,6 +1,6 @@
 -- `write_own` and `write_rest` meet their contracts: a word's own items, then those behind it. The measure falls with the
 -- bindings, and then with the words and messages that are left. Assumes nothing.
-use Prim.Native.Nat.{ℕ, suc, _+_, _-_, _*_, _<_}
+use Prim.Native.Nat.{ℕ, suc, _+_, _*_, _<_}
 use mathlib.Core.List.{List}
 use mathlib.Core.Path.{ap, _∙_}
 use native.Mathlib.Omega.{arith}
@@ -12,30 +12,30 @@ use Rattle.bindings.specs.Resolve.{bindingsIn}
 use Rattle.bindings.specs.Passes.{firstWord, firsts, allItems, ownItems}
 use Rattle.bindings.proofs.Passing.{none-pending, one-message, unbound-free, single, given-items}
 use Rattle.bindings.proofs.Counting.{below-count, kept-length, kept-drop, drop-past, rank, rank-less, rank-older}
-use Rattle.writer.specs.Around.{indicesIn}
-use Rattle.writer.specs.Passes.{strung}
-use Rattle.writer.proofs.Lending.{lent-length, joined-length, wrote-none, wrote-as, wrote-if, wrote-more}
-use Rattle.writer.proofs.Items.{strung-none, strung-single, strung-split}
+use Rattle.message_writer.specs.Indices.{indicesIn}
+use Rattle.message_writer.specs.Passes.{strung}
+use Rattle.message_writer.proofs.Lending.{lent-length, joined-length, wrote-none, wrote-as, wrote-if, wrote-more}
+use Rattle.message_writer.proofs.Items.{strung-none, strung-single, strung-split}
 use Prim.Native.Nat.{ℕ, _<_}
 use borrow.Fn.Kinds.{In}
 use borrow.Fn.PlainCycle.{Measures, is, falls, and}
-use Rattle.writer.proofs.write_own.Reads as write-own
-use Rattle.writer.proofs.write_own.Kinds as write-own-kinds
-use Rattle.writer.proofs.+write_own+write_rest.Lts-write_own as write-own-lts
-use Rattle.writer.proofs.write_rest.Reads as write-rest
-use Rattle.writer.proofs.write_rest.Kinds as write-rest-kinds
-use Rattle.writer.proofs.+write_own+write_rest.Lts-write_rest as write-rest-lts
+use Rattle.message_writer.proofs.write_own.Reads as write-own
+use Rattle.message_writer.proofs.write_own.Kinds as write-own-kinds
+use Rattle.message_writer.proofs.+write_own+write_rest.Lts-write_own as write-own-lts
+use Rattle.message_writer.proofs.write_rest.Reads as write-rest
+use Rattle.message_writer.proofs.write_rest.Kinds as write-rest-kinds
+use Rattle.message_writer.proofs.+write_own+write_rest.Lts-write_rest as write-rest-lts
 use Rattle.bindings.proofs.after_own.Reads as after-own-reads
 use Rattle.bindings.proofs.bound.Reads as bound-reads
 use Rattle.bindings.proofs.first_word.Reads as first-word-reads
 use Rattle.bindings.proofs.given.Reads as given-reads
 use Rattle.bindings.proofs.own.Reads as own-reads
 use Rattle.bindings.proofs.tail.Reads as tail-reads
-use Rattle.writer.proofs.less.Reads as less-reads
-use Rattle.writer.proofs.write_from.Reads as write-from-reads
-use Rattle.writer.proofs.write_link.Reads as write-link-reads
-use Rattle.writer.proofs.+write_own+write_rest.{statement}
-use Rattle.writer.proofs.+write_own+write_rest.Tie.{close}
+use Rattle.message_writer.proofs.less.Reads as less-reads
+use Rattle.message_writer.proofs.write_from.Reads as write-from-reads
+use Rattle.message_writer.proofs.write_link.Reads as write-link-reads
+use Rattle.message_writer.proofs.+write_own+write_rest.{statement}
+use Rattle.message_writer.proofs.+write_own+write_rest.Tie.{close}
 
 abbrev μ-write-own : Measures 8 write-own-kinds.ps ℕ
 μ-write-own κs a = rank (length (a .1 .1 .1 .1 .0 .now)) 0

@@ -1,5 +1,4 @@
 -- `write_items` meets its contract: no items are one EMPTY, several are strung. Assumes nothing.
-use Prim.Native.Nat.{_-_}
 use mathlib.Core.Path.{ap}
 use native.Mathlib.Omega.{arith}
 use lib.ListN.{length, drop, length-drop}
@@ -8,12 +7,12 @@ use Rattle.messages.specs.Message.{items}
 use Rattle.messages.specs.Spelling.{messageAt}
 use Rattle.bindings.specs.Resolve.{resolve, bindingsIn}
 use Rattle.bindings.proofs.Passing.{one-message}
-use Rattle.writer.specs.Around.{indicesIn}
-use Rattle.writer.proofs.Lending.{wrote-as, wrote-if}
-use Rattle.writer.proofs.Items.{items-none, items-some}
+use Rattle.message_writer.specs.Indices.{indicesIn}
+use Rattle.message_writer.proofs.Lending.{wrote-as, wrote-if}
+use Rattle.message_writer.proofs.Items.{items-none, items-some}
 use borrow.Author.Needs.{needs}
-use Rattle.writer.proofs.write_items.Statement.{statement}
-use Rattle.writer.proofs.write_items.Tie as tie
+use Rattle.message_writer.proofs.write_items.Statement.{statement}
+use Rattle.message_writer.proofs.write_items.Tie as tie
 
 item-count-requires : tie.Need-item-count-requires
 item-count-requires c κs =

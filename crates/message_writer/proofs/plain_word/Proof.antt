@@ -1,10 +1,10 @@
 -- `plain_word` meets its contract: in each arm the word is the arm's variant. Assumes nothing.
 use native.Mathlib.Omega.{arith}
 use Rattle.messages.specs.Words.{word}
-use Rattle.writer.specs.Passes.{plainWord}
+use Rattle.message_writer.specs.Passes.{plainWord}
 use borrow.Author.Needs.{needs}
-use Rattle.writer.proofs.plain_word.Statement.{statement}
-use Rattle.writer.proofs.plain_word.Tie as tie
+use Rattle.message_writer.proofs.plain_word.Statement.{statement}
+use Rattle.message_writer.proofs.plain_word.Tie as tie
 
 add-result : tie.Need-add-result
 add-result c =

@@ -1,0 +1,6 @@
+-- The laws of `message_writer` that its own proofs and the crates above cite.
+pub mod Lending
+pub mod Receipts
+pub mod Words
+pub mod Items
+pub mod Trees

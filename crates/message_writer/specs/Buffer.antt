@@ -1,0 +1,20 @@
+-- Where words come to stand in a buffer that is lent (document 01, "An accepted call .. writes the tree at the buffer's
+-- start; words behind it keep their content"). Assumes nothing: these are definitions.
+use Prim.Native.Nat.{ℕ, _≤_}
+use mathlib.Core.List.{List, _++_}
+use mathlib.Core.Path.{_≡_}
+use lib.ListN.{length, drop}
+
+-- the buffer with the words at its start: "words behind it keep their content"
+unfoldable pub over : (words buffer : List ℕ) → List ℕ
+over ws buffer = ws ++ drop (length ws) buffer
+
+-- what a writer does that is lent the buffer `before`, leaves `after` and answers r: where the words fit they are written,
+-- and r is their number
+pub record Wrote (words before after : List ℕ) (r : ℕ) : Type 0 where
+  pub right : length words ≤ length before → (r ≡ length words) × (after ≡ over words before)
+
+-- To unfold this is to unfold every definition of this module: for a proof by computation.
+unfoldable pub computing : Unit {0}
+unfolding over
+computing = tt
