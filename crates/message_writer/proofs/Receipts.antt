@@ -1,4 +1,4 @@
--- The receipts around, as they are held, give a variable its receipt's new index. Assumes nothing.
+-- The receipts around, as they are lent, give a variable its receipt's new index. Assumes nothing.
 use Prim.Native.Nat.{ℕ, zero, suc, _-_, _≤_, _<_}
 use mathlib.Core.List.{List, [], _∷_}
 use mathlib.Core.Path.{_≡_, refl, sym, ap, _∙_}

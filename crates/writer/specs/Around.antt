@@ -1,5 +1,5 @@
--- The receipts around what is written, as they are held: in arrays of 64, filled from the end, so that those from `first` on
--- are innermost first. Assumes nothing: these are definitions.
+-- The receipts around what is written, as they are held: in arrays of 64, filled from the end, so that those from `first`
+-- on are innermost first. Assumes nothing: these are definitions.
 use Prim.Native.Nat.{_≤_}
 use lib.ListN.{drop}
 use Rattle.message_writer.specs.Write.{Indices}

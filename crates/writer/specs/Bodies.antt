@@ -1,5 +1,5 @@
--- What the writers of parts and bodies go by: a part's words, and what a closure is written with that the arrays hold.
--- Assumes nothing: these are definitions.
+-- What the writers of parts and bodies go by: who has a body, a part's message, and what a closure is written with that the
+-- arrays hold. Assumes nothing: these are definitions.
 use Prim.Native.Nat.{ℕ, _≤_, _<_}
 use mathlib.Core.Bool.{Bool, true, false}
 use mathlib.Core.List.{List, []}

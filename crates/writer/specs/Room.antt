@@ -1,5 +1,5 @@
--- Whether the written tree fits the buffer that is lent (document 01, question 19), what is then answered, and the buffer after
--- the call. Assumes nothing: these are definitions.
+-- Whether the written tree fits the buffer that is lent (document 01, question 19), what is then answered, and the buffer
+-- after the call. Assumes nothing: these are definitions.
 use Prim.Native.Nat.{ℕ, min}
 use mathlib.Core.Bool.{cond}
 use mathlib.Core.List.{List}
