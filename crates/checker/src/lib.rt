@@ -1,9 +1,9 @@
 // The call. It rests on the promises of all layers below.
 use bindings::tail;
 use closures::State;
-use closures::borrowed;
-use closures::lend;
 use closures::weigh;
+use lent_states::borrowed;
+use lent_states::lend;
 use messages::Outcome;
 use moves::first_state;
 use moves::try_move;
@@ -27,8 +27,8 @@ ghost use Rattle.scripts.specs.Script.{Script, readScript};
 ghost use Rattle.scripts.specs.Measures.{greatestName, movesBound};
 ghost use Rattle.rules.specs.Rule.{greatestRuleName};
 ghost use Rattle.closure_machine.specs.Closure.{Closure, unfolded, unfoldMachine};
-ghost use Rattle.closures.specs.Lent.{kindsIn, startsIn, standing, Lends};
 ghost use Rattle.closures.specs.Represents.{boundIn, Ready, Represents};
+ghost use Rattle.lent_states.specs.Lent.{kindsIn, startsIn, standing, Lends};
 ghost use Rattle.walk.specs.Visits.{walkedOf};
 ghost use Rattle.writer.specs.Bodies.{Scripted};
 ghost use Rattle.writer.specs.Buffer.{answered, buffered};

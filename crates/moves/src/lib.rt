@@ -1,23 +1,24 @@
-// The moves, made on a state that is lent. It rests on the promises of closures, bindings, messages and sets.
+// The moves, made on a state that is lent. It rests on the promises of lent_states, closures, bindings, messages
+// and sets.
 use bindings::bind;
 use bindings::none;
 use bindings::tail;
 use bindings::wide;
-use closures::Placed;
 use closures::State;
-use closures::bodies;
-use closures::borrowed;
 use closures::item_deed;
-use closures::lend;
 use closures::locate;
 use closures::looked;
-use closures::numbers_32;
-use closures::numbers_64;
 use closures::part_item;
-use closures::put_numbers;
-use closures::put_sets;
 use closures::targets;
 use closures::with_if;
+use lent_states::Placed;
+use lent_states::bodies;
+use lent_states::borrowed;
+use lent_states::lend;
+use lent_states::numbers_32;
+use lent_states::numbers_64;
+use lent_states::put_numbers;
+use lent_states::put_sets;
 use messages::First;
 ghost use mathlib.Core.Path.{_≡_};
 ghost use mathlib.Core.Bool.{true, false};
@@ -35,7 +36,7 @@ ghost use Rattle.closure_machine.specs.Closure.{Closure, under, settleUnder, cl
 ghost use Rattle.closures.specs.Searches.{SettlesBy};
 ghost use Rattle.closures.specs.Represents.{headOf, boundIn, Counted, Ready, Represents};
 ghost use Rattle.closures.specs.Makes.{Opens, Enters, Exits, Received, Receives, Moves, Tries};
-ghost use Rattle.closures.specs.Lent.{kindsIn, startsIn, bindingsAt, standing, Lends};
+ghost use Rattle.lent_states.specs.Lent.{kindsIn, startsIn, bindingsAt, standing, Lends};
 
 // What becomes of the parts of left when they are settled: an action with no items left goes, and its body comes in its
 // place; in the bodies of ambients too, which sets then holds. Where none of them is busy, nothing changes.

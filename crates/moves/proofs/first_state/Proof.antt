@@ -7,9 +7,9 @@ use Rattle.bindings.specs.declared.Bindings as arrays
 use Rattle.scripts.specs.Tree.{parts}
 use Rattle.closure_machine.specs.Closure.{Bindings, settleUnder, closureOf}
 use Rattle.closures.specs.Represents.{boundIn, Ready, Represents}
-use Rattle.closures.specs.Lent.{standing}
 use Rattle.closures.specs.declared.State.{State}
-use Rattle.closures.proofs.Standing.{looks-same}
+use Rattle.lent_states.specs.Lent.{standing}
+use Rattle.lent_states.proofs.Standing.{looks-same}
 use Rattle.moves.proofs.Settled.{begun, ready-same}
 use borrow.Author.Needs.{needs}
 use Rattle.moves.proofs.first_state.Statement.{statement}

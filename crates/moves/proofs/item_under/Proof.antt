@@ -6,8 +6,8 @@ use Rattle.bindings.specs.Held.{bindingsOf}
 use Rattle.bindings.specs.Measures.{Kept, itemCount}
 use Rattle.machine.specs.Moves.{firstOf}
 use Rattle.closure_machine.specs.Closure.{Bindings, under}
-use Rattle.closures.specs.Lent.{stretch, bindingsAt}
 use Rattle.closures.specs.Represents.{headOf}
+use Rattle.lent_states.specs.Lent.{stretch, bindingsAt}
 use borrow.Author.Needs.{needs}
 use Rattle.moves.proofs.item_under.Statement.{statement}
 use Rattle.moves.proofs.item_under.Tie as tie

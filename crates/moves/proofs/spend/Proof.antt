@@ -7,9 +7,9 @@ use lib.ListN.{getD}
 use Rattle.sets.specs.Sets.{members, elem, remove, insert}
 use Rattle.closures.specs.Seen.{nameIn, actOf, aimOf, busyOf}
 use mathlib.Core.Bool.{Bool, cond}
-use Rattle.closures.specs.Lent.{stretch}
-use Rattle.closures.proofs.Copying.{getD-stretch}
-use Rattle.closures.proofs.Standing.{spent-kids, kinds-kept, starts-kept, spent-bindings, offsets-raised, spent-lends}
+use Rattle.lent_states.specs.Lent.{stretch}
+use Rattle.lent_states.proofs.Copying.{getD-stretch}
+use Rattle.lent_states.proofs.Standing.{spent-kids, kinds-kept, starts-kept, spent-bindings, offsets-raised, spent-lends}
 use borrow.Author.Needs.{needs}
 use Rattle.moves.proofs.spend.Statement.{statement}
 use Rattle.moves.proofs.spend.Tie as tie
