@@ -18,7 +18,7 @@ use Rattle.closures.specs.declared.State.{State}
 use Rattle.lent_states.specs.Lent.{stretch, kindsIn, startsIn, bindingsAt, standing, Put, Small, Lends}
 use Rattle.lent_states.proofs.Copying.{length-stretch}
 use Rattle.lent_states.proofs.Standing.{body-in, kids-set, looks-same}
-use Rattle.moves.proofs.Settled.{ready-same}
+use Rattle.settling.proofs.Settled.{ready-same}
 use Rattle.moves.proofs.Finishing.{opens, enters, exits, receives, room}
 
 -- sets that differ in bodies alone serve as well

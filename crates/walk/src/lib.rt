@@ -1,6 +1,6 @@
 // What the words of a rule ask of the process that a state stands for (document 01, "The rule and its walk"), a state being
-// lent as two arrays and made only where a move or PLACED changes it. It rests on the promises of moves, lent_states,
-// closures, rules and sets.
+// lent as two arrays and made only where a move or PLACED changes it. It rests on the promises of moves, settling,
+// lent_states, closures, rules and sets.
 use closures::State;
 use closures::locate;
 use closures::targets;
@@ -8,9 +8,9 @@ use lent_states::bodies;
 use lent_states::borrowed;
 use lent_states::lend;
 use moves::make_move;
-use moves::place_part;
 use rules::RuleTerm;
 use rules::term_of;
+use settling::place_part;
 ghost use mathlib.Core.Path.{_≡_};
 ghost use mathlib.Core.Bool.{false};
 ghost use Prim.Native.Nat.{ℕ, _+_, _-_, _≤_, _<_, max};

@@ -19,7 +19,7 @@ use Rattle.checker.proofs.run_list.Reads as run-list-reads
 use Rattle.checker.proofs.with_moves.Reads as with-moves-reads
 use Rattle.lent_states.proofs.borrowed.Reads as borrowed-reads
 use Rattle.lent_states.proofs.lend.Reads as lend-reads
-use Rattle.moves.proofs.first_state.Reads as first-state-reads
+use Rattle.settling.proofs.first_state.Reads as first-state-reads
 
 -- what is lent are arrays
 abbrev Lending : Type 0

@@ -14,8 +14,8 @@ use Rattle.lent_states.proofs.borrowed.Reads as borrowed-reads
 use Rattle.lent_states.proofs.lend.Reads as lend-reads
 use Rattle.lent_states.proofs.put_numbers.Reads as put-numbers-reads
 use Rattle.lent_states.proofs.put_sets.Reads as put-sets-reads
-use Rattle.moves.proofs.received.Reads as received-reads
-use Rattle.moves.proofs.settle.Reads as settle-reads
+use Rattle.settling.proofs.received.Reads as received-reads
+use Rattle.settling.proofs.settle.Reads as settle-reads
 
 -- what is lent are arrays
 abbrev Lends : Type 0

@@ -6,8 +6,8 @@ use Rattle.closures.specs.Makes.{Moves}
 use Rattle.closures.specs.declared.State.{State}
 use Rattle.lent_states.specs.Lent.{kindsIn, startsIn, stateIn, standing}
 use Rattle.lent_states.proofs.Standing.{standing-top}
+use Rattle.settling.proofs.Settled.{ready-same}
 use Rattle.moves.proofs.LentMoves.{lends-set}
-use Rattle.moves.proofs.Settled.{ready-same}
 use borrow.Author.Needs.{needs}
 use Rattle.walk.proofs.after_move.Statement.{statement}
 use Rattle.walk.proofs.after_move.Tie as tie

@@ -8,7 +8,7 @@ use lib.Dec.{eqb}
 use borrow.Author.Tests.{eqb-true, eq-eqb}
 use Rattle.sets.specs.Sets.{members, elem, insert, join, both, keep, headOr, tail, Rising, Below}
 use Rattle.sets.proofs.Members.{insert-front, elem-keep, members-empty, members-same, members-below}
-use Rattle.scripts.specs.Tree.{ambient, action, receipt, output, close, part, one, isAmbient, tops, sum, parts, count, settleBy}
+use Rattle.scripts.specs.Tree.{ambient, action, receipt, output, close, part, one, isAmbient, tops, sum, count, settleBy}
 use Rattle.scripts.specs.Represents.{Held}
 use Rattle.machine.proofs.Options.{byTest}
 use Rattle.machine.proofs.Sums.{settle-sum}

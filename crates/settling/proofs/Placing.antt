@@ -9,7 +9,7 @@ use lib.Seq.{getD-set-same, getD-set-other, lt-length-set}
 use borrow.Author.Tests.{eqb-true, ne-eqb, le-ltb}
 use Rattle.messages.specs.Message.{name}
 use Rattle.sets.specs.Sets.{members}
-use Rattle.scripts.specs.Tree.{ambient, close, part, one, tops, sum, parts, count}
+use Rattle.scripts.specs.Tree.{ambient, close, part, tops, sum, parts, count}
 use Rattle.scripts.specs.Represents.{bodyIn}
 use Rattle.bindings.specs.Resolve.{messageOf}
 use Rattle.bindings.specs.declared.Bindings as arrays

@@ -7,8 +7,8 @@ use Rattle.sets.specs.Sets.{members, remove, join}
 use Rattle.bindings.specs.Held.{bindingsOf}
 use Rattle.bindings.specs.declared.Bindings as arrays
 use borrow.Author.Needs.{needs}
-use Rattle.moves.proofs.received.Statement.{statement}
-use Rattle.moves.proofs.received.Tie as tie
+use Rattle.settling.proofs.received.Statement.{statement}
+use Rattle.settling.proofs.received.Tie as tie
 
 returns : tie.Need-returns
 returns c = (c .before .before .before .before .pre .3, λ n. absurd (n (c .if1 .taken)))

@@ -23,12 +23,12 @@ use Rattle.scripts.specs.Represents.{bodyIn}
 use Rattle.closure_machine.specs.Closure.{ClosureHead, Bindings}
 use Rattle.closures.specs.Searches.{Settles}
 use Rattle.closures.specs.Seen.{busyUnder, Busy, Ambients}
-use Rattle.moves.proofs.Settling.{not-busy, busy-ambient, busy-spent, none-busy, some-busy, settle-quiet, settle-no-fuel, settle-keeps, settle-melts, settle-enters}
-use Rattle.moves.proofs.settle_below.Reads as settle-below
-use Rattle.moves.proofs.settle_below.Kinds as settle-below-kinds
-use Rattle.moves.proofs.+settle_below.Lts-settle_below as settle-below-lts
-use Rattle.moves.proofs.+settle_below.{statement}
-use Rattle.moves.proofs.+settle_below.Tie.{close}
+use Rattle.settling.proofs.Settling.{not-busy, busy-ambient, busy-spent, none-busy, some-busy, settle-quiet, settle-no-fuel, settle-keeps, settle-melts, settle-enters}
+use Rattle.settling.proofs.settle_below.Reads as settle-below
+use Rattle.settling.proofs.settle_below.Kinds as settle-below-kinds
+use Rattle.settling.proofs.+settle_below.Lts-settle_below as settle-below-lts
+use Rattle.settling.proofs.+settle_below.{statement}
+use Rattle.settling.proofs.+settle_below.Tie.{close}
 
 abbrev μ-settle-below : Measures 2 settle-below-kinds.ps ℕ
 μ-settle-below κs a = a .1 .1 .1 .1 .0

@@ -10,10 +10,10 @@ use Rattle.closures.specs.Represents.{boundIn, Ready, Represents}
 use Rattle.closures.specs.declared.State.{State}
 use Rattle.lent_states.specs.Lent.{standing}
 use Rattle.lent_states.proofs.Standing.{looks-same}
-use Rattle.moves.proofs.Settled.{begun, ready-same}
+use Rattle.settling.proofs.Settled.{begun, ready-same}
 use borrow.Author.Needs.{needs}
-use Rattle.moves.proofs.first_state.Statement.{statement}
-use Rattle.moves.proofs.first_state.Tie as tie
+use Rattle.settling.proofs.first_state.Statement.{statement}
+use Rattle.settling.proofs.first_state.Tie as tie
 
 looked-requires : tie.Need-looked-requires
 looked-requires c κs = c .none .ensures (c .before .before .args .script .now) .0

@@ -3,13 +3,13 @@ use mathlib.Core.Path.{_≡_, ap}
 use native.Mathlib.Omega.{arith}
 use lib.ListN.{length}
 use Rattle.bindings.specs.Held.{bindingsOf}
-use Rattle.moves.proofs.Placing.{placed-is}
+use Rattle.settling.proofs.Placing.{placed-is}
 use borrow.Author.Needs.{needs}
 use borrow.Author.Needs.{needs}
-use Rattle.moves.proofs.place_part.Statement.{statement}
-use Rattle.moves.proofs.place_part.Tie as tie
-use Rattle.moves.proofs.place_part.Reads as reads
-use Rattle.moves.proofs.place_part.Lts as lts
+use Rattle.settling.proofs.place_part.Statement.{statement}
+use Rattle.settling.proofs.place_part.Tie as tie
+use Rattle.settling.proofs.place_part.Reads as reads
+use Rattle.settling.proofs.place_part.Lts as lts
 use Rattle.closures.proofs.looked.Reads as looked-reads
 use Rattle.sets.proofs.single.Reads as single-reads
 

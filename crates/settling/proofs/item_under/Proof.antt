@@ -9,8 +9,8 @@ use Rattle.closure_machine.specs.Closure.{Bindings, under}
 use Rattle.closures.specs.Represents.{headOf}
 use Rattle.lent_states.specs.Lent.{stretch, bindingsAt}
 use borrow.Author.Needs.{needs}
-use Rattle.moves.proofs.item_under.Statement.{statement}
-use Rattle.moves.proofs.item_under.Tie as tie
+use Rattle.settling.proofs.item_under.Statement.{statement}
+use Rattle.settling.proofs.item_under.Tie as tie
 
 part-item-requires : tie.Need-part-item-requires
 part-item-requires c κs =

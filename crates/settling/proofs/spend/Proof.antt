@@ -11,8 +11,8 @@ use Rattle.lent_states.specs.Lent.{stretch}
 use Rattle.lent_states.proofs.Copying.{getD-stretch}
 use Rattle.lent_states.proofs.Standing.{spent-kids, kinds-kept, starts-kept, spent-bindings, offsets-raised, spent-lends}
 use borrow.Author.Needs.{needs}
-use Rattle.moves.proofs.spend.Statement.{statement}
-use Rattle.moves.proofs.spend.Tie as tie
+use Rattle.settling.proofs.spend.Statement.{statement}
+use Rattle.settling.proofs.spend.Tie as tie
 
 -- a part's kind, in the table and in the numbers
 kind-in : (numbers : List ℕ) (a : ℕ) → a < 64 → getD (stretch 0 64 numbers) a 0 ≡ getD numbers a 0

@@ -3,10 +3,10 @@ use mathlib.Core.Path.{_∙_}
 use native.Mathlib.Omega.{arith}
 use lib.ListN.{length-set}
 use lib.Seq.{getD-set-other}
-use Rattle.moves.proofs.Settled.{settled-is}
+use Rattle.settling.proofs.Settled.{settled-is}
 use borrow.Author.Needs.{needs}
-use Rattle.moves.proofs.settle.Statement.{statement}
-use Rattle.moves.proofs.settle.Tie as tie
+use Rattle.settling.proofs.settle.Statement.{statement}
+use Rattle.settling.proofs.settle.Tie as tie
 
 returns : tie.Need-returns
 returns c =

@@ -15,23 +15,23 @@ use Rattle.scripts.specs.Script.{Written, Script}
 use Rattle.scripts.specs.Represents.{Held, bodyIn, headAt, headIn, written, Tabled}
 use Rattle.scripts.proofs.Numbers.{numbered-range}
 use Rattle.bindings.specs.Resolve.{messageOf}
+use Rattle.bindings.specs.declared.Bindings as arrays
+use Rattle.bindings.specs.Held.{bindingsOf}
 use Rattle.machine.proofs.Options.{byTest}
 use Rattle.machine.proofs.Sums.{map-sum, settle-sum}
 use Rattle.machine.proofs.Naturality.{tops-map}
 use Rattle.closure_machine.specs.Closure.{ClosureHead, Closure, Bindings, allSpent, settleUnder, wholeHead, closureOf}
 use Rattle.closures.specs.Represents.{headOf, heads, boundIn, Counted, Ready, Represents}
 use Rattle.closures.specs.Searches.{SettlesBy}
-use Rattle.lent_states.specs.Lent.{kindsIn, standing}
-use Rattle.bindings.specs.declared.Bindings as arrays
-use Rattle.bindings.specs.Held.{bindingsOf}
 use Rattle.closures.specs.Seen.{Seen}
 use Rattle.closures.specs.declared.Looks.{Looks}
 use Rattle.closures.specs.declared.State.{State}
 use Rattle.closures.proofs.Holding.{differ, frame}
 use Rattle.closures.proofs.Heads.{kind-ambient}
-use Rattle.moves.proofs.Settling.{settled-count}
+use Rattle.lent_states.specs.Lent.{kindsIn, standing}
 use Rattle.lent_states.proofs.Copying.{getD-stretch}
 use Rattle.lent_states.proofs.Standing.{below-64, body-in}
+use Rattle.settling.proofs.Settling.{settled-count}
 
 -- the state after its parts are settled from the top
 pub settled-is : (script kinds starts : List ℕ) (weight spent : ℕ) (sets numbers : List ℕ) (b : Closure) (after : List ℕ) (m : ℕ) → kindsIn numbers ≡ kinds → Ready script kinds starts (standing sets numbers)
