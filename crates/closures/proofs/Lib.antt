@@ -16,7 +16,5 @@ pub mod Acting
 pub mod Possible
 pub mod Aiming
 pub mod Arrays
-pub mod Copying
-pub mod Standing
 pub mod Weighing
 pub mod Making

@@ -4,4 +4,3 @@ pub mod Searches
 pub mod Seen
 pub mod Targets
 pub mod Makes
-pub mod Lent

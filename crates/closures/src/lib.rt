@@ -1,5 +1,5 @@
-// What the engine keeps of a closure: its state, what is asked of the parts again and again, and a state as two arrays for
-// lending. It rests on the promises of bindings, scripts, messages and sets.
+// What the engine keeps of a closure: its state, what is asked of the parts again and again, the places of the parts, the
+// targets of an actor and the weight. It rests on the promises of bindings, scripts, messages and sets.
 use bindings::Bindings;
 use bindings::first_item;
 use bindings::name_at;
@@ -12,7 +12,7 @@ ghost use mathlib.Core.Bool.{Bool, true, false, cond};
 ghost use mathlib.Core.List.{List};
 ghost use Prim.Native.Nat.{ℕ, _+_, _*_, _-_, _≤_, _<_};
 ghost use lib.Dec.{eqb};
-ghost use lib.ListN.{length, getD, set};
+ghost use lib.ListN.{length, getD};
 ghost use Rattle.sets.specs.Sets.{members, elem, insert};
 ghost use Rattle.scripts.specs.Tree.{parts};
 ghost use Rattle.scripts.specs.Represents.{bodyIn};
@@ -23,7 +23,6 @@ ghost use Rattle.closure_machine.specs.Closure.{ClosureHead, Closure, under};
 ghost use Rattle.closures.specs.Searches.{LocatesBy, Located, CountsParts};
 ghost use Rattle.closures.specs.Represents.{headOf, heads, Counted, Ready, Represents};
 ghost use Rattle.closures.specs.Targets.{isWithin, isBeside, isAround, TargetsOf};
-ghost use Rattle.closures.specs.Lent.{stretch, kindsIn, startsIn, stateIn, standing, Put, Small};
 ghost use Rattle.closures.specs.Seen.{nameIn, actOf, aimOf, busyOf, isOutput, Does, kept, Seen};
 
 // What is kept of the parts: the set of those that have a name, and their names; what each does first (1 OPEN, 2 IN,
@@ -360,249 +359,6 @@ pub fn looked<'a>(
         offsets,
         looks,
         bindings,
-    }
-}
-
-// ---- A state for lending.
-
-// A state beside the part table to which it belongs.
-pub struct Placed {
-    pub kinds: [u8; 64],
-    pub starts: [u32; 64],
-    pub state: State,
-}
-
-// A state and its part table as two arrays: in sets the bodies, the parts that are aimed at from 65 on, the named parts at
-// 129 and the busy ones at 130; in numbers the kinds, starts, offsets, names and acts, 64 of each, from 320 on the five
-// arrays of the bindings, 32 of each, and at 480 the first binding.
-pub struct Lent {
-    pub sets: [u64; 131],
-    pub numbers: [u32; 481],
-}
-
-// Writes the numbers of from at the place at.
-pub fn put_numbers<'a, 'b>(to: &'b mut [u32; 481], at: usize, from: &'a [u32])
-    requires { ⌜ (length (now to) ≡ 481) × (at + length (now from) ≤ 481) ⌝ }
-    ensures kept { λ r. ⌜ length (now (to .exit)) ≡ 481 ⌝ }
-    ensures put { λ r. ⌜ Put at (now (from .entry)) (now (to .entry)) (now (to .exit)) ⌝ }
-{
-    let mut i: usize = 0;
-    while i < from.len() {
-        to[at + i] = from[i];
-        i += 1;
-    }
-}
-
-// Writes the numbers of from at the place at.
-pub fn put_sets<'a, 'b>(to: &'b mut [u64; 131], at: usize, from: &'a [u64])
-    requires { ⌜ (length (now to) ≡ 131) × (at + length (now from) ≤ 131) ⌝ }
-    ensures kept { λ r. ⌜ length (now (to .exit)) ≡ 131 ⌝ }
-    ensures put { λ r. ⌜ Put at (now (from .entry)) (now (to .entry)) (now (to .exit)) ⌝ }
-{
-    let mut i: usize = 0;
-    while i < from.len() {
-        to[at + i] = from[i];
-        i += 1;
-    }
-}
-
-// The 64 of them from the place at on.
-pub fn numbers_64(from: &[u32; 481], at: usize) -> [u32; 64]
-    requires { ⌜ at + 64 ≤ 481 ⌝ }
-    ensures { λ r. ⌜ r ≡ stretch at 64 (now (from .entry)) ⌝ }
-{
-    let mut r: [u32; 64] = [0; 64];
-    let mut i: usize = 0;
-    while i < 64 {
-        r[i] = from[at + i];
-        i += 1;
-    }
-    r
-}
-
-// The 32 of them from the place at on.
-pub fn numbers_32(from: &[u32; 481], at: usize) -> [u32; 32]
-    requires { ⌜ at + 32 ≤ 481 ⌝ }
-    ensures { λ r. ⌜ r ≡ stretch at 32 (now (from .entry)) ⌝ }
-{
-    let mut r: [u32; 32] = [0; 32];
-    let mut i: usize = 0;
-    while i < 32 {
-        r[i] = from[at + i];
-        i += 1;
-    }
-    r
-}
-
-// The 64 of them from the place at on.
-fn sets_64(from: &[u64; 131], at: usize) -> [u64; 64]
-    requires { ⌜ at + 64 ≤ 131 ⌝ }
-    ensures { λ r. ⌜ r ≡ stretch at 64 (now (from .entry)) ⌝ }
-{
-    let mut r: [u64; 64] = [0; 64];
-    let mut i: usize = 0;
-    while i < 64 {
-        r[i] = from[at + i];
-        i += 1;
-    }
-    r
-}
-
-// The 65 of them from the place at on.
-fn sets_65(from: &[u64; 131], at: usize) -> [u64; 65]
-    requires { ⌜ at + 65 ≤ 131 ⌝ }
-    ensures { λ r. ⌜ r ≡ stretch at 65 (now (from .entry)) ⌝ }
-{
-    let mut r: [u64; 65] = [0; 65];
-    let mut i: usize = 0;
-    while i < 65 {
-        r[i] = from[at + i];
-        i += 1;
-    }
-    r
-}
-
-// Small numbers as bytes, and bytes as numbers.
-fn narrow(from: [u32; 64]) -> [u8; 64]
-    ensures { λ r. ⌜ (((i : ℕ) → i < 64 → getD from i 0 < 256) → r ≡ from) ⌝ }
-{
-    let mut r: [u8; 64] = [0; 64];
-    let mut i: usize = 0;
-    while i < 64 {
-        let n = from[i];
-        r[i] = (n % 256) as u8;
-        i += 1;
-    }
-    r
-}
-
-fn widen(from: [u8; 64]) -> [u32; 64]
-    ensures { λ r. ⌜ (r ≡ from) × ((i : ℕ) → i < 64 → getD r i 0 < 256) ⌝ }
-{
-    let mut r: [u32; 64] = [0; 64];
-    let mut i: usize = 0;
-    while i < 64 {
-        let n = from[i];
-        r[i] = n as u32;
-        i += 1;
-    }
-    r
-}
-
-// The numbers of the parts, in their places.
-fn part_numbers(
-    kinds: [u8; 64],
-    starts: [u32; 64],
-    offsets: [u32; 64],
-    names: [u32; 64],
-    acts: [u8; 64],
-) -> [u32; 481]
-    ensures tables { λ r. ⌜ (kindsIn r ≡ kinds) × (startsIn r ≡ starts) × (stretch 128 64 r ≡ offsets) × (stretch 192 64 r ≡ names) × (stretch 256 64 r ≡ acts) ⌝ }
-    ensures small { λ r. ⌜ Small r ⌝ }
-{
-    let wide_kinds = widen(kinds);
-    let wide_acts = widen(acts);
-    let mut r: [u32; 481] = [0; 481];
-    put_numbers(&mut r, 0, &wide_kinds);
-    put_numbers(&mut r, 64, &starts);
-    put_numbers(&mut r, 128, &offsets);
-    put_numbers(&mut r, 192, &names);
-    put_numbers(&mut r, 256, &wide_acts);
-    r
-}
-
-// The same, with those of the bindings.
-fn with_bindings(numbers: [u32; 481], bindings: Bindings) -> [u32; 481]
-    requires { ⌜ bindings .first ≤ 32 ⌝ }
-    ensures arrays { λ r. ⌜ (stretch 320 32 r ≡ bindings .variables) × (stretch 352 32 r ≡ bindings .places) × (stretch 384 32 r ≡ bindings .counts) × (stretch 416 32 r ≡ bindings .sizes) × (stretch 448 32 r ≡ bindings .bulks) × (getD r 480 0 ≡ bindings .first) ⌝ }
-    ensures others { λ r. ⌜ ((i n : ℕ) → i + n ≤ 320 → stretch i n r ≡ stretch i n numbers) ⌝ }
-{
-    let variables = bindings.variables;
-    let places = bindings.places;
-    let counts = bindings.counts;
-    let sizes = bindings.sizes;
-    let bulks = bindings.bulks;
-    let first = bindings.first;
-    let mut r = numbers;
-    put_numbers(&mut r, 320, &variables);
-    put_numbers(&mut r, 352, &places);
-    put_numbers(&mut r, 384, &counts);
-    put_numbers(&mut r, 416, &sizes);
-    put_numbers(&mut r, 448, &bulks);
-    r[480] = first as u32;
-    r
-}
-
-// The sets, in their places.
-fn all_sets(kids: [u64; 65], aims: [u64; 64], named: u64, busy: u64) -> [u64; 131]
-    ensures { λ r. ⌜ (stretch 0 65 r ≡ kids) × (stretch 65 64 r ≡ aims) × (getD r 129 0 ≡ named) × (getD r 130 0 ≡ busy) ⌝ }
-{
-    let mut r: [u64; 131] = [0; 131];
-    put_sets(&mut r, 0, &kids);
-    put_sets(&mut r, 65, &aims);
-    r[129] = named;
-    r[130] = busy;
-    r
-}
-
-// A state and its part table, for lending.
-pub fn lend(kinds: [u8; 64], starts: [u32; 64], state: State) -> Lent
-    requires { ⌜ state .bindings .first ≤ 32 ⌝ }
-    ensures tables { λ r. ⌜ (kindsIn (r .numbers) ≡ kinds) × (startsIn (r .numbers) ≡ starts) × Small (r .numbers) ⌝ }
-    ensures state { λ r. ⌜ standing (r .sets) (r .numbers) ≡ state ⌝ }
-{
-    let kids = state.kids;
-    let offsets = state.offsets;
-    let looks = state.looks;
-    let names = looks.names;
-    let acts = looks.acts;
-    let aims = looks.aims;
-    let parts = part_numbers(kinds, starts, offsets, names, acts);
-    let numbers = with_bindings(parts, state.bindings);
-    let sets = all_sets(kids, aims, looks.named, looks.busy);
-    Lent { sets, numbers }
-}
-
-// The bodies that were lent, with top as the set of the top parts.
-pub fn bodies(sets: &[u64; 131], top: u64) -> [u64; 65]
-    ensures { λ r. ⌜ r ≡ set (stretch 0 65 (now (sets .entry))) 64 top ⌝ }
-{
-    let mut kids = sets_65(sets, 0);
-    kids[64] = top;
-    kids
-}
-
-// What was lent, with top as the set of the top parts.
-pub fn borrowed<'a>(sets: &'a [u64; 131], numbers: &'a [u32; 481], top: u64) -> Placed
-    ensures { λ r. ⌜ (Small (now (numbers .entry)) → (r .kinds ≡ kindsIn (now (numbers .entry))) × (r .starts ≡ startsIn (now (numbers .entry))) × (r .state ≡ stateIn (now (sets .entry)) (now (numbers .entry)) top)) ⌝ }
-{
-    let mut kids = sets_65(sets, 0);
-    kids[64] = top;
-    let looks = Looks {
-        named: sets[129],
-        names: numbers_64(numbers, 192),
-        acts: narrow(numbers_64(numbers, 256)),
-        aims: sets_64(sets, 65),
-        busy: sets[130],
-    };
-    let bindings = Bindings {
-        variables: numbers_32(numbers, 320),
-        places: numbers_32(numbers, 352),
-        counts: numbers_32(numbers, 384),
-        sizes: numbers_32(numbers, 416),
-        bulks: numbers_32(numbers, 448),
-        first: wide(numbers[480]),
-    };
-    let offsets = numbers_64(numbers, 128);
-    Placed {
-        kinds: narrow(numbers_64(numbers, 0)),
-        starts: numbers_64(numbers, 64),
-        state: State {
-            kids,
-            offsets,
-            looks,
-            bindings,
-        },
     }
 }
 

@@ -14,7 +14,7 @@ use Rattle.messages.specs.declared.Named.the-variants.{Nameless}
 use Rattle.messages.specs.declared.First.{First}
 use Rattle.messages.specs.declared.First.the-variants.{Nothing}
 use Rattle.sets.specs.Sets.{members, elem, insert, remove, join}
-use Rattle.scripts.specs.Tree.{receipt, output, parts}
+use Rattle.scripts.specs.Tree.{receipt, output}
 use Rattle.scripts.specs.Represents.{bodyIn}
 use Rattle.bindings.specs.Held.{bindingsOf}
 use Rattle.bindings.specs.declared.Bindings as arrays

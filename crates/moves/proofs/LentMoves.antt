@@ -2,7 +2,7 @@
 -- stands is settled. Each array here is the one before it with some entries changed. Assumes nothing.
 use Prim.Native.Nat.{ℕ, _+_, _≤_, _<_}
 use mathlib.Core.List.{List}
-use mathlib.Core.Path.{_≡_, refl, sym, ap, _∙_, subst, subst₂, transport}
+use mathlib.Core.Path.{_≡_, refl, sym, ap, _∙_, subst₂, transport}
 use native.Mathlib.Omega.{arith}
 use lib.Dec.{eqb}
 use lib.ListN.{getD, set, length, length-set}
@@ -13,12 +13,12 @@ use Rattle.scripts.specs.Represents.{bodyIn}
 use Rattle.machine.proofs.Options.{byTest}
 use Rattle.closure_machine.specs.Closure.{Closure, settleUnder}
 use Rattle.closures.specs.Represents.{boundIn, Ready, Represents}
-use Rattle.closures.specs.Lent.{stretch, kindsIn, startsIn, bindingsAt, standing, Put, Small, Lends}
 use Rattle.closures.specs.Makes.{Opens, Enters, Exits, Received, Receives}
 use Rattle.closures.specs.declared.State.{State}
-use Rattle.closures.proofs.Copying.{length-stretch}
-use Rattle.closures.proofs.Standing.{body-in, kids-set, looks-same}
-use Rattle.moves.proofs.Settled.{ready-same}
+use Rattle.lent_states.specs.Lent.{stretch, kindsIn, startsIn, bindingsAt, standing, Put, Small, Lends}
+use Rattle.lent_states.proofs.Copying.{length-stretch}
+use Rattle.lent_states.proofs.Standing.{body-in, kids-set, looks-same}
+use Rattle.settling.proofs.Settled.{ready-same}
 use Rattle.moves.proofs.Finishing.{opens, enters, exits, receives, room}
 
 -- sets that differ in bodies alone serve as well

@@ -1,7 +1,4 @@
 -- Laws of the moves as the engine makes them on lent arrays. Assumes nothing.
-pub mod Settling
-pub mod Settled
-pub mod Placing
 pub mod Finishing
 pub mod Dispatch
 pub mod LentMoves

@@ -8,8 +8,8 @@ use lib.ListN.{getD, length}
 use Rattle.messages.specs.Words.{member}
 use Rattle.rules.specs.declared.RuleTable.{RuleTable}
 use Rattle.closures.specs.Represents.{Ready, Represents}
-use Rattle.closures.specs.Lent.{kindsIn, startsIn, stateIn}
 use Rattle.closures.specs.declared.State.{State}
+use Rattle.lent_states.specs.Lent.{kindsIn, startsIn, stateIn}
 use Rattle.decision.specs.Walk.{Count}
 use Rattle.walk.specs.Visits.{countOf, machineOf, Scene, visits, Visits, Walks}
 use Rattle.walk.specs.declared.Counts.{Counts}

@@ -24,8 +24,8 @@ use Rattle.rules.proofs.Inversion.{Told}
 use Rattle.closure_machine.specs.Closure.{Closure, ClosureHead, ClosureMachine, Bindings}
 use Rattle.closures.specs.Seen.{nameIn}
 use Rattle.closures.specs.Represents.{heads, boundIn, Represents}
-use Rattle.closures.specs.Lent.{stretch, kindsIn, startsIn, stateIn}
-use Rattle.closures.proofs.Copying.{length-stretch, getD-stretch}
+use Rattle.lent_states.specs.Lent.{stretch, kindsIn, startsIn, stateIn}
+use Rattle.lent_states.proofs.Copying.{length-stretch, getD-stretch}
 use Rattle.walk.specs.Pieces.{Room, Divides}
 use Rattle.closures.specs.declared.State.{State}
 use Rattle.decision.specs.Walk.{says, ifAny, look, counted, walk}

@@ -23,8 +23,8 @@ use Rattle.rules.specs.declared.RuleTerm.the-variants as terms
 use Rattle.rules.proofs.Inversion.{Told, rule-told, rule-inside, constant-said, chosen-said}
 use Rattle.closure_machine.specs.Closure.{Action, Closure, closureMove}
 use Rattle.closures.specs.Represents.{heads, boundIn, Represents}
-use Rattle.closures.specs.Lent.{stretch, kindsIn, startsIn, stateIn}
-use Rattle.closures.proofs.Copying.{length-stretch}
+use Rattle.lent_states.specs.Lent.{stretch, kindsIn, startsIn, stateIn}
+use Rattle.lent_states.proofs.Copying.{length-stretch}
 use Rattle.walk.specs.Pieces.{Piece}
 use Rattle.walk.specs.Visits.{indices, Chosen, Stage, nameSaid, Lendable, Scene}
 use Rattle.walk.specs.declared.Limits.{Limits}

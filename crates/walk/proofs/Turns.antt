@@ -22,10 +22,10 @@ use Rattle.closures.specs.Searches.{place, Located}
 use Rattle.closures.specs.Targets.{isSome, TargetsOf}
 use Rattle.closures.specs.Makes.{Moves}
 use Rattle.closures.specs.Represents.{heads, boundIn}
-use Rattle.closures.specs.Lent.{stretch, kindsIn, startsIn, stateIn}
 use Rattle.closures.specs.declared.State.{State}
-use Rattle.closures.proofs.Copying.{length-stretch, getD-stretch}
 use Rattle.closures.proofs.Aiming.{state-places, state-targets}
+use Rattle.lent_states.specs.Lent.{stretch, kindsIn, startsIn, stateIn}
+use Rattle.lent_states.proofs.Copying.{length-stretch, getD-stretch}
 use Rattle.decision.specs.Walk.{Count, range, onYes, onNo, firstYes, look, movesTo, movesFrom, lastName}
 use Rattle.decision.specs.Walk as spec
 use Rattle.decision.specs.ClosureWalk.{closureSpace, divisions, shares, insides, nexts}

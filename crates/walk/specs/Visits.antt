@@ -10,7 +10,7 @@ use Rattle.sets.specs.Sets.{members, elem}
 use Rattle.messages.specs.Words.{kind, member}
 use Rattle.scripts.specs.Tree.{count}
 use Rattle.scripts.specs.Represents.{bodyIn}
-use Rattle.rules.specs.Rule.{Later, Term, constant, chosen, Names, lookup, Rule, always, negation, either, void, at, beside, some-name, sometime, somewhere, placed, ruleIndex}
+use Rattle.rules.specs.Rule.{Later, Term, constant, chosen, Names, lookup, Rule, beside, sometime, ruleIndex}
 use Rattle.messages.specs.Reading.{Cursor}
 use Rattle.rules.specs.Ruled.{Ruled, Tabled}
 use Rattle.rules.specs.declared.RuleTable.{RuleTable}
@@ -18,8 +18,8 @@ use Rattle.closure_machine.specs.Closure.{Closure, ClosureMachine, closureMove}
 use Rattle.closures.specs.Searches.{place}
 use Rattle.closures.specs.Targets.{isSome}
 use Rattle.closures.specs.Represents.{heads, boundIn, Ready, Represents}
-use Rattle.closures.specs.Lent.{Small, kindsIn, startsIn, stateIn}
 use Rattle.closures.specs.declared.State.{State}
+use Rattle.lent_states.specs.Lent.{Small, kindsIn, startsIn, stateIn}
 use Rattle.decision.specs.Walk.{Count, Setting, onYes, firstYes, look, walk, walkFrom, movesTo}
 use Rattle.decision.specs.Walk as spec
 use Rattle.decision.specs.ClosureWalk.{closureSpace, machineAfter}

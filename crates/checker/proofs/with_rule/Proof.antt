@@ -4,7 +4,7 @@ use native.Mathlib.Omega.{arith}
 use borrow.Author.Tests.{le-leb, lt-leb}
 use lib.ListN.{length}
 use Rattle.closures.specs.Represents.{Ready}
-use Rattle.closures.specs.Lent.{standing}
+use Rattle.lent_states.specs.Lent.{standing}
 use Rattle.checker.specs.Running.{Runs}
 use Rattle.checker.proofs.Calling.{calm, restless, says-patience, says-many, list-halted, list-made}
 use Rattle.checker.proofs.Concluding.{script-fits}
@@ -17,9 +17,9 @@ use Rattle.checker.proofs.with_rule.Lts as lts
 use Rattle.checker.proofs.refused.Reads as refused-reads
 use Rattle.checker.proofs.run_list.Reads as run-list-reads
 use Rattle.checker.proofs.with_moves.Reads as with-moves-reads
-use Rattle.closures.proofs.borrowed.Reads as borrowed-reads
-use Rattle.closures.proofs.lend.Reads as lend-reads
-use Rattle.moves.proofs.first_state.Reads as first-state-reads
+use Rattle.lent_states.proofs.borrowed.Reads as borrowed-reads
+use Rattle.lent_states.proofs.lend.Reads as lend-reads
+use Rattle.settling.proofs.first_state.Reads as first-state-reads
 
 -- what is lent are arrays
 abbrev Lending : Type 0

@@ -2,7 +2,6 @@
 use mathlib.Core.Bool.{true, true≢false}
 use mathlib.Core.Path.{refl, sym, _∙_}
 use native.Mathlib.Omega.{arith}
-use borrow.Author.Needs.{needs}
 use Rattle.moves.proofs.carry_around.Statement.{statement}
 use Rattle.moves.proofs.carry_around.Tie as tie
 

@@ -3,19 +3,19 @@ use mathlib.Core.Path.{_≡_, sym, ap, _∙_, subst, transport}
 use native.Mathlib.Omega.{arith}
 use lib.ListN.{length}
 use Rattle.closures.specs.Represents.{Ready}
-use Rattle.closures.specs.Lent.{kindsIn, startsIn, standing, Small}
+use Rattle.lent_states.specs.Lent.{kindsIn, startsIn, standing, Small}
 use Rattle.moves.proofs.LentMoves.{lends-bodies, put-whole, bound-lends, receipt-made}
 use borrow.Author.Needs.{needs}
 use Rattle.moves.proofs.receive_part.Statement.{statement}
 use Rattle.moves.proofs.receive_part.Tie as tie
 use Rattle.moves.proofs.receive_part.Reads as reads
 use Rattle.moves.proofs.receive_part.Lts as lts
-use Rattle.closures.proofs.borrowed.Reads as borrowed-reads
-use Rattle.closures.proofs.lend.Reads as lend-reads
-use Rattle.closures.proofs.put_numbers.Reads as put-numbers-reads
-use Rattle.closures.proofs.put_sets.Reads as put-sets-reads
-use Rattle.moves.proofs.received.Reads as received-reads
-use Rattle.moves.proofs.settle.Reads as settle-reads
+use Rattle.lent_states.proofs.borrowed.Reads as borrowed-reads
+use Rattle.lent_states.proofs.lend.Reads as lend-reads
+use Rattle.lent_states.proofs.put_numbers.Reads as put-numbers-reads
+use Rattle.lent_states.proofs.put_sets.Reads as put-sets-reads
+use Rattle.settling.proofs.received.Reads as received-reads
+use Rattle.settling.proofs.settle.Reads as settle-reads
 
 -- what is lent are arrays
 abbrev Lends : Type 0

@@ -3,11 +3,11 @@ use mathlib.Core.Path.{refl, subst}
 use native.Mathlib.Omega.{arith}
 use lib.ListN.{getD}
 use Rattle.closures.specs.Makes.{Moves}
-use Rattle.closures.specs.Lent.{kindsIn, startsIn, stateIn, standing}
 use Rattle.closures.specs.declared.State.{State}
-use Rattle.closures.proofs.Standing.{standing-top}
+use Rattle.lent_states.specs.Lent.{kindsIn, startsIn, stateIn, standing}
+use Rattle.lent_states.proofs.Standing.{standing-top}
+use Rattle.settling.proofs.Settled.{ready-same}
 use Rattle.moves.proofs.LentMoves.{lends-set}
-use Rattle.moves.proofs.Settled.{ready-same}
 use borrow.Author.Needs.{needs}
 use Rattle.walk.proofs.after_move.Statement.{statement}
 use Rattle.walk.proofs.after_move.Tie as tie

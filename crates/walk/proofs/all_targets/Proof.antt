@@ -8,9 +8,9 @@ use Rattle.sets.specs.Sets.{members}
 use Rattle.scripts.specs.Represents.{bodyIn}
 use Rattle.closures.specs.Searches.{Located}
 use Rattle.closures.specs.Targets.{TargetsOf}
-use Rattle.closures.specs.Lent.{stateIn}
+use Rattle.lent_states.specs.Lent.{stateIn}
 use Rattle.walk.proofs.Lendings.{filled-more}
-use Rattle.closures.proofs.Copying.{targets-lent}
+use Rattle.lent_states.proofs.Copying.{targets-lent}
 use borrow.Author.Needs.{needs}
 use Rattle.walk.proofs.all_targets.Statement.{statement}
 use Rattle.walk.proofs.all_targets.Tie as tie

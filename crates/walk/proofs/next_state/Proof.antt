@@ -7,15 +7,11 @@ use Rattle.scripts.specs.Tree.{ambient, close, part, count}
 use Rattle.closure_machine.specs.Closure.{Closure}
 use Rattle.closures.specs.Makes.{Moves}
 use Rattle.closures.specs.Represents.{boundIn, Represents}
-use Rattle.closures.specs.Lent.{kindsIn, startsIn, stateIn}
+use Rattle.lent_states.specs.Lent.{kindsIn, startsIn, stateIn}
 use Rattle.walk.proofs.Lendings.{step-moves, step-places, step-apart}
 use borrow.Author.Needs.{needs}
 use Rattle.walk.proofs.next_state.Statement.{statement}
 use Rattle.walk.proofs.next_state.Tie as tie
-use Rattle.walk.proofs.next_state.Reads as reads
-use Rattle.walk.proofs.next_state.Lts as lts
-use Rattle.walk.proofs.after_move.Reads as after-move-reads
-use Rattle.walk.proofs.place_within.Reads as place-within-reads
 
 enum-known-step : tie.Need-enum-known-step
 enum-known-step c = search needs

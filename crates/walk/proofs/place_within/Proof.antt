@@ -10,11 +10,6 @@ use Rattle.walk.proofs.Lendings.{carried}
 use borrow.Author.Needs.{needs}
 use Rattle.walk.proofs.place_within.Statement.{statement}
 use Rattle.walk.proofs.place_within.Tie as tie
-use Rattle.walk.proofs.place_within.Reads as reads
-use Rattle.walk.proofs.place_within.Lts as lts
-use Rattle.closures.proofs.borrowed.Reads as borrowed-reads
-use Rattle.moves.proofs.place_part.Reads as place-part-reads
-use Rattle.walk.proofs.lend_state.Reads as lend-state-reads
 
 borrowed-requires : tie.Need-borrowed-requires
 borrowed-requires c κs = search needs

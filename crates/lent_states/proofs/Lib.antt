@@ -1,0 +1,3 @@
+-- Laws of the two arrays that hold a state. Assumes nothing.
+pub mod Copying
+pub mod Standing

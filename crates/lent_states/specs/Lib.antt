@@ -1,0 +1,2 @@
+-- What the contracts of `lent_states` cite. Assumes nothing: these are definitions.
+pub mod Lent
