@@ -293,36 +293,8 @@ fn plain_item(m: MessageWord, inside: Named) -> First
     }
 }
 
-// The first from the offset on of the items that the first of the words has of its own.
-fn own_item(
-    script: &[u32],
-    words: &[u32],
-    offset: u32,
-    variables: &[u32],
-    places: &[u32],
-    counts: &[u32],
-) -> First
-    requires { ⌜ Kept itemCount (now script) (now variables) (now places) (now counts) × (offset < 4294967295) × (offset < length (ownItems (bindingsIn (now script) (now variables) (now places)) (now words))) ⌝ }
-    ensures { λ r. ⌜ r ≡ firstItem (drop offset (ownItems (bindingsIn (now (script .entry)) (now (variables .entry)) (now (places .entry))) (now (words .entry)))) ⌝ }
-{
-    let m = first_word(words);
-    let k = bound(m, variables);
-    if k < variables.len() {
-        let older = k + 1;
-        return first_from(
-            script,
-            given(script, places, k),
-            1,
-            offset,
-            tail(variables, older),
-            tail(places, older),
-            tail(counts, older),
-        );
-    }
-    plain_item(m, name_of(script, tail(words, 1), variables, places))
-}
-
-// The first from the offset on of the items of the first `pending` messages of the words, after the bindings.
+// The first from the offset on of the items of the first `pending` messages of the words, after the bindings. A variable's
+// count tells at once whether that item is in its message: where it is, the pass goes on there and nowhere else.
 fn first_from(
     script: &[u32],
     words: &[u32],
@@ -338,19 +310,60 @@ fn first_from(
     if pending == 0 {
         return First::Nothing;
     }
-    let o = own(words, variables, counts);
-    let b = after_own(words, pending);
-    if offset < o {
-        return own_item(script, words, offset, variables, places, counts);
+    let m = first_word(words);
+    let k = bound(m, variables);
+    if k >= variables.len() {
+        return free_from(script, m, words, pending, offset, variables, places, counts);
     }
-    let used = b.used;
-    let left = b.left;
-    let rest = offset - o;
+    let count = counts[k];
+    if offset >= count {
+        let rest = offset - count;
+        return first_from(
+            script,
+            tail(words, 1),
+            pending - 1,
+            rest,
+            variables,
+            places,
+            counts,
+        );
+    }
+    let older = k + 1;
     first_from(
         script,
-        tail(words, used),
-        left,
-        rest,
+        given(script, places, k),
+        1,
+        offset,
+        tail(variables, older),
+        tail(places, older),
+        tail(counts, older),
+    )
+}
+
+// The same where m, the first of the words, is no variable with a binding.
+fn free_from(
+    script: &[u32],
+    m: MessageWord,
+    words: &[u32],
+    pending: usize,
+    offset: u32,
+    variables: &[u32],
+    places: &[u32],
+    counts: &[u32],
+) -> First
+    requires { ⌜ (m ≡ firstWord (now words)) × (length (now variables) ≤ boundAt m (now variables)) × (0 < pending) × (pending + length (now words) < 2 ^ 64) × Kept itemCount (now script) (now variables) (now places) (now counts) × (offset < 4294967295) ⌝ }
+    ensures { λ r. ⌜ r ≡ firstItem (drop offset (allItems (bindingsIn (now (script .entry)) (now (variables .entry)) (now (places .entry))) (firsts pending (spelled (now (words .entry)))))) ⌝ }
+{
+    let s = shape_of(m);
+    if offset < s.items {
+        return plain_item(m, name_of(script, tail(words, 1), variables, places));
+    }
+    let b = after_own(words, pending);
+    first_from(
+        script,
+        tail(words, b.used),
+        b.left,
+        offset - s.items,
         variables,
         places,
         counts,
