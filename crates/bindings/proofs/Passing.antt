@@ -13,7 +13,7 @@ use Rattle.messages.specs.declared.MessageWord.{MessageWord}
 use Rattle.messages.specs.declared.MessageWord.the-variants.{Name, Variable, Enter, Exit, Open, Empty, Path, Unfit}
 use Rattle.bindings.specs.Resolve.{resolve, bindingsIn, place}
 use Rattle.bindings.specs.Passes.{firstWord, firsts, allItems, shapeOf, arityOf, boundAt, plainName, plainItem, wordItems, ownItems}
-use Rattle.bindings.proofs.Resolving.{resolve-name, resolve-enter, resolve-exit, resolve-opens, resolve-empty, resolve-path, resolve-unbound, resolve-bound, given}
+use Rattle.bindings.proofs.Resolving.{place-within, resolve-name, resolve-enter, resolve-exit, resolve-opens, resolve-empty, resolve-path, resolve-unbound, resolve-bound, given}
 
 -- the first word
 
@@ -140,6 +140,17 @@ Free σ m = (v : ℕ) → m ≡ Variable v → resolve σ (variable v) ≡ varia
 pub unbound-free : (script vs ps : List ℕ) (m : MessageWord) → length vs ≤ boundAt m vs → Free (bindingsIn script vs ps) m
 unfolding boundAt
 unbound-free script vs ps m h v e = resolve-unbound script vs ps v (rw e at h)
+
+pub bound-within : (m : MessageWord) (vs : List ℕ) → boundAt m vs ≤ length vs
+unfolding boundAt
+bound-within (Name n) vs = omega arith
+bound-within (Variable v) vs = place-within vs v
+bound-within Enter vs = omega arith
+bound-within Exit vs = omega arith
+bound-within Open vs = omega arith
+bound-within Empty vs = omega arith
+bound-within Path vs = omega arith
+bound-within Unfit vs = omega arith
 
 name-word : (σ : List (ℕ × Message)) (m : MessageWord) (s : List Message) → Free σ m → nameOf (resolve σ (top (push m s))) ≡ plainName m
 unfolding push top nameOf plainName
