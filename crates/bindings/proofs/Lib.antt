@@ -2,4 +2,5 @@
 pub mod Resolving
 pub mod Passing
 pub mod Counting
+pub mod Searching
 pub mod Substitution

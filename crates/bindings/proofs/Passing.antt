@@ -13,7 +13,7 @@ use Rattle.messages.specs.declared.MessageWord.{MessageWord}
 use Rattle.messages.specs.declared.MessageWord.the-variants.{Name, Variable, Enter, Exit, Open, Empty, Path, Unfit}
 use Rattle.bindings.specs.Resolve.{resolve, bindingsIn, place}
 use Rattle.bindings.specs.Passes.{firstWord, firsts, allItems, shapeOf, arityOf, boundAt, plainName, plainItem, wordItems, ownItems}
-use Rattle.bindings.proofs.Resolving.{resolve-name, resolve-enter, resolve-exit, resolve-opens, resolve-empty, resolve-path, resolve-unbound, resolve-bound, given}
+use Rattle.bindings.proofs.Resolving.{place-within, resolve-name, resolve-enter, resolve-exit, resolve-opens, resolve-empty, resolve-path, resolve-unbound, resolve-bound, given}
 
 -- the first word
 
@@ -111,14 +111,18 @@ split-word σ Path p s =
     rw (resolve-path, e, drop-drop 1 1 s) (append-assoc (items (resolve σ (top s))) (items (resolve σ (top (drop 1 s)))) (allItems σ (firsts p (drop 2 s))))
 split-word σ Unfit p s = rw (resolve-empty, add-zero p)
 
+pub own-front : (σ : List (ℕ × Message)) (l : List ℕ) (p : ℕ) → 0 < p
+    → allItems σ (firsts p (spelled l)) ≡ ownItems σ l ++ allItems σ (firsts (p - 1 + shapeOf (firstWord l) .opened) (drop (shapeOf (firstWord l) .closed) (spelled (drop 1 l))))
+unfolding ownItems
+own-front σ l zero z = absurd (omega arith)
+own-front σ l (suc p) z =
+    let q : suc p - 1 ≡ p = omega arith in
+    rw (q, firsts-first (suc p) l) (split-word σ (firstWord l) p (spelled (drop 1 l)))
+
 pub split-first : (σ : List (ℕ × Message)) (l : List ℕ) (p r : ℕ) → 0 < p
     → spelled (drop r (drop 1 l)) ≡ drop (shapeOf (firstWord l) .closed) (spelled (drop 1 l))
     → allItems σ (firsts p (spelled l)) ≡ ownItems σ l ++ allItems σ (firsts (p - 1 + shapeOf (firstWord l) .opened) (spelled (drop (r + 1) l)))
-unfolding ownItems
-split-first σ l zero r z e = absurd (omega arith)
-split-first σ l (suc p) r z e =
-    let q : suc p - 1 ≡ p = omega arith in
-    rw (drop-more r l, e, q, firsts-first (suc p) l) (split-word σ (firstWord l) p (spelled (drop 1 l)))
+split-first σ l p r z e = rw (drop-more r l, e) (own-front σ l p z)
 
 pub none-pending : (σ : List (ℕ × Message)) (p : ℕ) (s : List Message) → p ≡ 0 → allItems σ (firsts p s) ≡ []
 unfolding allItems firsts
@@ -136,6 +140,17 @@ Free σ m = (v : ℕ) → m ≡ Variable v → resolve σ (variable v) ≡ varia
 pub unbound-free : (script vs ps : List ℕ) (m : MessageWord) → length vs ≤ boundAt m vs → Free (bindingsIn script vs ps) m
 unfolding boundAt
 unbound-free script vs ps m h v e = resolve-unbound script vs ps v (rw e at h)
+
+pub bound-within : (m : MessageWord) (vs : List ℕ) → boundAt m vs ≤ length vs
+unfolding boundAt
+bound-within (Name n) vs = omega arith
+bound-within (Variable v) vs = place-within vs v
+bound-within Enter vs = omega arith
+bound-within Exit vs = omega arith
+bound-within Open vs = omega arith
+bound-within Empty vs = omega arith
+bound-within Path vs = omega arith
+bound-within Unfit vs = omega arith
 
 name-word : (σ : List (ℕ × Message)) (m : MessageWord) (s : List Message) → Free σ m → nameOf (resolve σ (top (push m s))) ≡ plainName m
 unfolding push top nameOf plainName
@@ -228,6 +243,11 @@ bound-variable vs Open k e h = absurd (omega arith)
 bound-variable vs Empty k e h = absurd (omega arith)
 bound-variable vs Path k e h = absurd (omega arith)
 bound-variable vs Unfit k e h = absurd (omega arith)
+
+pub split-bound : (σ : List (ℕ × Message)) (vs l : List ℕ) (p k : ℕ) → 0 < p → k ≡ boundAt (firstWord l) vs → k < length vs
+    → allItems σ (firsts p (spelled l)) ≡ ownItems σ l ++ allItems σ (firsts (p - 1) (spelled (drop 1 l)))
+unfolding shapeOf
+split-bound σ vs l p k z e h = elim (bound-variable vs (firstWord l) k e h) [ bound v q i ↦ rw (q, add-zero (p - 1)) at (own-front σ l p z) ]
 
 module _ (script vs ps : List ℕ) (l : length ps ≡ length vs) (k : ℕ) (h : k < length vs) where
   pub given-place : (v : ℕ) → k ≡ place vs v → given script vs ps k ≡ resolve (bindingsIn script vs ps) (variable v)

@@ -14,6 +14,7 @@ use Rattle.messages.specs.declared.Named.the-variants.{Called, Nameless}
 use Rattle.messages.specs.declared.First.{First}
 use Rattle.messages.specs.declared.First.the-variants.{Enter as AskEnter, Exit as AskExit, Open as AskOpen, Other}
 use Rattle.bindings.specs.declared.Shape.{Shape}
+use Rattle.bindings.specs.declared.Search.{Search}
 use Rattle.bindings.specs.Resolve.{resolve, place}
 use Rattle.bindings.specs.Measures.{size}
 
@@ -114,6 +115,10 @@ ownSize σ Open = 1
 ownSize σ Empty = 1
 ownSize σ Path = 1
 ownSize σ Unfit = 1
+
+-- where a search for an item stands
+abbrev pub searching : (left pending before older : ℕ) → Search
+searching l p b o = record { left = l; pending = p; before = b; older = o }
 
 -- To unfold this is to unfold every definition of this module: for a proof by computation.
 unfoldable pub computing : Unit {0}

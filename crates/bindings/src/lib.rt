@@ -15,7 +15,7 @@ ghost use Rattle.messages.specs.Message.{Message, items, nameOf, firstItem};
 ghost use Rattle.messages.specs.Spelling.{spelled, messageAt};
 ghost use Rattle.bindings.specs.Resolve.{resolve, bindingsIn, place, messageOf};
 ghost use Rattle.bindings.specs.Measures.{capped, size, itemsSize, bulk, cappedItems, itemCount, Kept, Cached};
-ghost use Rattle.bindings.specs.Passes.{firstWord, firsts, allItems, allSizes, shapeWith, shapeOf, arityOf, boundAt, plainName, plainItem, ownItems, ownSize};
+ghost use Rattle.bindings.specs.Passes.{firstWord, firsts, allItems, allSizes, shapeWith, shapeOf, arityOf, boundAt, plainName, plainItem, ownItems, ownSize, searching};
 ghost use Rattle.bindings.specs.Held.{Measures, bindingsOf, Held};
 
 // How a word begins a message: the items that it is of its own, the messages behind it that are closed in such an item,
@@ -30,6 +30,15 @@ pub struct Shape {
 pub struct Behind {
     pub used: usize,
     pub left: usize,
+}
+
+// Where a search for an item stands: before which words left in the script, how many messages of these are pending, how many
+// of their items come before the item, and from which binding on the older ones are that the messages lie under.
+struct Search {
+    left: usize,
+    pending: usize,
+    before: u32,
+    older: usize,
 }
 
 // What is counted of a message when it is bound: its items, the words that it is written with, and the words of its items
@@ -80,13 +89,15 @@ pub fn tail(s: &[u32], at: usize) -> &[u32]
 pub fn find(variables: &[u32], v: u32) -> usize
     ensures { λ r. ⌜ r ≡ place (now (variables .entry)) v ⌝ }
 {
-    if variables.len() == 0 {
-        return 0;
+    let n = variables.len();
+    let mut i: usize = 0;
+    while i < n {
+        if variables[i] == v {
+            return i;
+        }
+        i += 1;
     }
-    if variables[0] == v {
-        return 0;
-    }
-    find(tail(variables, 1), v) + 1
+    n
 }
 
 // The words of the message of the binding at that place.
@@ -293,71 +304,38 @@ fn plain_item(m: MessageWord, inside: Named) -> First
     }
 }
 
-// The first from the offset on of the items that the first of the words has of its own.
-fn own_item(
-    script: &[u32],
-    words: &[u32],
-    offset: u32,
-    variables: &[u32],
-    places: &[u32],
-    counts: &[u32],
-) -> First
-    requires { ⌜ Kept itemCount (now script) (now variables) (now places) (now counts) × (offset < 4294967295) × (offset < length (ownItems (bindingsIn (now script) (now variables) (now places)) (now words))) ⌝ }
-    ensures { λ r. ⌜ r ≡ firstItem (drop offset (ownItems (bindingsIn (now (script .entry)) (now (variables .entry)) (now (places .entry))) (now (words .entry)))) ⌝ }
+// a - b, or 0 where b is greater.
+fn less(a: usize, b: usize) -> usize
+    ensures { λ r. ⌜ r ≡ a - b ⌝ }
 {
-    let m = first_word(words);
-    let k = bound(m, variables);
-    if k < variables.len() {
-        let older = k + 1;
-        return first_from(
-            script,
-            given(script, places, k),
-            1,
-            offset,
-            tail(variables, older),
-            tail(places, older),
-            tail(counts, older),
-        );
-    }
-    plain_item(m, name_of(script, tail(words, 1), variables, places))
+    if b < a { a - b } else { 0 }
 }
 
-// The first from the offset on of the items of the first `pending` messages of the words, after the bindings.
-fn first_from(
-    script: &[u32],
-    words: &[u32],
-    pending: usize,
-    offset: u32,
-    variables: &[u32],
-    places: &[u32],
-    counts: &[u32],
-) -> First
-    requires { ⌜ (pending + length (now words) < 2 ^ 64) × Kept itemCount (now script) (now variables) (now places) (now counts) × (offset < 4294967295) ⌝ }
-    ensures { λ r. ⌜ r ≡ firstItem (drop offset (allItems (bindingsIn (now (script .entry)) (now (variables .entry)) (now (places .entry))) (firsts pending (spelled (now (words .entry)))))) ⌝ }
+// The search at a variable whose binding is the k-th: in its message, which has so many items and begins at a word of the
+// script's n, or behind the variable.
+fn at_variable(s: Search, n: usize, k: usize, count: u32, place: usize) -> Search
+    requires { ⌜ (0 < s .pending) × (k + 1 < 2 ^ 64) ⌝ }
+    ensures inside { λ r. ⌜ (s .before < count → r ≡ searching (n - place) 1 (s .before) (k + 1)) ⌝ }
+    ensures past { λ r. ⌜ (count ≤ s .before → r ≡ searching (s .left - 1) (s .pending - 1) (s .before - count) (s .older)) ⌝ }
 {
-    if pending == 0 {
-        return First::Nothing;
+    if s.before < count {
+        return Search {
+            left: less(n, place),
+            pending: 1,
+            before: s.before,
+            older: k + 1,
+        };
     }
-    let o = own(words, variables, counts);
-    let b = after_own(words, pending);
-    if offset < o {
-        return own_item(script, words, offset, variables, places, counts);
+    Search {
+        left: less(s.left, 1),
+        pending: s.pending - 1,
+        before: s.before - count,
+        older: s.older,
     }
-    let used = b.used;
-    let left = b.left;
-    let rest = offset - o;
-    first_from(
-        script,
-        tail(words, used),
-        left,
-        rest,
-        variables,
-        places,
-        counts,
-    )
 }
 
-// The first from the offset on of the items of the message at a word of the script, after the bindings.
+// The first from the offset on of the items of the message at a word of the script, after the bindings. A variable's count
+// tells at once whether that item is in its message, so the search goes on there or behind it, and never comes back.
 pub fn first_item(
     script: &[u32],
     at: usize,
@@ -369,15 +347,36 @@ pub fn first_item(
     requires { ⌜ Kept itemCount (now script) (now variables) (now places) (now counts) × (offset < 4294967295) ⌝ }
     ensures { λ r. ⌜ r ≡ firstItem (drop offset (items (resolve (bindingsIn (now (script .entry)) (now (variables .entry)) (now (places .entry))) (messageAt (drop at (now (script .entry))))))) ⌝ }
 {
-    first_from(
-        script,
-        tail(script, at),
-        1,
-        offset,
-        variables,
-        places,
-        counts,
-    )
+    let n = script.len();
+    let mut s = Search {
+        left: less(n, at),
+        pending: 1,
+        before: offset,
+        older: 0,
+    };
+    while 0 < s.pending {
+        let words = tail(script, n - s.left);
+        let m = first_word(words);
+        let receipts = tail(variables, s.older);
+        let k = s.older + bound(m, receipts);
+        if k < variables.len() {
+            s = at_variable(s, n, k, counts[k], wide(places[k]));
+        } else {
+            let own = shape_of(m);
+            if s.before < own.items {
+                return plain_item(
+                    m,
+                    name_of(script, tail(words, 1), receipts, tail(places, s.older)),
+                );
+            }
+            let b = after_own(words, s.pending);
+            let left = less(s.left, b.used);
+            s.left = left;
+            s.pending = b.left;
+            s.before -= own.items;
+        }
+    }
+    First::Nothing
 }
 
 // The number of words that a word is written with itself, after the bindings.
