@@ -4,13 +4,10 @@ use mathlib.Core.List.{List, _++_}
 use mathlib.Core.Path.{_≡_, refl, ap, _∙_}
 use lib.ListN.{length, drop}
 use borrow.Author.Tests.{le-leb, lt-leb}
-use Rattle.messages.specs.Reading.{Cursor, got}
-use Rattle.scripts.specs.Script.{Script, readScript}
-use Rattle.scripts.specs.Measures.{movesBound}
 use Rattle.plain_call.specs.Call.{Call, Answer, answer}
 use Rattle.checker.specs.Answering.{answerOf}
 use Rattle.checker.specs.declared.Answer as engine
-use Rattle.plain_call.specs.Standing.{Decides, WeightHolds}
+use Rattle.plain_call.specs.Standing.{Decides, MovesBounded, WeightHolds}
 use Rattle.checker.proofs.Concluding.{decides}
 use Rattle.plain_call.proofs.ClosureRuns.{moves-bounded}
 use Rattle.plain_call.proofs.Runs.{weight-holds}
@@ -18,7 +15,7 @@ use Rattle.capi.specs.Told.{told, returned, answered, written}
 
 -- what every call keeps to
 abbrev pub Keeps : Call → Type 0
-Keeps c = Decides c (answer c .verdict) × (((p : Script × Cursor) → readScript (c .script) ≡ got p → answer c .moves ≤ movesBound (p .0)) × WeightHolds c)
+Keeps c = Decides c (answer c .verdict) × (MovesBounded (c .script) (answer c .moves) × WeightHolds c)
 
 pub keeps : (c : Call) → Keeps c
 keeps c = (decides c (answer c .verdict) refl, (moves-bounded c, weight-holds c))

@@ -6,12 +6,9 @@ ghost use mathlib.Core.Path.{_≡_};
 ghost use mathlib.Core.List.{List, _++_};
 ghost use Prim.Native.Nat.{ℕ, _≤_};
 ghost use lib.ListN.{length, drop};
-ghost use Rattle.messages.specs.Reading.{Cursor, got};
-ghost use Rattle.scripts.specs.Script.{Script, readScript};
-ghost use Rattle.scripts.specs.Measures.{movesBound};
 ghost use Rattle.plain_call.specs.Call.{answer as plainAnswer};
 ghost use Rattle.checker.specs.Answering.{verdictOf, answerOf, callOf};
-ghost use Rattle.plain_call.specs.Standing.{Decides, WeightHolds};
+ghost use Rattle.plain_call.specs.Standing.{Decides, MovesBounded, WeightHolds};
 ghost use Rattle.capi.specs.Told.{saidOf, questionOf, placeOf, narrowed, told, returned, answered, written};
 
 // Yes, no or refused, as the first word of an answer has it.
@@ -90,7 +87,7 @@ pub extern "C" fn skycorbel_call<'a, 'b, 'c>(
     ensures answered { λ _. ⌜ now (answer .exit) ≡ answered (callOf (now (script .entry)) (now (moves .entry)) (now (rule .entry)) patience (now (out .entry))) (now (answer .entry)) ⌝ }
     ensures written { λ _. ⌜ now (out .exit) ≡ written (callOf (now (script .entry)) (now (moves .entry)) (now (rule .entry)) patience (now (out .entry))) (now (answer .entry)) ⌝ }
     ensures decided { λ _. ⌜ Decides (callOf (now (script .entry)) (now (moves .entry)) (now (rule .entry)) patience (now (out .entry))) (plainAnswer (callOf (now (script .entry)) (now (moves .entry)) (now (rule .entry)) patience (now (out .entry))) .verdict) ⌝ }
-    ensures bounded { λ _. ⌜ ((p : Script × Cursor) → readScript (now (script .entry)) ≡ got p → plainAnswer (callOf (now (script .entry)) (now (moves .entry)) (now (rule .entry)) patience (now (out .entry))) .moves ≤ movesBound (p .0)) ⌝ }
+    ensures bounded { λ _. ⌜ MovesBounded (now (script .entry)) (plainAnswer (callOf (now (script .entry)) (now (moves .entry)) (now (rule .entry)) patience (now (out .entry))) .moves) ⌝ }
     ensures weighed { λ _. ⌜ WeightHolds (callOf (now (script .entry)) (now (moves .entry)) (now (rule .entry)) patience (now (out .entry))) ⌝ }
 {
     if answer.len() < 8 {

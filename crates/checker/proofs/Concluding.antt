@@ -8,10 +8,9 @@ use native.Mathlib.Omega.{arith}
 use lib.Dec.{eqb}
 use lib.ListN.{length}
 use borrow.Author.Tests.{leb-true}
-use Rattle.messages.specs.Reading.{Cursor, got}
+use Rattle.messages.specs.Reading.{got}
 use Rattle.scripts.specs.Tree.{one, count}
-use Rattle.scripts.specs.Script.{Script, readScript}
-use Rattle.scripts.specs.Measures.{greatestName, movesBound}
+use Rattle.scripts.specs.Measures.{greatestName}
 use Rattle.scripts.specs.declared.Table.{Table}
 use Rattle.machine.proofs.Sums.{map-sum}
 use Rattle.rules.specs.Rule.{greatestRuleName}
@@ -32,7 +31,7 @@ use Rattle.plain_call.specs.ClosureCall.{moved, closureRun, unfoldRan, begun}
 use Rattle.checker.specs.Answering.{verdictOf, answerOf, callOf}
 use Rattle.checker.specs.declared.Answer.{Answer}
 use Rattle.checker.specs.Calling.{Stands}
-use Rattle.plain_call.specs.Standing.{Standing, Decides, WeightHolds}
+use Rattle.plain_call.specs.Standing.{Standing, Decides, MovesBounded, WeightHolds}
 use Rattle.plain_call.proofs.ClosureRuns.{started-unfolded, moves-bounded}
 use Rattle.plain_call.proofs.Runs.{weight-holds}
 use Rattle.plain_call.proofs.Called.{answers-walked}
@@ -96,6 +95,7 @@ module _ (script moves words : List ℕ) (patience : ℕ) (buffer : List ℕ) (t
 
 -- THEOREM: what the call answers is decided by the paper's own relation.
 pub decides : (c : Call) (v : Verdict) → answer c .verdict ≡ v → Decides c v
+unfolding Decides
 decides c (accepted true) e = let s = answer-stands c true e in (s, verdict-yes c s e)
 decides c (accepted false) e = let s = answer-stands c false e in (s, verdict-no c s e)
 decides c (refused q i) e = tt
@@ -103,9 +103,9 @@ decides c (refused q i) e = tt
 -- THEOREM: an answer that is the plain machine's, with the buffer, is decided by the paper's own relation and keeps the bound
 -- and the weight.
 pub call-kept : (c : Call) (r : Answer) (b : List ℕ) → answerOf r b ≡ answer c
-    → (answerOf r b ≡ answer c) × (Decides c (verdictOf (r .verdict)) × (((p : Script × Cursor) → readScript (c .script) ≡ got p → r .moves ≤ movesBound (p .0)) × WeightHolds c))
+    → (answerOf r b ≡ answer c) × (Decides c (verdictOf (r .verdict)) × (MovesBounded (c .script) (r .moves) × WeightHolds c))
 unfolding answerOf
 call-kept c r b e =
     let d : Decides c (verdictOf (r .verdict)) = decides c (verdictOf (r .verdict)) (sym (ap (λ (a : plain.Answer). a .verdict) e)) in
-    let m : (p : Script × Cursor) → readScript (c .script) ≡ got p → r .moves ≤ movesBound (p .0) = λ p x. subst (λ (k : ℕ). k ≤ movesBound (p .0)) (sym (ap (λ (a : plain.Answer). a .moves) e)) (moves-bounded c p x) in
+    let m = subst (MovesBounded (c .script)) (sym (ap (λ (a : plain.Answer). a .moves) e)) (moves-bounded c) in
     (e, (d, (m, weight-holds c)))

@@ -22,9 +22,7 @@ ghost use mathlib.Core.Path.{_≡_};
 ghost use mathlib.Core.List.{List, []};
 ghost use Prim.Native.Nat.{ℕ, _+_, _≤_, _<_, max};
 ghost use lib.ListN.{length};
-ghost use Rattle.messages.specs.Reading.{Cursor, got};
-ghost use Rattle.scripts.specs.Script.{Script, readScript};
-ghost use Rattle.scripts.specs.Measures.{greatestName, movesBound};
+ghost use Rattle.scripts.specs.Measures.{greatestName};
 ghost use Rattle.rules.specs.Rule.{greatestRuleName};
 ghost use Rattle.closure_machine.specs.Closure.{Closure, unfolded, unfoldMachine};
 ghost use Rattle.closures.specs.Represents.{boundIn, Ready, Represents};
@@ -37,7 +35,7 @@ ghost use Rattle.plain_call.specs.Call.{actor, target, moveFits, accepted, refu
 ghost use Rattle.plain_call.specs.Call.{finish as finished};
 ghost use Rattle.checker.specs.Answering.{verdictOf, answerOf, callOf};
 ghost use Rattle.checker.specs.Running.{Runs};
-ghost use Rattle.plain_call.specs.Standing.{Decides, WeightHolds};
+ghost use Rattle.plain_call.specs.Standing.{Decides, MovesBounded, WeightHolds};
 ghost use Rattle.checker.specs.Calling.{ScriptHeld, RuleHeld, Stands};
 
 // Yes or no, or the question that refuses the call, and its place.
@@ -371,7 +369,7 @@ pub fn call<'a, 'b>(
 ) -> Answer
     ensures answered { λ r. ⌜ answerOf r (now (out .exit)) ≡ answer (callOf (now (script .entry)) (now (moves .entry)) (now (rule .entry)) patience (now (out .entry))) ⌝ }
     ensures decided { λ r. ⌜ Decides (callOf (now (script .entry)) (now (moves .entry)) (now (rule .entry)) patience (now (out .entry))) (verdictOf (r .verdict)) ⌝ }
-    ensures bounded { λ r. ⌜ ((p : Script × Cursor) → readScript (now (script .entry)) ≡ got p → r .moves ≤ movesBound (p .0)) ⌝ }
+    ensures bounded { λ r. ⌜ MovesBounded (now (script .entry)) (r .moves) ⌝ }
     ensures weighed { λ r. ⌜ WeightHolds (callOf (now (script .entry)) (now (moves .entry)) (now (rule .entry)) patience (now (out .entry))) ⌝ }
 {
     let scan = read_script(script);

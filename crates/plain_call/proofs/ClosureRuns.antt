@@ -142,7 +142,7 @@ rule-moves c b n x (got q) h = byTest (leb 1 (c .patience) && leb (c .patience) 
     (λ t. rw t (omega arith))
 
 -- THEOREM: the moves made, in a refused call too, are at most the bound of the script as read.
-pub moves-bounded : (c : Call) → MovesBounded c
-unfolding answer scriptRead
+pub moves-bounded : (c : Call) → MovesBounded (c .script) (answer c .moves)
+unfolding MovesBounded answer scriptRead
 moves-bounded c p e =
     rw e (rule-moves c (p .0) (p .1 .number) (movesBound (p .0)) (readWholeRule (p .1 .number) (c .rule)) (moves-paid (c .script) p e (p .1 .number) (c .moves)))

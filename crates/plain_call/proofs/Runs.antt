@@ -64,6 +64,7 @@ started-parts b = omega (arith, settle-sum (λ i h. 1) bare (hold b), map-sum (�
 
 -- THEOREM: before the first move and after each, parts plus twice the receipts made are at most the script's parts.
 pub weight-holds : (c : Call) → WeightHolds c
+unfolding WeightHolds
 weight-holds c p r k m a =
     run-weight (p .1 .number) 0 (take k (c .moves)) (begun (p .0)) m (parts (p .0)) (begun-weight (p .0)) a
   where

@@ -14,7 +14,7 @@ use Rattle.rules.specs.Rule.{Rule}
 use Rattle.rules.specs.ReadRule.{readWholeRule}
 use Rattle.calculus.specs.Satisfaction.{Sat}
 use Rattle.calculus.specs.Calculus.{Satisfies, process}
-use Rattle.plain_call.specs.Call.{Call, Verdict, accepted, refused, Ran, moved, run, begun, answer}
+use Rattle.plain_call.specs.Call.{Call, Verdict, accepted, refused, Ran, moved, run, begun}
 
 -- what stands when the walk begins
 pub record Standing (c : Call) : Type 0 where
@@ -34,7 +34,7 @@ abbrev pub Holds : (c : Call) → Standing c → Type 0
 Holds c s = Satisfies [] (process (s .machine .tree)) (s .rule .0)
 
 -- demand 2: yes only where the process that stands satisfies the rule, no only where it does not
-abbrev pub Decides : (c : Call) → Verdict → Type 0
+unfoldable pub Decides : (c : Call) → Verdict → Type 0
 Decides c (accepted true) = (s : Standing c) × Holds c s
 Decides c (accepted false) = (s : Standing c) × ¬ Holds c s
 Decides c (refused q i) = Unit {0}
@@ -44,7 +44,7 @@ abbrev pub After : (c : Call) → Script × Cursor → ℕ → Machine → Type 
 After c p k m = run (p .1 .number) 0 (take k (c .moves)) (begun (p .0)) ≡ moved m
 
 -- "parts in the tree plus twice the receipts made are at most the script's parts", before the first move and after each
-abbrev pub WeightHolds : Call → Type 0
+unfoldable pub WeightHolds : Call → Type 0
 WeightHolds c = (p : Script × Cursor) → readScript (c .script) ≡ got p → (k : ℕ) (m : Machine) → After c p k m → weightOf m ≤ parts (p .0)
 
 -- the bound, r + a × s ^ (r + 1): "The bound counts the moves made, in a refused call too"; here of every beginning of a list
@@ -52,6 +52,11 @@ WeightHolds c = (p : Script × Cursor) → readScript (c .script) ≡ got p → 
 abbrev pub BoundHolds : Call → Type 0
 BoundHolds c = (p : Script × Cursor) → readScript (c .script) ≡ got p → (k : ℕ) (m : Machine) → k ≤ length (c .moves) → After c p k m → k ≤ movesBound (p .0)
 
--- and so of what the call answers, refused or not
-abbrev pub MovesBounded : Call → Type 0
-MovesBounded c = (p : Script × Cursor) → readScript (c .script) ≡ got p → answer c .moves ≤ movesBound (p .0)
+-- and so of the moves that a call answers, refused or not
+unfoldable pub MovesBounded : (script : List ℕ) (moves : ℕ) → Type 0
+MovesBounded ws n = (p : Script × Cursor) → readScript ws ≡ got p → n ≤ movesBound (p .0)
+
+-- To unfold this is to unfold every definition of this module: for a proof by computation.
+unfoldable pub computing : Unit {0}
+unfolding Decides WeightHolds MovesBounded
+computing = tt
