@@ -16,11 +16,11 @@ enum { SKYCORBEL_REFUSED = 0, SKYCORBEL_NO = 1, SKYCORBEL_YES = 2 };
 enum {
     SKYCORBEL_SAID = 0,     /* refused, no or yes */
     SKYCORBEL_QUESTION = 1, /* the number of the question that refuses, 1 to 19; else 0 */
-    SKYCORBEL_PLACE = 2,    /* its place; else 0 */
-    SKYCORBEL_MOVES = 3,    /* moves made */
+    SKYCORBEL_PLACE = 2,    /* its place, at most 4096; else 0 */
+    SKYCORBEL_MOVES = 3,    /* moves made, at most 4096 */
     SKYCORBEL_VISITS = 4,   /* visits made */
     SKYCORBEL_DEEPEST = 5,  /* the greatest depth; 0 where refused, as the next two */
-    SKYCORBEL_WEIGHT = 6,   /* parts in the tree plus twice the receipts made */
+    SKYCORBEL_WEIGHT = 6,   /* parts in the tree plus twice the receipts made, at most 64 */
     SKYCORBEL_WORDS = 7,    /* words of the tree, which stand at the start of out */
     SKYCORBEL_ANSWER_WORDS = 8
 };

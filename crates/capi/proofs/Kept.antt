@@ -1,17 +1,20 @@
--- What the call for C hands on of the call: with room for the answer, and without. Assumes nothing.
-use Prim.Native.Nat.{ℕ, _≤_, _<_}
+-- What the call for C hands on of the call, with room for the answer and without; and that an answer's numbers fit words.
+-- Assumes nothing.
+use Prim.Native.Nat.{ℕ, _^_, _≤_, _<_}
 use mathlib.Core.List.{List, _++_}
-use mathlib.Core.Path.{_≡_, refl, ap, _∙_}
+use mathlib.Core.Path.{_≡_, refl, sym, ap, _∙_, subst}
+use native.Mathlib.Omega.{arith}
 use lib.ListN.{length, drop}
 use borrow.Author.Tests.{le-leb, lt-leb}
-use Rattle.plain_call.specs.Call.{Call, Answer, answer}
-use Rattle.checker.specs.Answering.{answerOf}
+use Rattle.plain_call.specs.Call.{Call, Verdict, accepted, refused, Answer, answer}
+use Rattle.checker.specs.Answering.{verdictOf, answerOf}
 use Rattle.checker.specs.declared.Answer as engine
 use Rattle.plain_call.specs.Standing.{Decides, MovesBounded, WeightHolds}
 use Rattle.checker.proofs.Concluding.{decides}
 use Rattle.plain_call.proofs.ClosureRuns.{moves-bounded}
 use Rattle.plain_call.proofs.Runs.{weight-holds}
-use Rattle.capi.specs.Told.{told, returned, answered, written}
+use Rattle.plain_call.proofs.Small.{PlaceWithin, Small, answer-small}
+use Rattle.capi.specs.Told.{placeOf, told, returned, answered, written}
 
 -- what every call keeps to
 abbrev pub Keeps : Call → Type 0
@@ -30,3 +33,15 @@ pub told-whole : (c : Call) (words : List ℕ) (r : engine.Answer) (out : List �
 unfolding answerOf
 told-whole c words r out e l t =
     (rw (le-leb 8 (length words) l) refl, (rw (le-leb 8 (length words) l) (t ∙ ap (λ (a : Answer). told a ++ drop 8 words) e), (rw (le-leb 8 (length words) l) (ap (λ (a : Answer). a .buffer) e), keeps c)))
+
+-- place, moves and weight of a call's answer are words
+place-fits : (v : Verdict) → PlaceWithin 4096 v → placeOf v < 2 ^ 32
+unfolding placeOf
+place-fits (accepted a) h = omega arith
+place-fits (refused q i) h = omega arith
+
+pub numbers-fit : (c : Call) (r : engine.Answer) (out : List ℕ) → answerOf r out ≡ answer c → (placeOf (verdictOf (r .verdict)) < 2 ^ 32) × (r .moves < 2 ^ 32) × (r .weight < 2 ^ 32)
+unfolding answerOf
+numbers-fit c r out e =
+    let s : Small (answerOf r out) = subst Small (sym e) (answer-small c) in
+    (place-fits (verdictOf (r .verdict)) (s .place), omega (arith, s .moves), omega (arith, s .weight))

@@ -1,2 +1,2 @@
--- What the call for C hands on.
+-- What the call for C hands on, and that an answer's numbers fit words.
 pub mod Kept

@@ -1,6 +1,6 @@
 -- What the call for C and Rust does with the two buffers that it is lent: the eight words of an answer, and the tree.
 -- Assumes nothing: these are definitions.
-use Prim.Native.Nat.{ℕ, min}
+use Prim.Native.Nat.{ℕ}
 use mathlib.Core.Bool.{Bool, true, false, cond}
 use mathlib.Core.List.{List, [], _∷_, _++_}
 use lib.ListN.{length, drop}
@@ -22,20 +22,16 @@ unfoldable pub placeOf : Verdict → ℕ
 placeOf (accepted a) = 0
 placeOf (refused q i) = i
 
--- a count as a word: the greatest word where it is greater
-abbrev pub narrowed : ℕ → ℕ
-narrowed n = min n 4294967295
-
 -- the eight words of an answer: "0 refused, 1 no, 2 yes; number; place; moves; visits; deepest; weight; words"
 unfoldable pub told : Answer → List ℕ
 told a =
     saidOf (a .verdict)
     ∷ questionOf (a .verdict)
-    ∷ narrowed (placeOf (a .verdict))
-    ∷ narrowed (a .moves)
+    ∷ placeOf (a .verdict)
+    ∷ a .moves
     ∷ a .visits
     ∷ a .deepest
-    ∷ narrowed (a .weight)
+    ∷ a .weight
     ∷ a .words
     ∷ []
 

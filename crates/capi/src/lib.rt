@@ -4,12 +4,12 @@ use checker::Verdict;
 use checker::call;
 ghost use mathlib.Core.Path.{_≡_};
 ghost use mathlib.Core.List.{List, _++_};
-ghost use Prim.Native.Nat.{ℕ, _≤_};
+ghost use Prim.Native.Nat.{ℕ, _^_, _≤_, _<_};
 ghost use lib.ListN.{length, drop};
 ghost use Rattle.plain_call.specs.Call.{answer as plainAnswer};
 ghost use Rattle.checker.specs.Answering.{verdictOf, answerOf, callOf};
 ghost use Rattle.plain_call.specs.Standing.{Decides, MovesBounded, WeightHolds};
-ghost use Rattle.capi.specs.Told.{saidOf, questionOf, placeOf, narrowed, told, returned, answered, written};
+ghost use Rattle.capi.specs.Told.{saidOf, questionOf, placeOf, told, returned, answered, written};
 
 // Yes, no or refused, as the first word of an answer has it.
 fn said(v: Verdict) -> u32
@@ -47,29 +47,19 @@ fn place_of(v: Verdict) -> usize
     }
 }
 
-// A count as a word: the greatest word where it is greater, which the questions at the door keep it from being.
-fn narrow(n: usize) -> u32
-    ensures { λ r. ⌜ r ≡ narrowed n ⌝ }
-{
-    if n < 4294967295 {
-        return n as u32;
-    }
-    4294967295
-}
-
 // The eight words of an answer.
 fn tell(a: Answer, answer: &mut [u32])
-    requires { ⌜ 8 ≤ length (now answer) ⌝ }
+    requires { ⌜ (8 ≤ length (now answer)) × (placeOf (verdictOf (a .verdict)) < 2 ^ 32) × (a .moves < 2 ^ 32) × (a .weight < 2 ^ 32) ⌝ }
     ensures { λ _. ⌜ ((buffer : List ℕ) → now (answer .exit) ≡ told (answerOf a buffer) ++ drop 8 (now (answer .entry))) ⌝ }
 {
     let verdict = a.verdict;
     answer[0] = said(verdict);
     answer[1] = question_of(verdict);
-    answer[2] = narrow(place_of(verdict));
-    answer[3] = narrow(a.moves);
+    answer[2] = place_of(verdict) as u32;
+    answer[3] = a.moves as u32;
     answer[4] = a.visits;
     answer[5] = a.deepest;
-    answer[6] = narrow(a.weight);
+    answer[6] = a.weight as u32;
     answer[7] = a.words;
 }
 

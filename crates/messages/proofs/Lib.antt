@@ -4,3 +4,4 @@ pub mod Tails
 pub mod Laws
 pub mod Cases
 pub mod Spells
+pub mod Places

@@ -62,11 +62,15 @@ started-parts : (b : Script) → parts (started b) ≤ parts b
 unfolding started hold settle
 started-parts b = omega (arith, settle-sum (λ i h. 1) bare (hold b), map-sum (λ i h. 1) (λ (w : Written). holdHead (w .head)) b)
 
--- THEOREM: before the first move and after each, parts plus twice the receipts made are at most the script's parts.
+begun-weight : (b : Script) → weightOf (begun b) ≤ parts b
+unfolding weightOf
+begun-weight b = omega (arith, started-parts b)
+
+-- THEOREM: after a list that is made, parts plus twice the receipts made are at most the script's parts.
+pub run-weighed : (n : ℕ) (ws : List ℕ) (b : Script) (m : Machine) → run n 0 ws (begun b) ≡ moved m → weightOf m ≤ parts b
+run-weighed n ws b m e = run-weight n 0 ws (begun b) m (parts b) (begun-weight b) e
+
+-- THEOREM: and so before the first move of a call and after each.
 pub weight-holds : (c : Call) → WeightHolds c
 unfolding WeightHolds
-weight-holds c p r k m a =
-    run-weight (p .1 .number) 0 (take k (c .moves)) (begun (p .0)) m (parts (p .0)) (begun-weight (p .0)) a
-  where
-    begun-weight : (b : Script) → weightOf (begun b) ≤ parts b
-    begun-weight b = unfold weightOf in omega (arith, started-parts b)
+weight-holds c p r k m a = run-weighed (p .1 .number) (take k (c .moves)) (p .0) m a

@@ -7,3 +7,4 @@ pub mod Steps
 pub mod Tabled
 pub mod Whole
 pub mod Inversion
+pub mod Places

@@ -1,15 +1,17 @@
--- Laws of the readers of bodies and parts: where they stand when they have read one, and that more fuel than words
--- changes nothing. Assumes nothing.
+-- Laws of the readers of bodies and parts: where they stand when they have read one, that more fuel than words changes
+-- nothing, and what question 1 says. Assumes nothing.
 use Prim.Native.Nat.{ℕ, zero, suc, _+_, _≤_, _<_}
+use mathlib.Core.Bool.{Bool, true, false, _&&_, false≢true}
 use mathlib.Core.List.{List, _∷_}
 use mathlib.Core.Path.{_≡_, refl, sym, ap, _∙_, subst}
 use native.Mathlib.Omega.{arith}
 use lib.Dec.{leb}
 use lib.ListN.{length, drop}
-use Rattle.messages.specs.Reading.{Cursor, cursor, Reading, refuse, got, _>>=_, ask, nextWord, nextPart}
+use borrow.Author.Tests.{leb-true}
+use Rattle.messages.specs.Reading.{Cursor, Reading, got, _>>=_, ask, nextWord, nextPart}
 use Rattle.messages.specs.Message.{Message}
 use Rattle.messages.specs.ReadMessage.{readMessage}
-use Rattle.messages.proofs.Readings.{refuse≢got, bind-all, got-all, bind-cong, bind-refuse, Advances, advances-on, Stands, stands-on, Next, next, next-advances, next-shorter, advances-shorter, next-end}
+use Rattle.messages.proofs.Readings.{refuse≢got, bind-all, got-all, bind-cong, bind-refuse, ask-inv, Advances, advances-on, Stands, stands-on, Next, next, next-advances, next-shorter, advances-shorter, next-end}
 use Rattle.messages.specs.Spelling.{messageAt}
 use Rattle.messages.proofs.Laws.{MessageRead, message-advances, message-fuel}
 use Rattle.messages.proofs.Spells.{read-message}
@@ -241,3 +243,11 @@ body-fuel (suc f) (suc g) nest around c hf hg =
     (λ d h. message-fuel f g nest around d (omega arith) (omega arith))
     (λ a d h. body-fuel f g (suc nest) a d (omega arith) (omega arith))
     (partWord (w .0)) (c .index) (nextPart (w .1)) (omega arith))))))
+
+-- a script that question 1 lets pass has at most 1,024 words
+pub short : (ws : List ℕ) (u : Unit {0}) → ask 1 0 (leb 1 (length ws) && leb (length ws) 1024) ≡ got u → length ws ≤ 1024
+short ws u e = leb-true (length ws) 1024 (second (leb 1 (length ws)) (leb (length ws) 1024) (ask-inv 1 0 _ u e))
+  where
+    second : (x y : Bool) → (x && y) ≡ true → y ≡ true
+    second true y e = e
+    second false y e = absurd (false≢true e)

@@ -6,3 +6,4 @@ pub mod Whole
 pub mod Cases
 pub mod Numbers
 pub mod Tabled
+pub mod Places

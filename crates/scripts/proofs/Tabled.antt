@@ -2,7 +2,7 @@
 -- what reading gives: the parts are numbered in word order, and their messages are those that the words spell.
 -- Assumes nothing.
 use Prim.Native.Nat.{ℕ, _+_, _-_, _≤_, _<_}
-use mathlib.Core.Bool.{Bool, true, false, _&&_, true≢false}
+use mathlib.Core.Bool.{Bool, true, false, _&&_}
 use mathlib.Core.List.{List, [], _∷_, _++_, append-assoc, append-nil}
 use mathlib.Core.Path.{_≡_, refl, sym, ap, ap₂, _∙_, subst}
 use mathlib.Core.Logic.{_⊎_, inl, inr, ⊎-elim}
@@ -22,7 +22,7 @@ use Rattle.scripts.specs.Table.{vacant, entered, startOf, tabulate, scan
 use Rattle.scripts.specs.Represents.{Numbered, Held, bodyIn, headAt, headIn, written, Placed, Low, Tabled}
 use Rattle.scripts.specs.declared.Table.{Table}
 use Rattle.scripts.specs.declared.Scan.{Scan}
-use Rattle.scripts.proofs.Laws.{body-advances}
+use Rattle.scripts.proofs.Laws.{body-advances, short}
 
 -- ---- a number above all others of a rising list is inserted at its end
 
@@ -310,12 +310,8 @@ script-tabled ws =
     (λ _ _. bind-all (Holds ws) (ask 6 0 (leb (q .1 .number) 64)) _
     (λ u e₆. got-all (Holds ws) q
     (let b = body-advances (length ws) 0 [] (cursor 0 0 ws) q e in
-    let few : length ws ≤ 1024 = leb-true (length ws) 1024 (second (leb 1 (length ws)) (leb (length ws) 1024) (ask-inv 1 0 _ u₁ e₁)) in
+    let few : length ws ≤ 1024 = short ws u₁ e₁ in
     tabled ws (q .0) (b .numbered) (b .placed ws refl) (b .low 1024 (omega (arith, b .advances .within))) (omega (arith, b .numbers, leb-true (q .1 .number) 64 (ask-inv 6 0 _ u e₆))))))))
-  where
-    second : (x y : Bool) → (x && y) ≡ true → y ≡ true
-    second true y e = e
-    second false y e = absurd (true≢false (sym e))
 
 -- the cursor's number is the number of parts
 abbrev Counts : Script × Cursor → Type 0
