@@ -2,4 +2,3 @@
 pub mod Resolve
 pub mod Measures
 pub mod Passes
-pub mod Held

@@ -16,7 +16,6 @@ use Rattle.messages.specs.declared.First.the-variants.{Enter as AskEnter, Exit 
 use Rattle.bindings.specs.declared.Shape.{Shape}
 use Rattle.bindings.specs.declared.Search.{Search}
 use Rattle.bindings.specs.Resolve.{resolve, place}
-use Rattle.bindings.specs.Measures.{size}
 
 -- the first of the words
 unfoldable pub firstWord : List ℕ → MessageWord
@@ -32,11 +31,6 @@ firsts (suc p) s = top s ∷ firsts p (drop 1 s)
 unfoldable pub allItems : List (ℕ × Message) → List Message → List Message
 allItems σ [] = []
 allItems σ (m ∷ ms) = items (resolve σ m) ++ allItems σ ms
-
--- the words that the messages are written with, each after the bindings
-unfoldable pub allSizes : List (ℕ × Message) → List Message → ℕ
-allSizes σ [] = 0
-allSizes σ (m ∷ ms) = size (resolve σ m) + allSizes σ ms
 
 -- How a word begins a message: how many items it is of its own if it is no variable with a binding, how many messages
 -- behind it are closed in such an item, and how many stand open, as those of PATH, whose items are their own.
@@ -105,22 +99,11 @@ wordItems σ Unfit s = []
 unfoldable pub ownItems : List (ℕ × Message) → (words : List ℕ) → List Message
 ownItems σ ws = wordItems σ (firstWord ws) (spelled (drop 1 ws))
 
--- the words that a word is written with itself, after the bindings
-unfoldable pub ownSize : List (ℕ × Message) → MessageWord → ℕ
-ownSize σ (Name n) = 1
-ownSize σ (Variable v) = size (resolve σ (variable v))
-ownSize σ Enter = 1
-ownSize σ Exit = 1
-ownSize σ Open = 1
-ownSize σ Empty = 1
-ownSize σ Path = 1
-ownSize σ Unfit = 1
-
 -- where a search for an item stands
 abbrev pub searching : (left pending before older : ℕ) → Search
 searching l p b o = record { left = l; pending = p; before = b; older = o }
 
 -- To unfold this is to unfold every definition of this module: for a proof by computation.
 unfoldable pub computing : Unit {0}
-unfolding firstWord firsts allItems allSizes shapeOf boundAt plainName plainItem wordItems ownItems ownSize
+unfolding firstWord firsts allItems shapeOf boundAt plainName plainItem wordItems ownItems
 computing = tt

@@ -8,7 +8,7 @@ use lib.Dec.{leb}
 use lib.ListN.{length, drop, length-drop}
 use Rattle.scripts.specs.Tree.{parts}
 use Rattle.bindings.specs.Resolve.{bindingsIn}
-use Rattle.bindings.specs.Held.{bindingsOf}
+use Rattle.held_bindings.specs.Held.{bindingsOf}
 use Rattle.machine.specs.PlainMachine.{Machine, weightOf}
 use Rattle.machine.proofs.Sums.{map-sum}
 use Rattle.closure_machine.specs.Closure.{Closure, unfoldHead, unfolded, unfoldMachine}

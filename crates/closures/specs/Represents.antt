@@ -10,9 +10,9 @@ use Rattle.messages.specs.Spelling.{messageAt}
 use Rattle.scripts.specs.Tree.{ambient, action, receipt, output, tops, parts, count}
 use Rattle.scripts.specs.Represents.{Held, bodyIn}
 use Rattle.bindings.specs.Resolve.{messageOf}
-use Rattle.bindings.specs.Held.{bindingsOf}
-use Rattle.bindings.specs.Held as bindings
-use Rattle.bindings.specs.declared.Bindings as arrays
+use Rattle.held_bindings.specs.Held.{bindingsOf}
+use Rattle.held_bindings.specs.Held as bindings
+use Rattle.held_bindings.specs.declared.Bindings as arrays
 use Rattle.closure_machine.specs.Closure.{ClosureHead, Closure, Bindings}
 use Rattle.closures.specs.Seen.{Seen}
 use Rattle.closures.specs.declared.State.{State}

@@ -1,10 +1,10 @@
 // What the engine keeps of a closure: its state, what is asked of the parts again and again, the places of the parts, the
-// targets of an actor and the weight. It rests on the promises of bindings, scripts, messages and sets.
-use bindings::Bindings;
+// targets of an actor and the weight. It rests on the promises of held_bindings, bindings, scripts, messages and sets.
 use bindings::first_item;
 use bindings::name_at;
 use bindings::tail;
 use bindings::wide;
+use held_bindings::Bindings;
 use messages::First;
 use messages::Named;
 ghost use mathlib.Core.Path.{_≡_};

@@ -12,7 +12,7 @@ use Rattle.messages.specs.declared.First.{First}
 use Rattle.sets.specs.Sets.{members, elem, insert, remove}
 use Rattle.scripts.specs.Tree.{count}
 use Rattle.scripts.specs.Represents.{bodyIn}
-use Rattle.bindings.specs.Held.{bindingsOf}
+use Rattle.held_bindings.specs.Held.{bindingsOf}
 use Rattle.machine.specs.Moves.{firstOf}
 use Rattle.machine.proofs.Options.{byTest}
 use Rattle.closure_machine.specs.Closure.{Closure, under}

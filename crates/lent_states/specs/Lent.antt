@@ -4,7 +4,7 @@ use Prim.Native.Nat.{ℕ, zero, suc, _+_, _≤_, _<_}
 use mathlib.Core.List.{List, [], _∷_}
 use mathlib.Core.Path.{_≡_}
 use lib.ListN.{getD, set, length}
-use Rattle.bindings.specs.declared.Bindings.{Bindings}
+use Rattle.held_bindings.specs.declared.Bindings.{Bindings}
 use Rattle.closures.specs.Represents.{Ready}
 use Rattle.closures.specs.declared.State.{State}
 

@@ -16,7 +16,7 @@ use Rattle.messages.specs.Spelling.{top, push, spelled, messageAt}
 use Rattle.messages.specs.declared.MessageWord.{MessageWord}
 use Rattle.messages.specs.declared.MessageWord.the-variants.{Name, Variable, Enter, Exit, Open, Empty, Path, Unfit}
 use Rattle.bindings.specs.Resolve.{resolve, bindingsIn}
-use Rattle.bindings.specs.Measures.{size, itemsSize}
+use Rattle.held_bindings.specs.Sizes.{size, itemsSize}
 use Rattle.bindings.specs.Passes.{firstWord, firsts, shapeOf, arityOf, boundAt}
 use Rattle.bindings.proofs.Resolving.{by-test, resolve-name, resolve-enter, resolve-exit, resolve-opens, resolve-empty, resolve-path}
 use Rattle.bindings.proofs.Passing.{firsts-first, Free, bound, bound-variable, given-place}

@@ -16,8 +16,8 @@ use Rattle.messages.specs.declared.First.the-variants.{Nothing}
 use Rattle.sets.specs.Sets.{members, elem, insert, remove, join}
 use Rattle.scripts.specs.Tree.{receipt, output}
 use Rattle.scripts.specs.Represents.{bodyIn}
-use Rattle.bindings.specs.Held.{bindingsOf}
-use Rattle.bindings.specs.declared.Bindings as arrays
+use Rattle.held_bindings.specs.Held.{bindingsOf}
+use Rattle.held_bindings.specs.declared.Bindings as arrays
 use Rattle.machine.specs.Moves.{sameName, toEnter, toExit, toOpen, firstOf, headName, variableOf, messageOf}
 use Rattle.machine.proofs.Inversion.{here-inv}
 use Rattle.machine.proofs.Options.{and-inv}

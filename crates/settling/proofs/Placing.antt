@@ -12,7 +12,7 @@ use Rattle.sets.specs.Sets.{members}
 use Rattle.scripts.specs.Tree.{ambient, close, part, tops, sum, parts, count}
 use Rattle.scripts.specs.Represents.{bodyIn}
 use Rattle.bindings.specs.Resolve.{messageOf}
-use Rattle.bindings.specs.declared.Bindings as arrays
+use Rattle.held_bindings.specs.declared.Bindings as arrays
 use Rattle.machine.proofs.Options.{byTest}
 use Rattle.closure_machine.specs.Closure.{Closure}
 use Rattle.closures.specs.Represents.{headOf, heads, Represents}

@@ -15,8 +15,8 @@ use Rattle.scripts.specs.Script.{Written, Script}
 use Rattle.scripts.specs.Represents.{Held, bodyIn, headAt, headIn, written, Tabled}
 use Rattle.scripts.proofs.Numbers.{numbered-range}
 use Rattle.bindings.specs.Resolve.{messageOf}
-use Rattle.bindings.specs.declared.Bindings as arrays
-use Rattle.bindings.specs.Held.{bindingsOf}
+use Rattle.held_bindings.specs.declared.Bindings as arrays
+use Rattle.held_bindings.specs.Held.{bindingsOf}
 use Rattle.machine.proofs.Options.{byTest}
 use Rattle.machine.proofs.Sums.{map-sum, settle-sum}
 use Rattle.machine.proofs.Naturality.{tops-map}

@@ -1,8 +1,6 @@
 // What a move leaves of a state: an item is spent or a message received, and what has no items left is gone; the first
-// state of a script, and the state inside a new ambient (PLACED). It rests on the promises of lent_states, closures, bindings,
-// messages and sets.
-use bindings::bind;
-use bindings::none;
+// state of a script, and the state inside a new ambient (PLACED). It rests on the promises of lent_states, closures,
+// held_bindings, bindings, messages and sets.
 use bindings::tail;
 use bindings::wide;
 use closures::State;
@@ -10,6 +8,8 @@ use closures::item_deed;
 use closures::looked;
 use closures::part_item;
 use closures::with_if;
+use held_bindings::bind;
+use held_bindings::none;
 use lent_states::Placed;
 use lent_states::borrowed;
 use lent_states::lend;
@@ -25,7 +25,7 @@ ghost use Rattle.messages.specs.Message.{name as named};
 ghost use Rattle.scripts.specs.Tree.{ambient, close, part, parts, count};
 ghost use Rattle.scripts.specs.Represents.{bodyIn, Tabled};
 ghost use Rattle.scripts.specs.Script.{Script};
-ghost use Rattle.bindings.specs.Held.{bindingsOf};
+ghost use Rattle.held_bindings.specs.Held.{bindingsOf};
 ghost use Rattle.machine.specs.Moves.{firstOf};
 ghost use Rattle.closure_machine.specs.Closure.{Closure, under, settleUnder, closureOf};
 ghost use Rattle.closures.specs.Searches.{SettlesBy};

@@ -1,6 +1,6 @@
 -- `looked` meets its contract: what is kept is read anew. Assumes nothing.
 use mathlib.Core.Path.{refl, subst}
-use Rattle.bindings.specs.Held.{bindingsOf}
+use Rattle.held_bindings.specs.Held.{bindingsOf}
 use Rattle.closure_machine.specs.Closure.{Bindings}
 use Rattle.closures.specs.Represents.{heads}
 use Rattle.closures.specs.Seen.{Seen}

@@ -2,8 +2,8 @@
 use mathlib.Core.List.{[]}
 use mathlib.Core.Path.{_≡_, refl, sym, ap, _∙_, subst, transport}
 use native.Mathlib.Omega.{arith}
-use Rattle.bindings.specs.Held.{bindingsOf}
-use Rattle.bindings.specs.declared.Bindings as arrays
+use Rattle.held_bindings.specs.Held.{bindingsOf}
+use Rattle.held_bindings.specs.declared.Bindings as arrays
 use Rattle.scripts.specs.Tree.{parts}
 use Rattle.closure_machine.specs.Closure.{Bindings, settleUnder, closureOf}
 use Rattle.closures.specs.Represents.{boundIn, Ready, Represents}

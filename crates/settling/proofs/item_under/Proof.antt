@@ -2,7 +2,7 @@
 use mathlib.Core.Path.{_≡_, sym, _∙_, subst, transport}
 use lib.ListN.{getD, drop}
 use Rattle.bindings.specs.Resolve.{bindingsIn}
-use Rattle.bindings.specs.Held.{bindingsOf}
+use Rattle.held_bindings.specs.Held.{bindingsOf}
 use Rattle.bindings.specs.Measures.{Kept, itemCount}
 use Rattle.machine.specs.Moves.{firstOf}
 use Rattle.closure_machine.specs.Closure.{Bindings, under}

@@ -2,7 +2,7 @@
 use mathlib.Core.Path.{_≡_, ap}
 use native.Mathlib.Omega.{arith}
 use lib.ListN.{length}
-use Rattle.bindings.specs.Held.{bindingsOf}
+use Rattle.held_bindings.specs.Held.{bindingsOf}
 use Rattle.settling.proofs.Placing.{placed-is}
 use borrow.Author.Needs.{needs}
 use borrow.Author.Needs.{needs}

@@ -4,8 +4,8 @@ use mathlib.Core.Path.{_≡_, ap, _∙_}
 use native.Mathlib.Omega.{arith}
 use lib.ListN.{getD}
 use Rattle.sets.specs.Sets.{members, remove, join}
-use Rattle.bindings.specs.Held.{bindingsOf}
-use Rattle.bindings.specs.declared.Bindings as arrays
+use Rattle.held_bindings.specs.Held.{bindingsOf}
+use Rattle.held_bindings.specs.declared.Bindings as arrays
 use borrow.Author.Needs.{needs}
 use Rattle.settling.proofs.received.Statement.{statement}
 use Rattle.settling.proofs.received.Tie as tie

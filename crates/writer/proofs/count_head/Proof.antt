@@ -5,7 +5,8 @@ use lib.ListN.{length, drop}
 use Rattle.messages.specs.Message.{items}
 use Rattle.messages.specs.Spelling.{messageAt}
 use Rattle.bindings.specs.Resolve.{resolve, bindingsIn}
-use Rattle.bindings.specs.Measures.{capped, cappedItems}
+use Rattle.bindings.specs.Measures.{capped}
+use Rattle.held_bindings.specs.Sizes.{cappedItems}
 use Rattle.closures.specs.Represents.{headOf}
 use Rattle.message_writer.proofs.Words.{message-length, items-length}
 use Rattle.writer.proofs.Parts.{label-action, label-receipt, label-message, counted-label}

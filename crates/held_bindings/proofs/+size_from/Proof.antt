@@ -1,4 +1,4 @@
--- `bindings::size_from` meets its contract. The measure falls with the words, and where there are none, with the
+-- `held_bindings::size_from` meets its contract. The measure falls with the words, and where there are none, with the
 -- messages. Assumes nothing.
 use Prim.Native.Nat.{ℕ, _+_, _-_, _*_, _<_}
 use mathlib.Core.Path.{ap}
@@ -6,22 +6,24 @@ use native.Mathlib.Omega.{arith}
 use borrow.Author.Needs.{needs}
 use lib.ListN.{length, drop}
 use Rattle.messages.specs.Spelling.{spelled}
 use Rattle.bindings.specs.Resolve.{bindingsIn}
-use Rattle.bindings.specs.Passes.{firstWord, firsts, allSizes, arityOf, ownSize}
+use Rattle.bindings.specs.Passes.{firstWord, firsts, arityOf}
+use Rattle.held_bindings.specs.Sizes.{allSizes, ownSize}
 use Rattle.bindings.proofs.Passing.{room}
-use Rattle.bindings.proofs.Counting.{none-size, sizes-first, capped-sum}
+use Rattle.bindings.proofs.Counting.{capped-sum}
+use Rattle.held_bindings.proofs.Sizing.{none-size, sizes-first}
 use borrow.Fn.Kinds.{In}
 use borrow.Fn.PlainCycle.{Measures, is, falls, and}
-use Rattle.bindings.proofs.size_from.Reads as size-from
-use Rattle.bindings.proofs.size_from.Kinds as size-from-kinds
-use Rattle.bindings.proofs.+size_from.Lts-size_from as size-from-lts
+use Rattle.held_bindings.proofs.size_from.Reads as size-from
+use Rattle.held_bindings.proofs.size_from.Kinds as size-from-kinds
+use Rattle.held_bindings.proofs.+size_from.Lts-size_from as size-from-lts
 use Rattle.bindings.proofs.arity.Reads as arity-reads
 use Rattle.bindings.proofs.first_word.Reads as first-word-reads
-use Rattle.bindings.proofs.own_size.Reads as own-size-reads
+use Rattle.held_bindings.proofs.own_size.Reads as own-size-reads
 use Rattle.bindings.proofs.sum.Reads as sum-reads
 use Rattle.bindings.proofs.tail.Reads as tail-reads
-use Rattle.bindings.proofs.+size_from.{statement}
-use Rattle.bindings.proofs.+size_from.Tie.{close}
+use Rattle.held_bindings.proofs.+size_from.{statement}
+use Rattle.held_bindings.proofs.+size_from.Tie.{close}
 
 abbrev μ-size-from : Measures 3 size-from-kinds.ps ℕ
 μ-size-from κs a = 3 * length (a .0 .now) + a .1 .0

@@ -1,17 +1,18 @@
--- `bindings::item_words` meets its contract: an action's items are written with one word less than their bulk, and none of
--- them with one word. Assumes nothing.
+-- `held_bindings::item_words` meets its contract: an action's items are written with one word less than their bulk, and
+-- none of them with one word. Assumes nothing.
 use mathlib.Core.List.{List}
 use mathlib.Core.Path.{ap, _∙_}
 use borrow.Author.Needs.{needs}
 use lib.ListN.{drop}
 use Rattle.messages.specs.Message.{Message, items}
 use Rattle.messages.specs.Spelling.{messageAt}
 use Rattle.bindings.specs.Resolve.{resolve, bindingsIn}
-use Rattle.bindings.specs.Measures.{capped, bulk}
+use Rattle.bindings.specs.Measures.{capped}
+use Rattle.held_bindings.specs.Sizes.{bulk}
 use Rattle.bindings.proofs.Passing.{one-message}
-use Rattle.bindings.proofs.Counting.{words-none, words-some}
-use Rattle.bindings.proofs.item_words.Statement.{statement}
-use Rattle.bindings.proofs.item_words.Tie as tie
+use Rattle.held_bindings.proofs.Sizing.{words-none, words-some}
+use Rattle.held_bindings.proofs.item_words.Statement.{statement}
+use Rattle.held_bindings.proofs.item_words.Tie as tie
 
 returns : tie.Need-returns
 returns c =

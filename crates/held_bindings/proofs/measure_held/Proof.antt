@@ -1,8 +1,8 @@
--- `bindings::measure_held` meets its contract. Assumes nothing.
+-- `held_bindings::measure_held` meets its contract. Assumes nothing.
 use borrow.Author.Needs.{needs}
-use Rattle.bindings.specs.Held.{bindingsOf}
-use Rattle.bindings.proofs.measure_held.Statement.{statement}
-use Rattle.bindings.proofs.measure_held.Tie as tie
+use Rattle.held_bindings.specs.Held.{bindingsOf}
+use Rattle.held_bindings.proofs.measure_held.Statement.{statement}
+use Rattle.held_bindings.proofs.measure_held.Tie as tie
 
 measure-requires : tie.Need-measure-requires
 measure-requires c κs =

@@ -1,13 +1,14 @@
--- `bindings::bulk_of` meets its contract. Assumes nothing.
+-- `held_bindings::bulk_of` meets its contract. Assumes nothing.
 use mathlib.Core.List.{List}
 use mathlib.Core.Path.{ap, _∙_}
 use borrow.Author.Needs.{needs}
 use lib.ListN.{drop}
 use Rattle.messages.specs.Message.{Message}
-use Rattle.bindings.specs.Measures.{capped, bulk}
+use Rattle.bindings.specs.Measures.{capped}
+use Rattle.held_bindings.specs.Sizes.{bulk}
 use Rattle.bindings.proofs.Passing.{one-message}
-use Rattle.bindings.proofs.bulk_of.Statement.{statement}
-use Rattle.bindings.proofs.bulk_of.Tie as tie
+use Rattle.held_bindings.proofs.bulk_of.Statement.{statement}
+use Rattle.held_bindings.proofs.bulk_of.Tie as tie
 
 returns : tie.Need-returns
 returns c =

@@ -1,12 +1,13 @@
--- `bindings::words_of` meets its contract. Assumes nothing.
+-- `held_bindings::words_of` meets its contract. Assumes nothing.
 use mathlib.Core.Path.{ap, _∙_}
 use native.Mathlib.Omega.{arith}
 use borrow.Author.Needs.{needs}
 use lib.ListN.{length, drop, length-drop}
 use Rattle.bindings.specs.Measures.{capped}
-use Rattle.bindings.proofs.Counting.{kept-length, one-size}
-use Rattle.bindings.proofs.words_of.Statement.{statement}
-use Rattle.bindings.proofs.words_of.Tie as tie
+use Rattle.bindings.proofs.Counting.{kept-length}
+use Rattle.held_bindings.proofs.Sizing.{one-size}
+use Rattle.held_bindings.proofs.words_of.Statement.{statement}
+use Rattle.held_bindings.proofs.words_of.Tie as tie
 
 size-from-requires : tie.Need-size-from-requires
 size-from-requires c κs =

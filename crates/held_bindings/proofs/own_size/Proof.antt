@@ -1,13 +1,14 @@
--- `bindings::own_size` meets its contract. Assumes nothing.
+-- `held_bindings::own_size` meets its contract. Assumes nothing.
 use mathlib.Core.Path.{ap, _∙_}
 use native.Mathlib.Omega.{arith}
 use borrow.Author.Needs.{needs}
 use Rattle.bindings.specs.Resolve.{bindingsIn}
 use Rattle.bindings.specs.Measures.{capped}
 use Rattle.bindings.proofs.Passing.{unbound-free}
-use Rattle.bindings.proofs.Counting.{kept-given, given-size, capped-one}
-use Rattle.bindings.proofs.own_size.Statement.{statement}
-use Rattle.bindings.proofs.own_size.Tie as tie
+use Rattle.bindings.proofs.Counting.{kept-given}
+use Rattle.held_bindings.proofs.Sizing.{given-size, capped-one}
+use Rattle.held_bindings.proofs.own_size.Statement.{statement}
+use Rattle.held_bindings.proofs.own_size.Tie as tie
 
 returns : tie.Need-returns
 returns c =

@@ -1,5 +1,5 @@
--- `bindings::bulk_from` and `bindings::own_bulk` meet their contracts. The measure falls with the bindings, and then with
--- the words and messages that are left. Assumes nothing.
+-- `held_bindings::bulk_from` and `held_bindings::own_bulk` meet their contracts. The measure falls with the bindings, and
+-- then with the words and messages that are left. Assumes nothing.
 use Prim.Native.Nat.{ℕ, suc, _+_, _*_, _<_}
 use mathlib.Core.List.{List}
 use mathlib.Core.Path.{ap, _∙_}
@@ -8,29 +8,31 @@ use borrow.Author.Needs.{needs}
 use lib.ListN.{length, drop, getD, length-drop}
 use Rattle.messages.specs.Message.{Message}
 use Rattle.messages.specs.Spelling.{spelled}
 use Rattle.bindings.specs.Resolve.{bindingsIn}
-use Rattle.bindings.specs.Measures.{capped, bulk}
+use Rattle.bindings.specs.Measures.{capped}
+use Rattle.held_bindings.specs.Sizes.{bulk}
 use Rattle.bindings.specs.Passes.{firstWord, firsts, allItems, ownItems}
 use Rattle.bindings.proofs.Passing.{none-pending, one-message, unbound-free, single, given-items}
-use Rattle.bindings.proofs.Counting.{below-count, kept-length, kept-given, cached-drop, one-size, drop-past, drop-within, bulk-none, bulk-sum, bulk-only, rank, rank-less, rank-older}
+use Rattle.bindings.proofs.Counting.{below-count, kept-length, kept-given, drop-past, drop-within, rank, rank-less, rank-older}
+use Rattle.held_bindings.proofs.Sizing.{cached-drop, one-size, bulk-none, bulk-sum, bulk-only}
 use borrow.Fn.Kinds.{In}
 use borrow.Fn.PlainCycle.{Measures, is, falls, and}
-use Rattle.bindings.proofs.bulk_from.Reads as bulk-from
-use Rattle.bindings.proofs.bulk_from.Kinds as bulk-from-kinds
-use Rattle.bindings.proofs.+bulk_from+own_bulk.Lts-bulk_from as bulk-from-lts
-use Rattle.bindings.proofs.own_bulk.Reads as own-bulk
-use Rattle.bindings.proofs.own_bulk.Kinds as own-bulk-kinds
-use Rattle.bindings.proofs.+bulk_from+own_bulk.Lts-own_bulk as own-bulk-lts
+use Rattle.held_bindings.proofs.bulk_from.Reads as bulk-from
+use Rattle.held_bindings.proofs.bulk_from.Kinds as bulk-from-kinds
+use Rattle.held_bindings.proofs.+bulk_from+own_bulk.Lts-bulk_from as bulk-from-lts
+use Rattle.held_bindings.proofs.own_bulk.Reads as own-bulk
+use Rattle.held_bindings.proofs.own_bulk.Kinds as own-bulk-kinds
+use Rattle.held_bindings.proofs.+bulk_from+own_bulk.Lts-own_bulk as own-bulk-lts
 use Rattle.bindings.proofs.after_own.Reads as after-own-reads
 use Rattle.bindings.proofs.bound.Reads as bound-reads
 use Rattle.bindings.proofs.first_word.Reads as first-word-reads
 use Rattle.bindings.proofs.given.Reads as given-reads
 use Rattle.bindings.proofs.own.Reads as own-reads
-use Rattle.bindings.proofs.size_from.Reads as size-from-reads
+use Rattle.held_bindings.proofs.size_from.Reads as size-from-reads
 use Rattle.bindings.proofs.sum.Reads as sum-reads
 use Rattle.bindings.proofs.tail.Reads as tail-reads
-use Rattle.bindings.proofs.+bulk_from+own_bulk.{statement}
-use Rattle.bindings.proofs.+bulk_from+own_bulk.Tie.{close}
+use Rattle.held_bindings.proofs.+bulk_from+own_bulk.{statement}
+use Rattle.held_bindings.proofs.+bulk_from+own_bulk.Tie.{close}
 
 abbrev μ-bulk-from : Measures 7 bulk-from-kinds.ps ℕ
 μ-bulk-from κs a = rank (length (a .1 .1 .1 .1 .0 .now)) (suc (3 * length (a .1 .0 .now) + a .1 .1 .0))

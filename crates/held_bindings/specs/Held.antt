@@ -5,16 +5,17 @@ use mathlib.Core.List.{List}
 use mathlib.Core.Path.{_≡_}
 use lib.ListN.{drop}
 use Rattle.messages.specs.Message.{Message}
 use Rattle.bindings.specs.Resolve.{bindingsIn}
-use Rattle.bindings.specs.Measures.{capped, itemCount, itemBulk, Cached}
-use Rattle.bindings.specs.Measures as measures
-use Rattle.bindings.specs.declared.Measured.{Measured}
-use Rattle.bindings.specs.declared.Bindings.{Bindings}
+use Rattle.bindings.specs.Measures.{capped, itemCount}
+use Rattle.held_bindings.specs.Sizes.{itemBulk, Cached}
+use Rattle.held_bindings.specs.Sizes as sizes
+use Rattle.held_bindings.specs.declared.Measured.{Measured}
+use Rattle.held_bindings.specs.declared.Bindings.{Bindings}
 
 -- what is counted of a message
 pub record Measures (m : Message) (r : Measured) : Type 0 where
   pub count : r .count ≡ capped (itemCount m)
-  pub size : r .size ≡ capped (measures.size m)
+  pub size : r .size ≡ capped (sizes.size m)
   pub bulk : r .bulk ≡ capped (itemBulk m)
 
 unfoldable pub bindingsOf : (script : List ℕ) → Bindings → List (ℕ × Message)

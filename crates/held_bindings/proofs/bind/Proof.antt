@@ -1,15 +1,15 @@
--- `bindings::bind` meets its contract: the arrays are filled from the end, so that the new binding comes first.
+-- `held_bindings::bind` meets its contract: the arrays are filled from the end, so that the new binding comes first.
 -- Assumes nothing.
 use mathlib.Core.Path.{_≡_, refl}
 use native.Mathlib.Omega.{arith}
 use borrow.Author.Needs.{needs}
 use lib.ListN.{length}
 use Rattle.bindings.specs.Resolve.{bindingsIn}
-use Rattle.bindings.specs.Held.{bindingsOf}
+use Rattle.held_bindings.specs.Held.{bindingsOf}
 use Rattle.messages.proofs.Tails.{drop-set}
-use Rattle.bindings.proofs.Counting.{cached-more}
-use Rattle.bindings.proofs.bind.Statement.{statement}
-use Rattle.bindings.proofs.bind.Tie as tie
+use Rattle.held_bindings.proofs.Sizing.{cached-more}
+use Rattle.held_bindings.proofs.bind.Statement.{statement}
+use Rattle.held_bindings.proofs.bind.Tie as tie
 
 returns : tie.Need-returns
 unfolding bindingsOf bindingsIn

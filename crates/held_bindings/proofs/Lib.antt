@@ -1,0 +1,2 @@
+-- The laws of `held_bindings` that its own proofs cite.
+pub mod Sizing

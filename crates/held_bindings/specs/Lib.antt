@@ -1,0 +1,3 @@
+-- What the contracts of `held_bindings` cite. Assumes nothing: these are definitions.
+pub mod Sizes
+pub mod Held
