@@ -1,6 +1,6 @@
 -- The ambient calculus with public names and its logic, table by table as the paper (000, sections 2.1 and 2.2) prints them.
 -- Nothing here knows of part numbers, of order or of normal forms. Assumes nothing: these are definitions.
-use Prim.Native.Nat.{ℕ, zero, suc, _+_, _≤_}
+use Prim.Native.Nat.{ℕ, suc, _+_, _≤_}
 use mathlib.Core.Bool.{cond}
 use mathlib.Core.List.{List, [], _∷_}
 use mathlib.Core.Path.{_≡_}
@@ -8,7 +8,7 @@ use mathlib.Core.Logic.{_⊎_}
 use lib.Dec.{eqb}
 use Rattle.messages.specs.Message.{Message, name, variable, enter, exit, opens, empty, path}
 use Rattle.messages.specs.Message as message
-use Rattle.scripts.specs.Tree.{Head, Body, close, part, PlainHead, Plain}
+use Rattle.scripts.specs.Tree.{Head, close, part, PlainHead, Plain}
 use Rattle.rules.specs.Rule.{Names, termName, Rule, always, negation, either, void, at, beside, some-name, sometime, somewhere, placed}
 
 infixr 30 _∣_

@@ -1,13 +1,13 @@
 -- Satisfaction: when a tree meets a rule (document 01, "Relation (000, read on normal forms as in 002)"). Not the walk:
 -- nothing here counts, and nothing is bounded. Assumes nothing: these are definitions.
 use Prim.Native.Nat.{ℕ, _+_, _≤_}
-use mathlib.Core.List.{List, [], _∷_}
+use mathlib.Core.List.{List, _∷_}
 use mathlib.Core.Path.{_≡_}
 use mathlib.Core.Logic.{_⊎_}
-use mathlib.Core.Option.{Option, some}
+use mathlib.Core.Option.{some}
 use Rattle.messages.specs.Message.{Message, name}
 use Rattle.messages.specs.declared.Named.the-variants.{Called}
-use Rattle.scripts.specs.Tree.{Head, ambient, Body, close, part, PlainHead, Plain}
+use Rattle.scripts.specs.Tree.{ambient, close, part, PlainHead, Plain}
 use Rattle.machine.specs.Moves.{Moved, headName}
 use Rattle.machine.specs.PlainMachine.{plain, move}
 use Rattle.rules.specs.Rule.{Names, termName, Rule, always, negation, either, void, at, beside, some-name, sometime, somewhere, placed}

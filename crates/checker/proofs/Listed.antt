@@ -18,7 +18,6 @@ use Rattle.closures.specs.declared.State.{State}
 use Rattle.plain_call.specs.Call.{actor, target, moveFits}
 use Rattle.plain_call.specs.ClosureCall.{halted, moved, afterMove, ifMade, closureRun}
 use Rattle.checker.specs.Running.{Ends, Runs}
-use Rattle.checker.specs.declared.Ended.{Ended}
 use Rattle.checker.specs.declared.Ended.the-variants.{Made, Halted}
 
 -- the word at an index, and those behind it

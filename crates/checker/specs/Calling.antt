@@ -1,6 +1,6 @@
 -- What the call's functions hand on: a script and a rule that are read, with the tables that hold them, and the state that
 -- stands when the walk begins. Assumes nothing: these are definitions.
-use Prim.Native.Nat.{ℕ, _≤_}
+use Prim.Native.Nat.{ℕ}
 use mathlib.Core.Bool.{true, _&&_}
 use mathlib.Core.List.{List}
 use mathlib.Core.Path.{_≡_}

@@ -2,7 +2,7 @@
 -- action"): the same moves as the plain machine's, on a tree whose messages are the script's, beside the bindings; and the
 -- plain tree that a closure stands for. Assumes nothing: these are definitions.
 use Prim.Native.Nat.{ℕ, suc}
-use mathlib.Core.Bool.{Bool, true, false}
+use mathlib.Core.Bool.{Bool, false}
 use mathlib.Core.List.{List, [], _∷_, _++_}
 use mathlib.Core.Option.{Option, none, some}
 use lib.ListN.{length, drop}

@@ -1,30 +1,22 @@
 -- What the part table and an offset hold of a head, kind by kind. Assumes nothing.
-use Prim.Native.Nat.{ℕ, suc, _+_, _≤_, _<_}
+use Prim.Native.Nat.{ℕ, suc, _+_}
 use mathlib.Core.Bool.{true, false}
 use mathlib.Core.List.{List}
 use mathlib.Core.Path.{_≡_, refl, sym, ap, _∙_}
 use native.Mathlib.Omega.{arith}
-use lib.Dec.{eqb, leb}
-use lib.ListN.{length, drop}
-use borrow.Author.Tests.{eqb-true, eqb-false, leb-true, leb-false, le-leb, lt-leb}
+use lib.Dec.{eqb}
+use lib.ListN.{drop}
+use borrow.Author.Tests.{eqb-true, eqb-false}
 use Rattle.messages.specs.Message.{Message, items, nameOf, firstItem}
 use Rattle.messages.specs.Spelling.{messageAt}
 use Rattle.messages.specs.declared.Named.the-variants.{Nameless}
 use Rattle.messages.specs.declared.First.the-variants.{Nothing}
 use Rattle.scripts.specs.Tree.{ambient, action, receipt, output, isAmbient}
 use Rattle.bindings.specs.Resolve.{resolve, messageOf}
-use Rattle.bindings.specs.Measures.{capped}
 use Rattle.machine.specs.Moves.{headName, firstOf, spentHead}
 use Rattle.machine.proofs.Options.{byTest}
-use Rattle.closure_machine.specs.Closure.{ClosureHead, Bindings, itemsLeft, under, allSpent}
+use Rattle.closure_machine.specs.Closure.{ClosureHead, Bindings, itemsLeft, under}
 use Rattle.closures.specs.Represents.{headOf}
-
--- a count that stops at 2^32 - 1 is compared as the count itself
-capped-test : (c n o : ℕ) → c ≡ capped n → o < 4294967295 → leb c o ≡ leb n o
-unfolding capped
-capped-test c n o e h = byTest (leb n o)
-    (λ t. le-leb c o (let z : n ≤ o = leb-true n o t in omega arith) ∙ sym t)
-    (λ t. lt-leb c o (let z : o < n = leb-false n o t in omega arith) ∙ sym t)
 
 module _ (script : List ℕ) (kind start offset : ℕ) where
   abbrev word : Message
@@ -88,11 +80,3 @@ module _ (script : List ℕ) (kind start offset : ℕ) where
     pub the-item : kind ≡ 2 → firstItem (drop offset (items (resolve σ word))) ≡ firstOf (under σ) (headOf script kind start offset)
     unfolding firstOf itemsLeft
     the-item e = sym (ap (firstOf (under σ)) (head-action e))
-
-    pub not-spent : (kind ≡ 2 → ⊥) → false ≡ allSpent σ (headOf script kind start offset)
-    unfolding allSpent
-    not-spent n = by-kind (λ h. false ≡ allSpent σ h) (λ f. refl) (λ f. absurd (n f)) (λ f. refl) (λ a b c. refl)
-
-    pub is-spent : (c : ℕ) → kind ≡ 2 → offset < 4294967295 → c ≡ capped (length (items (resolve σ word))) → leb c offset ≡ allSpent σ (headOf script kind start offset)
-    unfolding allSpent
-    is-spent c e l q = capped-test c (length (items (resolve σ word))) offset q l ∙ sym (ap (allSpent σ) (head-action e))

@@ -51,14 +51,6 @@ module _ (script kinds starts : List ℕ) (weight spent : ℕ) (s : State) (f : 
   sited : Sited
   sited = site σ k w t g needs f (R .top) (R .once) (R .inside) (R .held)
 
-  -- the target stands nowhere, or in the body of b
-  pub no-place : (b : ℕ) → b ≡ place σ t f → 65 ≤ b → anywhere (under σ) g f ≡ none
-  no-place b e l = pick sited
-    where
-      pick : Sited → anywhere (under σ) g f ≡ none
-      pick (inl z) = z .1
-      pick (inr z) = absurd (let o : ⊥ = omega (arith, z .0) in o)
-
   pub at : (b : ℕ) → b ≡ place σ t f → b < 65 → At b
   at b e l = pick sited
     where

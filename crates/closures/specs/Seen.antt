@@ -11,7 +11,7 @@ use Rattle.messages.specs.declared.Named.the-variants.{Called, Nameless}
 use Rattle.messages.specs.declared.First.{First}
 use Rattle.messages.specs.declared.First.the-variants.{Nothing, Enter, Exit, Open, Other}
 use Rattle.sets.specs.Sets.{members, elem}
-use Rattle.scripts.specs.Tree.{Head, ambient, action, receipt, output, isAmbient}
+use Rattle.scripts.specs.Tree.{ambient, action, receipt, output, isAmbient}
 use Rattle.machine.specs.Moves.{isNamed, sameName, headName, firstOf}
 use Rattle.closure_machine.specs.Closure.{ClosureHead, Bindings, under, allSpent}
 use Rattle.closures.specs.declared.Looks.{Looks}

@@ -5,8 +5,8 @@ use mathlib.Core.List.{List, [], _∷_}
 use mathlib.Core.Option.{Option, none, some}
 use Rattle.messages.specs.Message.{Message}
 use Rattle.messages.specs.declared.Named.the-variants.{Called}
-use Rattle.scripts.specs.Tree.{Body, close, part}
-use Rattle.scripts.specs.Tree.{Head, PlainHead, Plain}
+use Rattle.scripts.specs.Tree.{close, part}
+use Rattle.scripts.specs.Tree.{PlainHead, Plain}
 use Rattle.machine.specs.Moves.{Moved, headName, isNamed, sameName}
 use Rattle.machine.specs.PlainMachine.{plain, move}
 use Rattle.calculus.specs.Satisfaction.{wrapped}

@@ -183,13 +183,6 @@ asked-same (Exit x) = ap Exit (renamed-same x)
 asked-same (Open x) = ap Open (renamed-same x)
 asked-same Other = refl
 
--- where names stay as they are
-pub translates-same : {A B : Type 0} (old : View A) (new : View B) (onAction : A → B) (onMessage : Message → Message) →
-    ((m : Message) → new .named (onMessage m) ≡ old .named m) → ((a : A) → new .first (onAction a) ≡ old .first a) →
-    ((a : A) → new .spent (onAction a) ≡ onAction (old .spent a)) → Translates old new onAction onMessage (λ n. n)
-translates-same old new onAction onMessage e f g =
-    record { injective = λ m n. refl; named = λ m. e m ∙ renamed-same (old .named m); first = λ a. f a ∙ asked-same (old .first a); spent = g }
-
 module _ {A B : Type 0} (old : View A) (new : View B) (onAction : A → B) (onMessage : Message → Message) (ρ : ℕ → ℕ) (T : Translates old new onAction onMessage ρ) where
   abbrev F : Head A → Head B
   F = mapHead onAction onMessage

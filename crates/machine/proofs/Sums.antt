@@ -1,6 +1,5 @@
 -- Sums over the parts of a tree: no operation and no move makes one greater, if spending an item and delivering a message
--- don't; and what it comes to exactly where no number stands twice. So the weight does not rise, and numbers stay distinct.
--- Assumes nothing.
+-- don't; and what it comes to exactly where no number stands twice. So the weight does not rise. Assumes nothing.
 use Prim.Native.Nat.{ℕ, _+_, _*_, _≤_}
 use mathlib.Core.Bool.{Bool, false, cond}
 use mathlib.Core.List.{List}
@@ -9,18 +8,14 @@ use mathlib.Core.Option.{Option, none, some}
 use native.Mathlib.Omega.{arith}
 use lib.Dec.{eqb, ltb}
 use lib.ListN.{length}
-use borrow.Author.Tests.{eqb-true, eqb-false, eq-eqb, ne-eqb}
+use borrow.Author.Tests.{eqb-true, eqb-false, ne-eqb}
 use Rattle.messages.specs.Message.{Message}
-use Rattle.scripts.specs.Tree.{Head, receipt, output, Body, close, part, one, isAmbient, sum, parts, count, put, merge, mapHeads, settleBy, bare, Plain, settle}
+use Rattle.scripts.specs.Tree.{Head, receipt, output, Body, close, part, isAmbient, sum, parts, count, put, merge, mapHeads, settleBy, bare, Plain, settle}
 use Rattle.machine.specs.Bodies.{find, drop, alter}
 use Rattle.machine.specs.Moves.{View, Moved, spentHead, spend, moveHere, anywhere}
-use Rattle.machine.specs.PlainMachine.{substituteHead, substituteBody, plain, move, weightOf}
+use Rattle.machine.specs.PlainMachine.{substituteHead, substituteBody, plain, move}
 use Rattle.machine.proofs.Options.{byTest, some-is, none≢some}
 use Rattle.machine.proofs.Inversion.{Received, Entered, Here, by-open, by-receive, by-enter, by-exit, here-inv, Makes, now, inner, outer, anywhere-inv, move-inv}
-
--- one where the numbers are the same
-one-same : (i : ℕ) → one (eqb i i) ≡ 1
-one-same i = rw (eq-eqb i i refl)
 
 module _ {H : Type 0} where
   -- a part is found beside another that is dropped
@@ -96,12 +91,6 @@ module _ {H : Type 0} (f : ℕ → H → ℕ) where
 
   -- exactly, where the numbers are distinct
 
-  pub put-exact : (n : ℕ) (g : H) (s b : Body H) → count n b ≡ 0 → sum f (put n g s b) ≡ f n g + (sum f s + sum f b)
-  unfolding put sum
-  put-exact n g s close e = refl
-  put-exact n g s (part i h b r) e = byTest (ltb n i) (λ t. rw t)
-      (λ t. byTest (eqb n i) (λ u. absurd (omega (arith, rw u at e))) (λ u. rw (t, u) (omega (arith, put-exact n g s r (omega arith)))))
-
   pub drop-exact : (a : ℕ) (b : Body H) (p : H × Body H) → count a b ≤ 1 → find a b ≡ some p → sum f b ≡ f a (p .0) + (sum f (p .1) + sum f (drop a b))
   unfolding find drop sum
   drop-exact a close p c e = none≢some e
@@ -111,17 +100,6 @@ module _ {H : Type 0} (f : ℕ → H → ℕ) where
       let z : drop a r ≡ r = drop-none a r (omega (arith, rw t at c)) in
       rw (t, z, ← q, eqb-true a i t) refl)
       (λ t. rw t (omega (arith, drop-exact a r p (omega arith) (rw t at e))))
-
--- the parts of two bodies that have no number in common
-pub merge-exact : {H : Type 0} (f : ℕ → H → ℕ) (b c : Body H) → ((j : ℕ) → count j b + count j c ≤ 1) → sum f (merge b c) ≡ sum f b + sum f c
-unfolding merge sum
-merge-exact f close c d = omega arith
-merge-exact f (part i h b r) c d =
-    omega (
-      arith,
-      merge-exact f r c (λ j. omega (arith, d j)),
-      put-exact f i h b (merge r c) (omega (arith, d i, one-same i, merge-sum (λ k g. one (eqb i k)) r c)),
-    )
 
 -- a sum over other heads
 pub map-sum : {G H : Type 0} (f : ℕ → H → ℕ) (F : G → H) (b : Body G) → sum f (mapHeads F b) ≡ sum (λ i h. f i (F h)) b
@@ -205,10 +183,6 @@ module _ {A : Type 0} (view : View A) (f : ℕ → Head A → ℕ) (w : ℕ) (s 
   pub anywhere-sum : (a t : ℕ) (b : Body (Head A)) (m : Moved A) → anywhere view (moveHere view a t) b ≡ some m → sum f (m .body) + w * length (m .news) ≤ sum f b
   anywhere-sum a t b m e = made-sum a t (anywhere-inv view (moveHere view a t) b m e)
 
-  pub settled-sum : (empty : Head A → Bool) (a t : ℕ) (b : Body (Head A)) (m : Moved A) → anywhere view (moveHere view a t) b ≡ some m →
-      sum f (settleBy empty (m .body)) + w * length (m .news) ≤ sum f b
-  settled-sum empty a t b m e = omega (arith, settle-sum f empty (m .body), anywhere-sum a t b m e)
-
 -- the plain machine
 
 pub move-sum : (f : ℕ → Head (List Message) → ℕ) (w : ℕ) → Shrinks plain f w → (a t : ℕ) (b : Plain) (m : Moved (List Message)) → move a t b ≡ some m →
@@ -230,12 +204,3 @@ plain-numbers u w = by-numbers plain u w (λ v m b. omega (arith, map-sum (λ k 
 -- THEOREM: a move does not raise the weight, and a receipt takes two parts away.
 pub weight : (a t : ℕ) (b : Plain) (m : Moved (List Message)) → move a t b ≡ some m → parts (m .body) + 2 * length (m .news) ≤ parts b
 weight a t b m e = move-sum (λ k h. 1) 2 (plain-numbers (λ k. 1) 2 (λ k l. omega arith)) a t b m e
-
-pub weight-falls : (a t receipts : ℕ) (b : Plain) (m : Moved (List Message)) → move a t b ≡ some m →
-    weightOf (record { tree = m .body; receipts = receipts + length (m .news) }) ≤ weightOf (record { tree = b; receipts = receipts })
-unfolding weightOf
-weight-falls a t receipts b m e = omega (arith, weight a t b m e)
-
--- A number does not stand more often after a move: distinct numbers stay distinct.
-pub move-count : (j a t : ℕ) (b : Plain) (m : Moved (List Message)) → move a t b ≡ some m → count j (m .body) ≤ count j b
-move-count j a t b m e = omega (arith, move-sum (λ k h. one (eqb j k)) 0 (plain-numbers (λ k. one (eqb j k)) 0 (λ k l. omega arith)) a t b m e)

@@ -3,9 +3,8 @@
 use Prim.Native.Nat.{ℕ, _+_, _*_}
 use mathlib.Core.List.{List, [], _∷_}
 use mathlib.Core.Option.{Option, none, some}
-use lib.ListN.{length}
 use Rattle.messages.specs.Message.{Message, nameOf, firstItem, substitute, substituteItems}
-use Rattle.scripts.specs.Tree.{Head, ambient, action, receipt, output, Body, close, part, mapHeads, parts, PlainHead, Plain, settle}
+use Rattle.scripts.specs.Tree.{ambient, action, receipt, output, mapHeads, parts, PlainHead, Plain, settle}
 use Rattle.machine.specs.Moves.{View, Moved, moveHere, anywhere}
 
 -- the items behind the first

@@ -1,7 +1,7 @@
 -- Messages (document 01, "The script and its messages"): what they are, their items, what a name is, and substitution.
 -- Assumes nothing: these are definitions.
 use Prim.Native.Nat.{ℕ}
-use mathlib.Core.Bool.{Bool, true, false, cond}
+use mathlib.Core.Bool.{cond}
 use mathlib.Core.List.{List, [], _∷_, _++_}
 use lib.Dec.{eqb}
 use Rattle.messages.specs.declared.Named.{Named}

@@ -1,8 +1,8 @@
 -- How a message is read from words: questions 2, 3, 4 and 5 (document 01, "Questions at the door").
 -- Assumes nothing: these are definitions.
-use Prim.Native.Nat.{ℕ, zero, suc, _+_}
+use Prim.Native.Nat.{ℕ, zero, suc}
 use mathlib.Core.Bool.{Bool, true, false, cond}
-use mathlib.Core.List.{List, [], _∷_}
+use mathlib.Core.List.{List}
 use lib.Dec.{leb, eqb}
 use Rattle.messages.specs.Words.{kind, operand, nameFits, member}
 use Rattle.messages.specs.Reading.{Cursor, Reading, refuse, got, _>>=_, ask, nextWord}

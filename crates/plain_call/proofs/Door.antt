@@ -8,14 +8,14 @@ use native.Mathlib.Omega.{arith}
 use lib.Dec.{leb, eqb}
 use borrow.Author.Tests.{eqb-true, eq-eqb, leb-false, lt-ltb}
 use Rattle.messages.specs.Words.{operand, kind, nameFits}
-use Rattle.messages.specs.Reading.{Cursor, cursor, got, nextPart}
-use Rattle.messages.specs.Message.{Message, name}
+use Rattle.messages.specs.Reading.{Cursor, got, nextPart}
+use Rattle.messages.specs.Message.{Message}
 use Rattle.messages.specs.ReadMessage.{ifZero, messageKind, messageWord}
 use Rattle.messages.specs.declared.MessageWord.{MessageWord}
 use Rattle.messages.specs.declared.MessageWord.the-variants.{Name, Variable, Enter, Exit, Open, Empty, Path, Unfit}
 use Rattle.messages.proofs.Readings.{Next}
 use Rattle.messages.proofs.Cases as message
-use Rattle.scripts.specs.Tree.{Head, ambient, action, receipt, output, close, part, settle, bare, parts}
+use Rattle.scripts.specs.Tree.{Head, ambient, action, receipt, output, close, part, settle, bare}
 use Rattle.scripts.specs.Script.{Written, Script, readScript, holdHead, hold, started}
 use Rattle.scripts.specs.Measures.{greatestName}
 use Rattle.scripts.proofs.Cases as body

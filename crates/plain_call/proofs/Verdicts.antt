@@ -9,10 +9,8 @@ use native.Mathlib.Omega.{arith}
 use Rattle.scripts.specs.Measures.{greatestName}
 use Rattle.rules.proofs.Order.{rule-ordered}
 use Rattle.calculus.specs.Satisfaction.{Sat}
-use Rattle.calculus.specs.Calculus.{process}
 use Rattle.calculus.proofs.Kept.{Good, good-move}
 use Rattle.calculus.proofs.Agreement.{agree}
-use Rattle.decision.specs.Walk.{says}
 use Rattle.decision.proofs.Fits.{Fits, fits-more, rule-more, move-fits}
 use Rattle.decision.proofs.Deciding.{Known, walk-yes, walk-no}
 use Rattle.plain_call.specs.Call.{Call, accepted, answer, setting, begun}

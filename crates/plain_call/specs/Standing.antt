@@ -14,7 +14,7 @@ use Rattle.rules.specs.Rule.{Rule}
 use Rattle.rules.specs.ReadRule.{readWholeRule}
 use Rattle.calculus.specs.Satisfaction.{Sat}
 use Rattle.calculus.specs.Calculus.{Satisfies, process}
-use Rattle.plain_call.specs.Call.{Call, Verdict, accepted, refused, Ran, moved, run, begun}
+use Rattle.plain_call.specs.Call.{Call, Verdict, accepted, refused, moved, run, begun}
 
 -- what stands when the walk begins
 pub record Standing (c : Call) : Type 0 where

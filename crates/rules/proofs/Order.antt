@@ -3,7 +3,7 @@ use Prim.Native.Nat.{ℕ, _≤_}
 use mathlib.Core.List.{List}
 use mathlib.Core.Path.{_≡_, subst}
 use native.Mathlib.Omega.{arith}
-use Rattle.messages.specs.Reading.{Cursor, cursor, got}
+use Rattle.messages.specs.Reading.{Cursor, got}
 use Rattle.messages.proofs.Readings.{Next}
 use Rattle.rules.specs.Rule.{Rule, Later, always, negation, either, void, at, beside, some-name, sometime, somewhere, placed}
 use Rattle.rules.specs.ReadRule.{readRule, readWholeRule}

@@ -13,10 +13,6 @@ byTest : {P : Type 0} (t : Bool) → (t ≡ true → P) → (t ≡ false → P) 
 byTest true f g = f refl
 byTest false f g = g refl
 
-one-le : (t : Bool) → one t ≤ 1
-one-le true = omega arith
-one-le false = omega arith
-
 -- how often a number stands in a tree that is numbered from n on
 pub record Range (j n m k : ℕ) : Type 0 where
   pub once : k ≤ 1

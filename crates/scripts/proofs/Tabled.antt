@@ -48,11 +48,6 @@ module _ {G H : Type 0} (f : G → H) where
   tops-map close = refl
   tops-map (part i h b r) = ap (λ (l : List ℕ). i ∷ l) (tops-map r)
 
-  parts-map : (b : Body G) → parts (mapHeads f b) ≡ parts b
-  unfolding sum mapHeads
-  parts-map close = refl
-  parts-map (part i h b r) = rw (parts-map b, parts-map r)
-
 -- bodies and heads that agree at a tree's numbers hold the same tree
 module _ {G H : Type 0} (f : G → H) (k k′ : ℕ → List ℕ) (w w′ : ℕ → H) where
   held-frame : (n : ℕ) (b : Body G) → Numbered n b

@@ -7,9 +7,9 @@ use Rattle.messages.specs.Words
 use Rattle.messages.specs.Reading
 use Rattle.messages.specs.Reading.{Reading, refuse, got, cursor}
 use Rattle.messages.specs.ReadMessage
-use Rattle.messages.specs.Message.{name, variable, enter, empty}
+use Rattle.messages.specs.Message.{name, enter, empty}
 use Rattle.messages.specs.Message
-use Rattle.scripts.specs.Tree.{Head, ambient, action, receipt, output, Body, close, part, Plain}
+use Rattle.scripts.specs.Tree.{Head, ambient, action, receipt, close, part}
 use Rattle.scripts.specs.Tree
 use Rattle.scripts.specs.Script.{Written, Script, readScript, started}
 use Rattle.scripts.specs.Script

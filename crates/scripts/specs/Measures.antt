@@ -1,13 +1,13 @@
 -- What document 01's bound and SOME count in a script. Assumes nothing: these are definitions.
-use Prim.Native.Nat.{ℕ, zero, suc, _+_, _*_, _^_, max}
-use mathlib.Core.Bool.{Bool, true, false, cond}
+use Prim.Native.Nat.{ℕ, suc, _+_, _*_, _^_, max}
+use mathlib.Core.Bool.{cond}
 use mathlib.Core.List.{List, [], _∷_}
 use lib.ListN.{length}
 use lib.Dec.{eqb}
 use Rattle.messages.specs.Words.{kind, operand}
 use Rattle.messages.specs.Message.{Message, items}
 use Rattle.scripts.specs.Tree.{Head, ambient, action, receipt, output, sum, greatest}
-use Rattle.scripts.specs.Script.{Written, Script}
+use Rattle.scripts.specs.Script.{Script}
 
 -- "In the bound, receipts and actions are the script's RECs and ACTs"
 abbrev pub isReceipt : Head Message → ℕ

@@ -1,8 +1,8 @@
 -- How a part table and the script's words stand for the tree that was read. The law that they do is in
 -- proofs/Tabled.antt. Assumes nothing: these are definitions.
-use Prim.Native.Nat.{ℕ, zero, suc, _+_, _≤_}
-use mathlib.Core.Bool.{Bool, true, false, cond}
-use mathlib.Core.List.{List, [], _∷_}
+use Prim.Native.Nat.{ℕ, _+_, _≤_}
+use mathlib.Core.Bool.{cond}
+use mathlib.Core.List.{List}
 use mathlib.Core.Path.{_≡_}
 use lib.ListN.{getD, drop}
 use lib.Dec.{eqb}
@@ -10,7 +10,7 @@ use Rattle.sets.specs.Sets.{members}
 use Rattle.messages.specs.Message.{Message}
 use Rattle.messages.specs.Spelling.{messageAt}
 use Rattle.scripts.specs.Tree.{Head, ambient, action, receipt, output, Body, close, part, kindNumber, tops, parts, mapHeads}
-use Rattle.scripts.specs.Script.{Written, Script}
+use Rattle.scripts.specs.Script.{Script}
 use Rattle.scripts.specs.Table.{startOf}
 use Rattle.scripts.specs.declared.Table.{Table}
 

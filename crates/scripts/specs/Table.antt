@@ -1,16 +1,14 @@
 -- The part table that the reader fills, as a function of the tree that the words are read as.
 -- Assumes nothing: these are definitions.
-use Prim.Native.Nat.{ℕ, zero, suc, _+_}
-use mathlib.Core.Bool.{Bool, true, false, cond}
-use mathlib.Core.List.{List, [], _∷_}
+use Prim.Native.Nat.{ℕ, _+_}
+use mathlib.Core.Bool.{cond}
 use lib.ListN.{getD, set, replicate}
 use lib.Dec.{ltb}
 use Rattle.sets.specs.Sets.{members, insert, mask}
 use Rattle.messages.specs.Reading.{Cursor, Reading, refuse, got}
 use Rattle.messages.specs.Message.{Message}
-use Rattle.messages.specs.declared.Outcome.{Outcome}
 use Rattle.messages.specs.declared.Outcome.the-variants.{Read, Refused}
-use Rattle.scripts.specs.Tree.{Head, ambient, action, receipt, output, Body, close, part, kindNumber}
+use Rattle.scripts.specs.Tree.{Head, ambient, action, receipt, output, close, part, kindNumber}
 use Rattle.scripts.specs.Script.{Written, Script}
 use Rattle.scripts.specs.declared.Table.{Table}
 use Rattle.scripts.specs.declared.Scan.{Scan}

@@ -1,10 +1,10 @@
 -- The tree of parts (document 01, "The plain machine"): one type for the tree as read, as the plain machine holds it and
 -- as closures hold it. Assumes nothing: these are definitions.
-use Prim.Native.Nat.{ℕ, zero, suc, _+_, max}
+use Prim.Native.Nat.{ℕ, _+_, max}
 use mathlib.Core.Bool.{Bool, true, false, cond}
 use mathlib.Core.List.{List, [], _∷_}
 use lib.Dec.{eqb, ltb}
-use Rattle.messages.specs.Message.{Message, items}
+use Rattle.messages.specs.Message.{Message}
 
 -- What a part is: 1 AMB, 2 ACT, 3 REC, 4 OUT. `A` is what an action is held as; a receipt has its variable, the index of
 -- its word.

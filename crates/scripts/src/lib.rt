@@ -2,8 +2,8 @@
 // document 01. It rests on the promises of messages and sets.
 use messages::Outcome;
 ghost use mathlib.Core.Path.{_≡_};
-ghost use mathlib.Core.List.{List, _∷_};
-ghost use Prim.Native.Nat.{ℕ, suc, _+_, _-_, _≤_, _<_};
+ghost use mathlib.Core.List.{_∷_};
+ghost use Prim.Native.Nat.{suc, _+_, _-_, _≤_, _<_};
 ghost use lib.ListN.{length, drop, getD};
 ghost use Rattle.messages.specs.Reading.{Cursor, cursor, got};
 ghost use Rattle.messages.specs.ReadMessage.{readMessage};

@@ -3,20 +3,19 @@
 use Prim.Native.Nat.{ℕ, suc, _+_, _/_, _^_, _≤_, _<_}
 use mathlib.Core.Bool.{Bool, true, false, not}
 use mathlib.Core.List.{List, [], _∷_, map}
-use mathlib.Core.Path.{_≡_, refl, sym, ap, ap₂, _∙_, subst}
+use mathlib.Core.Path.{_≡_, refl, sym, ap, _∙_, subst}
 use native.Mathlib.Omega.{arith}
 use lib.ListN.{length, length-map}
-use lib.Pow.{pow-pos}
 use Rattle.sets.specs.Sets.{odd, members, but}
 use Rattle.sets.specs.Shares.{putIf, picked, left, spread, shares}
 use Rattle.sets.proofs.Shares.{share-more, share-last, share-rises}
-use Rattle.sets.proofs.Divisions.{picked-map, left-map, from, from-zero, from-one, from-end, but-picked, share-first}
+use Rattle.sets.proofs.Divisions.{picked-map, left-map, from, from-zero, from-one, from-end, but-picked}
 use Rattle.sets.proofs.Members.{members-rising}
 use Rattle.scripts.specs.Tree.{close, part, tops, sum}
 use Rattle.scripts.specs.Represents.{Held}
 use Rattle.closure_machine.specs.Closure.{ClosureHead, Closure}
 use Rattle.decision.specs.ClosureWalk.{withEither, divisions}
-use Rattle.walk.specs.Pieces.{Piece, Divides}
+use Rattle.walk.specs.Pieces.{Divides}
 
 -- a top part: its number, its head and its inside
 abbrev Cell : Type 0
@@ -82,9 +81,6 @@ pub record Shared (top share : ℕ) : Type 0 where
   pub place : ℕ
   pub below : place < 2 ^ length (members top)
   pub is : members share ≡ picked (members top) place
-
-pub shared-first : (top : ℕ) → Shared top 0
-shared-first top = record { place = 0; below = pow-pos (length (members top)); is = share-first top }
 
 pub shared-last : (top share : ℕ) → top < 2 ^ 64 → share < 2 ^ 64 → (S : Shared top share) → share ≡ top → 2 ^ length (members top) ≤ suc (S .place)
 shared-last top share h g S e = share-last top share (S .place) h g (S .is) e

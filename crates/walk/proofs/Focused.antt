@@ -1,13 +1,13 @@
 -- A state with another set of top parts: it stands for the piece of the closure whose top parts they are. Assumes nothing.
-use Prim.Native.Nat.{ℕ, _+_, _*_, _-_, _≤_, _<_}
-use mathlib.Core.List.{List, [], _∷_}
+use Prim.Native.Nat.{ℕ, _-_, _≤_, _<_}
+use mathlib.Core.List.{List}
 use mathlib.Core.Path.{_≡_, refl, sym, ap, _∙_}
 use native.Mathlib.Omega.{arith}
 use lib.Dec.{eqb}
 use lib.ListN.{getD, set, length}
 use lib.Seq.{getD-set-same, getD-set-other}
 use Rattle.sets.specs.Sets.{members}
-use Rattle.scripts.specs.Tree.{one, tops, sum, parts, count}
+use Rattle.scripts.specs.Tree.{one, tops, parts, count}
 use Rattle.scripts.specs.Represents.{bodyIn}
 use Rattle.rules.specs.Rule.{Names, Rule, ruleIndex, Later}
 use Rattle.rules.specs.Ruled.{Ruled}

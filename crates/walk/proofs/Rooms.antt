@@ -1,16 +1,16 @@
 -- SOMEWHERE: the insides of the named top ambients, one after the other, as a loop over the members of a set meets them.
 -- Assumes nothing.
-use Prim.Native.Nat.{ℕ, _+_, _^_, _≤_, _<_}
-use mathlib.Core.Bool.{Bool, true, false}
+use Prim.Native.Nat.{ℕ, _^_, _≤_, _<_}
+use mathlib.Core.Bool.{true, false}
 use mathlib.Core.List.{List, [], _∷_, map}
 use mathlib.Core.Path.{_≡_, refl, sym, ap, _∙_, subst}
 use native.Mathlib.Omega.{arith}
-use lib.Dec.{eqb, ltb}
+use lib.Dec.{ltb}
 use lib.ListN.{set, length}
 use borrow.Author.Tests.{ltb-true, ltb-false}
 use Rattle.sets.specs.Sets.{keep, members, elem, both, headOr, tail}
 use Rattle.sets.proofs.Members.{members-step, members-empty, first-below}
-use Rattle.scripts.specs.Tree.{close, part, one, tops, sum, count}
+use Rattle.scripts.specs.Tree.{close, part, tops, sum, count}
 use Rattle.scripts.specs.Represents.{Held, bodyIn}
 use Rattle.machine.specs.Moves.{headName, isNamed}
 use Rattle.machine.proofs.Options.{byTest}

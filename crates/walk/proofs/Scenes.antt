@@ -33,9 +33,6 @@ use Rattle.walk.proofs.Targeted.{move-low}
 
 module _ (program script sets numbers choices : List ℕ) (top somes left index : ℕ) (limits : Limits) where
   module _ (X : Scene program script sets numbers choices top somes left index limits) where
-    abbrev Inner : Rule → ℕ → Type 0
-    Inner q i = Ruled (X .words) (X .table) (indices (X .names)) q × (ruleIndex q ≡ i) × Later (X .from) q
-
     -- the index is one of a word
     pub scene-inside : index < length (X .words)
     scene-inside = subst (λ (x : ℕ). x < length (X .words)) (X .stage .stood) (rule-inside (X .words) (X .table) (indices (X .names)) (X .rule) (X .stage .ruled))
@@ -52,9 +49,6 @@ module _ (program script sets numbers choices : List ℕ) (top somes left index 
     -- the sets and heads of the state that is lent
     abbrev pub bodies : ℕ → List ℕ
     bodies = bodyIn (stateIn sets numbers top .kids)
-
-    abbrev pub lentKids : List ℕ
-    lentKids = stretch 0 65 sets
 
 -- fewer depths left
 module _ (program script sets numbers choices : List ℕ) (top somes left index : ℕ) (limits : Limits) (k : ℕ) (h : k ≤ left) (X : Scene program script sets numbers choices top somes left index limits) where

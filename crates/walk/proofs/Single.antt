@@ -1,12 +1,12 @@
 -- VOID and AT: no top parts, and just one, by the set of the top parts. Assumes nothing.
-use Prim.Native.Nat.{ℕ, _^_, _≤_, _<_}
-use mathlib.Core.Bool.{Bool, true, false, cond, true≢false}
+use Prim.Native.Nat.{ℕ, _^_, _<_}
+use mathlib.Core.Bool.{true, false, cond, true≢false}
 use mathlib.Core.List.{List, [], _∷_}
-use mathlib.Core.Option.{Option, none, some}
+use mathlib.Core.Option.{none, some}
 use mathlib.Core.Path.{_≡_, refl, sym, ap, _∙_}
 use native.Mathlib.Omega.{arith}
 use lib.Dec.{eqb}
-use lib.ListN.{getD, set, length}
+use lib.ListN.{set, length}
 use Rattle.messages.specs.declared.Named.{Named}
 use Rattle.messages.specs.declared.Named.the-variants.{Called}
 use Rattle.sets.specs.Sets.{members, headOr, isNone, isOne}
@@ -15,12 +15,12 @@ use Rattle.sets.proofs.Lists.{one-is}
 use Rattle.scripts.specs.Tree.{close, part, tops, sum}
 use Rattle.scripts.specs.Represents.{Held, bodyIn}
 use Rattle.machine.specs.Moves.{headName, sameName}
-use Rattle.closure_machine.specs.Closure.{ClosureHead, Closure, Bindings, under, ClosureMachine}
+use Rattle.closure_machine.specs.Closure.{ClosureHead, Closure, Bindings, under}
 use Rattle.closures.specs.Seen.{nameIn}
 use Rattle.closures.specs.Represents.{heads, boundIn, Ready, Represents}
 use Rattle.closures.specs.declared.State.{State}
 use Rattle.decision.specs.ClosureWalk.{isVoid, beside, only}
-use Rattle.walk.specs.Pieces.{Piece, Room}
+use Rattle.walk.specs.Pieces.{Room}
 use Rattle.walk.proofs.Focused.{seen-told, top-told}
 
 -- VOID

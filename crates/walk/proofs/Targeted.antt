@@ -6,14 +6,14 @@ use mathlib.Core.List.{List, [], _∷_, _++_}
 use mathlib.Core.Option.{Option, none, some}
 use mathlib.Core.Path.{_≡_, refl, sym, ap, _∙_, subst}
 use native.Mathlib.Omega.{arith}
-use lib.Dec.{eqb, ltb}
-use borrow.Author.Tests.{eqb-true, ne-eqb, ltb-true, ltb-false}
+use lib.Dec.{ltb}
+use borrow.Author.Tests.{ne-eqb, ltb-true, ltb-false}
 use Rattle.sets.specs.Sets.{has, span, members, elem, headOr, tail}
 use Rattle.sets.specs.Sets as sets
 use Rattle.sets.proofs.Members.{has-elem, members-step, members-empty, first-below}
-use Rattle.scripts.specs.Tree.{close, part, one, sum, count}
+use Rattle.scripts.specs.Tree.{close, part, sum, count}
 use Rattle.machine.specs.Moves.{Moved}
-use Rattle.machine.proofs.Options.{byTest, none≢some}
+use Rattle.machine.proofs.Options.{byTest}
 use Rattle.machine.proofs.Everywhere.{Everywhere, settle-everywhere, Keeps, makes-everywhere}
 use Rattle.closure_machine.specs.Closure.{Action, ClosureHead, Closure, Bindings, under, allSpent, closureMove, ClosureMachine}
 use Rattle.closures.specs.Targets.{isSome}

@@ -2,7 +2,6 @@
 use Prim.Native.Nat.{_≤_, _-_}
 use native.Mathlib.Omega.{arith}
 use borrow.Author.Needs.{needs}
-use lib.ListN.{length}
 use Rattle.bindings.proofs.Resolving.{Past, past-none, past-here, past-more, past-all}
 use Rattle.bindings.proofs.find.Statement.{statement}
 use Rattle.bindings.proofs.find.Tie as tie

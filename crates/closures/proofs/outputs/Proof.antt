@@ -1,7 +1,6 @@
 -- `outputs` meets its contract: the outputs below i. Assumes nothing.
 use Prim.Native.Nat.{ℕ, _≤_, _-_}
 use mathlib.Core.List.{List}
-use native.Mathlib.Omega.{arith}
 use lib.ListN.{getD}
 use Rattle.sets.specs.Sets.{members}
 use Rattle.sets.proofs.Members.{members-empty}

@@ -1,5 +1,4 @@
 -- The cycle of calls of the walk: each member meets its contract, in a file of its own. Assumes nothing.
-use Prim.Native.Nat.{ℕ}
 use Rattle.visits.proofs.at_name.Reads as at-name
 use Rattle.visits.proofs.beside.Reads as beside
 use Rattle.visits.proofs.either.Reads as either

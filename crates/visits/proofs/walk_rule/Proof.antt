@@ -10,11 +10,6 @@ use Rattle.visits.proofs.Begun.{whole-walk}
 use borrow.Author.Needs.{needs}
 use Rattle.visits.proofs.walk_rule.Statement.{statement}
 use Rattle.visits.proofs.walk_rule.Tie as tie
-use Rattle.visits.proofs.walk_rule.Reads as reads
-use Rattle.visits.proofs.walk_rule.Lts as lts
-use Rattle.walk.proofs.lend_state.Reads as lend-state-reads
-use Rattle.walk.proofs.loaded.Reads as loaded-reads
-use Rattle.visits.proofs.visit.Reads as visit-reads
 
 loaded-requires : tie.Need-loaded-requires
 loaded-requires c κs = search needs

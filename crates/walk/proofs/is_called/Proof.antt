@@ -5,9 +5,6 @@ use Rattle.walk.proofs.Lendings.{called-named, called-none}
 use borrow.Author.Needs.{needs}
 use Rattle.walk.proofs.is_called.Statement.{statement}
 use Rattle.walk.proofs.is_called.Tie as tie
-use Rattle.walk.proofs.is_called.Reads as reads
-use Rattle.walk.proofs.is_called.Lts as lts
-use Rattle.sets.proofs.has.Reads as has-reads
 
 returns : tie.Need-returns
 returns c = λ h. absurd (let z : ⊥ = omega (arith, c .if1 .taken) in z)

@@ -6,9 +6,6 @@ use Rattle.walk.proofs.Lendings.{Loading, loading-more}
 use borrow.Author.Needs.{needs}
 use Rattle.walk.proofs.loaded.Statement.{statement}
 use Rattle.walk.proofs.loaded.Tie as tie
-use Rattle.walk.proofs.loaded.Reads as reads
-use Rattle.walk.proofs.loaded.Lts as lts
-use Rattle.walk.proofs.word_at.Reads as word-at-reads
 
 abbrev Inv-loop : tie.InvT-loop
 Inv-loop rule rights places program₀ i₀ program i = (i ≤ 256) × Loading rule rights places program i

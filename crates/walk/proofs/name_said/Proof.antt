@@ -5,9 +5,6 @@ use Rattle.walk.proofs.Lendings.{said-constant, said-chosen, said-none}
 use borrow.Author.Needs.{needs}
 use Rattle.walk.proofs.name_said.Statement.{statement}
 use Rattle.walk.proofs.name_said.Tie as tie
-use Rattle.walk.proofs.name_said.Reads as reads
-use Rattle.walk.proofs.name_said.Lts as lts
-use Rattle.rules.proofs.term_of.Reads as term-of-reads
 
 term-of-requires : tie.Need-term-of-requires
 term-of-requires c κs = search needs

@@ -3,8 +3,6 @@ use lib.Seq.{getD-set-other}
 use borrow.Author.Needs.{needs}
 use Rattle.walk.proofs.replaced.Statement.{statement}
 use Rattle.walk.proofs.replaced.Tie as tie
-use Rattle.walk.proofs.replaced.Reads as reads
-use Rattle.walk.proofs.replaced.Lts as lts
 
 mul-next : tie.Need-mul-next
 mul-next c = search needs

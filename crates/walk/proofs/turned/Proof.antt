@@ -6,8 +6,6 @@ use Rattle.walk.specs.declared.Walked.{Walked}
 use borrow.Author.Needs.{needs}
 use Rattle.walk.proofs.turned.Statement.{statement}
 use Rattle.walk.proofs.turned.Tie as tie
-use Rattle.walk.proofs.turned.Reads as reads
-use Rattle.walk.proofs.turned.Lts as lts
 
 enum-known-w : tie.Need-enum-known-w
 enum-known-w c = search needs

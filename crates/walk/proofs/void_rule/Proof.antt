@@ -7,8 +7,6 @@ use borrow.Author.Tests.{eq-eqb, ne-eqb}
 use Rattle.walk.specs.Visits.{countOf}
 use Rattle.walk.proofs.void_rule.Statement.{statement}
 use Rattle.walk.proofs.void_rule.Tie as tie
-use Rattle.walk.proofs.void_rule.Reads as reads
-use Rattle.walk.proofs.void_rule.Lts as lts
 
 returns : tie.Need-returns
 unfolding walkedOf
