@@ -22,10 +22,10 @@ use Rattle.scripts.proofs.Tabled.{script-number}
 use Rattle.machine.proofs.Options.{byTest}
 use Rattle.rules.specs.Rule.{Rule, ruleName, greatestRuleName}
 use Rattle.rules.specs.ReadRule.{readWholeRule}
-use Rattle.rules.specs.Ruled as ruled
-use Rattle.rules.specs.RuleTable as rules
-use Rattle.rules.specs.declared.RuleTable.{RuleTable}
-use Rattle.rules.specs.declared.RuleScan.{RuleScan}
+use Rattle.rule_reader.specs.Ruled as ruled
+use Rattle.rule_reader.specs.RuleTable as rules
+use Rattle.rule_reader.specs.declared.RuleTable.{RuleTable}
+use Rattle.rule_reader.specs.declared.RuleScan.{RuleScan}
 use Rattle.closure_machine.specs.Closure.{ClosureMachine, settleUnder, closureOf, Bindings}
 use Rattle.closures.specs.Represents.{boundIn, Represents}
 use Rattle.closures.specs.declared.State.{State}

@@ -15,7 +15,7 @@ use Rattle.scripts.specs.declared.Table.{Table}
 use Rattle.machine.proofs.Sums.{map-sum}
 use Rattle.rules.specs.Rule.{greatestRuleName}
 use Rattle.rules.specs.ReadRule.{readWholeRule}
-use Rattle.rules.specs.declared.RuleTable.{RuleTable}
+use Rattle.rule_reader.specs.declared.RuleTable.{RuleTable}
 use Rattle.closure_machine.specs.Closure.{unfoldHead, unfolded, unfoldMachine}
 use Rattle.closures.specs.Represents.{boundIn}
 use Rattle.closures.specs.declared.State.{State}

@@ -12,8 +12,8 @@ use Rattle.scripts.specs.Represents.{Tabled}
 use Rattle.scripts.specs.declared.Table.{Table}
 use Rattle.rules.specs.Rule.{Rule}
 use Rattle.rules.specs.ReadRule.{readWholeRule}
-use Rattle.rules.specs.Ruled as rules
-use Rattle.rules.specs.declared.RuleTable.{RuleTable}
+use Rattle.rule_reader.specs.Ruled as rules
+use Rattle.rule_reader.specs.declared.RuleTable.{RuleTable}
 use Rattle.closure_machine.specs.Closure.{ClosureMachine}
 use Rattle.closures.specs.Represents.{boundIn, Represents}
 use Rattle.closures.specs.declared.State.{State}

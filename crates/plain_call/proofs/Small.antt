@@ -18,11 +18,11 @@ use Rattle.scripts.proofs.Tabled.{script-tabled}
 use Rattle.scripts.proofs.Places.{script-within}
 use Rattle.rules.specs.Rule.{Names, Rule, always, negation, either, void, at, beside, some-name, sometime, somewhere, placed, ruleIndex}
 use Rattle.rules.specs.ReadRule.{readWholeRule}
-use Rattle.rules.specs.Ruled.{Ruled}
-use Rattle.rules.specs.RuleTable.{vacant, tabulate}
-use Rattle.rules.specs.declared.RuleTable.{RuleTable}
-use Rattle.rules.proofs.Tabled.{rule-tabled}
-use Rattle.rules.proofs.Places.{rule-within}
+use Rattle.rule_reader.specs.Ruled.{Ruled}
+use Rattle.rule_reader.specs.RuleTable.{vacant, tabulate}
+use Rattle.rule_reader.specs.declared.RuleTable.{RuleTable}
+use Rattle.rule_reader.proofs.Tabled.{rule-tabled}
+use Rattle.rule_reader.proofs.Places.{rule-within}
 use Rattle.machine.specs.Moves.{Moved}
 use Rattle.machine.specs.PlainMachine.{move, Machine, weightOf}
 use Rattle.machine.proofs.Options.{byTest}

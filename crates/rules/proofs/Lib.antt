@@ -2,9 +2,3 @@
 pub mod Words
 pub mod Cases
 pub mod Order
-pub mod Laws
-pub mod Steps
-pub mod Tabled
-pub mod Whole
-pub mod Inversion
-pub mod Places

@@ -11,7 +11,7 @@ use Rattle.messages.specs.Words.{kind, operand, nameFits, member}
 use Rattle.messages.proofs.Tails.{before}
 use Rattle.rules.specs.Rule.{Term, constant, chosen, ruleName, greatestRuleName}
 use Rattle.rules.specs.ReadRule.{RuleKind, TRUE, NOT, OR, VOID, AT, BESIDE, SOME, SOMETIME, SOMEWHERE, PLACED, OTHER, ruleKind, isChosen, termOf, fits, termBound, bound, somesWith}
-use Rattle.rules.specs.RuleTable.{termWord, follow, levelled, askedPlain, askedTerm, asked}
+use Rattle.rules.specs.RuleWords.{termWord, follow, levelled, askedPlain, askedTerm, asked}
 use Rattle.rules.specs.declared.RuleTerm.{RuleTerm}
 use Rattle.rules.specs.declared.RuleTerm.the-variants.{Constant, Chosen}
 use Rattle.rules.specs.declared.Asked.{Asked}

@@ -1,6 +1,4 @@
 -- What the contracts of `rules` cite. Assumes nothing: these are definitions.
 pub mod Rule
 pub mod ReadRule
-pub mod RuleTable
-pub mod Ruled
-pub mod Examples
+pub mod RuleWords

@@ -6,7 +6,7 @@ use mathlib.Core.Path.{_≡_, refl, ap₂, _∙_}
 use native.Mathlib.Omega.{arith}
 use lib.ListN.{getD, length}
 use Rattle.messages.specs.Words.{member}
-use Rattle.rules.specs.declared.RuleTable.{RuleTable}
+use Rattle.rule_reader.specs.declared.RuleTable.{RuleTable}
 use Rattle.closures.specs.Represents.{Ready, Represents}
 use Rattle.closures.specs.declared.State.{State}
 use Rattle.lent_states.specs.Lent.{kindsIn, startsIn, stateIn}

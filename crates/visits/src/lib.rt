@@ -3,7 +3,7 @@
 // closures, rules and sets.
 use bindings::wide;
 use closures::State;
-use rules::RuleTable;
+use rule_reader::RuleTable;
 use walk::Counts;
 use walk::Limits;
 use walk::Spot;

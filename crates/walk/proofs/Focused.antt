@@ -10,8 +10,8 @@ use Rattle.sets.specs.Sets.{members}
 use Rattle.scripts.specs.Tree.{one, tops, parts, count}
 use Rattle.scripts.specs.Represents.{bodyIn}
 use Rattle.rules.specs.Rule.{Names, Rule, ruleIndex, Later}
-use Rattle.rules.specs.Ruled.{Ruled}
-use Rattle.rules.specs.declared.RuleTable.{RuleTable}
+use Rattle.rule_reader.specs.Ruled.{Ruled}
+use Rattle.rule_reader.specs.declared.RuleTable.{RuleTable}
 use Rattle.closure_machine.specs.Closure.{Closure, ClosureHead}
 use Rattle.closures.specs.Seen.{Seen}
 use Rattle.closures.specs.Represents.{heads, boundIn, Ready, Represents}

@@ -14,7 +14,7 @@ use Rattle.sets.specs.Sets.{members, elem}
 use Rattle.machine.specs.Moves.{sameName}
 use Rattle.machine.proofs.Options.{byTest}
 use Rattle.rules.specs.Rule.{Term}
-use Rattle.rules.specs.RuleTable.{termWord}
+use Rattle.rules.specs.RuleWords.{termWord}
 use Rattle.rules.specs.declared.RuleTerm.the-variants as terms
 use Rattle.rules.proofs.Words.{constant-told, chosen-told}
 use Rattle.closures.specs.Seen.{nameIn}

@@ -19,8 +19,8 @@ use Rattle.scripts.specs.Represents.{bodyIn}
 use Rattle.machine.specs.Moves.{sameName}
 use Rattle.rules.specs.Rule.{Names, termName, Rule, always, negation, either, void, at, beside, placed, ruleIndex, Later}
 use Rattle.rules.specs.ReadRule.{termOf}
-use Rattle.rules.specs.Ruled.{Ruled, Said}
-use Rattle.rules.proofs.Inversion.{Told}
+use Rattle.rule_reader.specs.Ruled.{Ruled, Said}
+use Rattle.rule_reader.proofs.Inversion.{Told}
 use Rattle.closure_machine.specs.Closure.{Closure, ClosureHead, ClosureMachine, Bindings}
 use Rattle.closures.specs.Seen.{nameIn}
 use Rattle.closures.specs.Represents.{heads, boundIn, Represents}

@@ -17,10 +17,10 @@ use Rattle.scripts.specs.Represents.{bodyIn}
 use Rattle.machine.specs.Moves.{Moved}
 use Rattle.machine.proofs.Options.{byTest}
 use Rattle.rules.specs.Rule.{Term, constant, chosen, Names, lookup, termName, Rule, ruleIndex, Later}
-use Rattle.rules.specs.Ruled.{Ruled, Said}
-use Rattle.rules.specs.RuleTable.{termWord}
+use Rattle.rule_reader.specs.Ruled.{Ruled, Said}
+use Rattle.rules.specs.RuleWords.{termWord}
 use Rattle.rules.specs.declared.RuleTerm.the-variants as terms
-use Rattle.rules.proofs.Inversion.{Told, rule-told, rule-inside, constant-said, chosen-said}
+use Rattle.rule_reader.proofs.Inversion.{Told, rule-told, rule-inside, constant-said, chosen-said}
 use Rattle.closure_machine.specs.Closure.{Action, Closure, closureMove}
 use Rattle.closures.specs.Represents.{heads, boundIn, Represents}
 use Rattle.lent_states.specs.Lent.{stretch, kindsIn, startsIn, stateIn}

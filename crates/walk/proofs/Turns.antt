@@ -15,8 +15,8 @@ use Rattle.sets.proofs.Divisions.{share-first}
 use Rattle.scripts.specs.Tree.{tops, count}
 use Rattle.scripts.specs.Represents.{bodyIn}
 use Rattle.rules.specs.Rule.{Names, Rule, beside, some-name, sometime, somewhere, ruleIndex, Later}
-use Rattle.rules.specs.Ruled.{Ruled}
-use Rattle.rules.proofs.Inversion.{Told}
+use Rattle.rule_reader.specs.Ruled.{Ruled}
+use Rattle.rule_reader.proofs.Inversion.{Told}
 use Rattle.closure_machine.specs.Closure.{Closure, ClosureHead, ClosureMachine, Bindings, closureMove}
 use Rattle.closures.specs.Searches.{place, Located}
 use Rattle.closures.specs.Targets.{isSome, TargetsOf}

@@ -12,8 +12,8 @@ use Rattle.scripts.specs.Tree.{count}
 use Rattle.scripts.specs.Represents.{bodyIn}
 use Rattle.rules.specs.Rule.{Later, Term, constant, chosen, Names, lookup, Rule, beside, sometime, ruleIndex}
 use Rattle.messages.specs.Reading.{Cursor}
-use Rattle.rules.specs.Ruled.{Ruled, Tabled}
-use Rattle.rules.specs.declared.RuleTable.{RuleTable}
+use Rattle.rule_reader.specs.Ruled.{Ruled, Tabled}
+use Rattle.rule_reader.specs.declared.RuleTable.{RuleTable}
 use Rattle.closure_machine.specs.Closure.{Closure, ClosureMachine, closureMove}
 use Rattle.closures.specs.Searches.{place}
 use Rattle.closures.specs.Targets.{isSome}

@@ -2,7 +2,7 @@
 use borrow.Author.Needs.{needs}
 use borrow.Author.Tests.{ne-eqb}
 use Rattle.messages.specs.Words.{operand}
-use Rattle.rules.specs.RuleTable.{askedPlain}
+use Rattle.rules.specs.RuleWords.{askedPlain}
 use Rattle.rules.proofs.ask_plain.Statement.{statement}
 use Rattle.rules.proofs.ask_plain.Tie as tie
 

@@ -2,7 +2,7 @@
 use borrow.Author.Tests.{le-leb, lt-leb}
 use Rattle.messages.specs.Words.{operand}
 use Rattle.rules.specs.ReadRule.{isChosen, termOf}
-use Rattle.rules.specs.RuleTable.{termWord}
+use Rattle.rules.specs.RuleWords.{termWord}
 use Rattle.rules.proofs.term_of.Statement.{statement}
 use Rattle.rules.proofs.term_of.Tie as tie
 

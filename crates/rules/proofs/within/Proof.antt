@@ -1,7 +1,7 @@
 -- `rules::within` meets its contract. Assumes nothing.
 use borrow.Author.Tests.{le-leb, lt-leb}
 use native.Mathlib.Omega.{arith}
-use Rattle.rules.specs.RuleTable.{levelled}
+use Rattle.rules.specs.RuleWords.{levelled}
 use Rattle.rules.proofs.within.Statement.{statement}
 use Rattle.rules.proofs.within.Tie as tie
 

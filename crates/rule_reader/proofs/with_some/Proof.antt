@@ -4,8 +4,8 @@ use mathlib.Core.Path.{_≡_}
 use lib.ListN.{length}
 use borrow.Author.Needs.{needs}
 use Rattle.messages.proofs.Tails.{drop-set}
-use Rattle.rules.proofs.with_some.Statement.{statement}
-use Rattle.rules.proofs.with_some.Tie as tie
+use Rattle.rule_reader.proofs.with_some.Statement.{statement}
+use Rattle.rule_reader.proofs.with_some.Tie as tie
 
 returns : tie.Need-returns
 returns c =

@@ -8,20 +8,20 @@ use borrow.Fn.Kinds.{In}
 use borrow.Fn.PlainCycle.{Measures, is, falls, and}
 use Rattle.messages.specs.Words.{operand}
 use Rattle.messages.proofs.Tails.{length-part}
 use Rattle.rules.specs.ReadRule.{ruleKind}
-use Rattle.rules.specs.RuleTable.{asked}
-use Rattle.rules.specs.declared.RuleTable.{RuleTable}
-use Rattle.rules.proofs.Steps.{lent, First, level, Left, read-none, no-read, leaf-read, one-read, two-refused, left-read, two-read, choice-read, place-read}
-use Rattle.rules.proofs.read_rule.Reads as read-rule
-use Rattle.rules.proofs.read_rule.Kinds as read-rule-kinds
-use Rattle.rules.proofs.+read_rule.Lts-read_rule as lts
+use Rattle.rules.specs.RuleWords.{asked}
+use Rattle.rule_reader.specs.declared.RuleTable.{RuleTable}
+use Rattle.rule_reader.proofs.Steps.{lent, First, level, Left, read-none, no-read, leaf-read, one-read, two-refused, left-read, two-read, choice-read, place-read}
+use Rattle.rule_reader.proofs.read_rule.Reads as read-rule
+use Rattle.rule_reader.proofs.read_rule.Kinds as read-rule-kinds
+use Rattle.rule_reader.proofs.+read_rule.Lts-read_rule as lts
 use Rattle.rules.proofs.ask_rule.Reads as ask-rule-reads
-use Rattle.rules.proofs.enter.Reads as enter-reads
-use Rattle.rules.proofs.refused.Reads as refused-reads
-use Rattle.rules.proofs.turn.Reads as turn-reads
-use Rattle.rules.proofs.with_some.Reads as with-some-reads
-use Rattle.rules.proofs.+read_rule.{statement}
-use Rattle.rules.proofs.+read_rule.Tie.{close}
+use Rattle.rule_reader.proofs.enter.Reads as enter-reads
+use Rattle.rule_reader.proofs.refused.Reads as refused-reads
+use Rattle.rule_reader.proofs.turn.Reads as turn-reads
+use Rattle.rule_reader.proofs.with_some.Reads as with-some-reads
+use Rattle.rule_reader.proofs.+read_rule.{statement}
+use Rattle.rule_reader.proofs.+read_rule.Tie.{close}
 
 abbrev μ-read-rule : Measures 1 read-rule-kinds.ps ℕ
 μ-read-rule κs a = length (a .0 .now)

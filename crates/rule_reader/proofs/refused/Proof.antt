@@ -1,7 +1,7 @@
 -- `rules::refused` meets its contract. Assumes nothing.
 use borrow.Author.Needs.{needs}
-use Rattle.rules.proofs.refused.Statement.{statement}
-use Rattle.rules.proofs.refused.Tie as tie
+use Rattle.rule_reader.proofs.refused.Statement.{statement}
+use Rattle.rule_reader.proofs.refused.Tie as tie
 
 returns : tie.Need-returns
 returns c = rw (c .vacant .ensures)

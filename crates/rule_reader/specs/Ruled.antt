@@ -7,9 +7,9 @@ use mathlib.Core.Path.{_≡_}
 use lib.ListN.{getD, length}
 use Rattle.messages.specs.Words.{kind, operand, nameFits}
 use Rattle.messages.specs.Reading.{Cursor}
 use Rattle.rules.specs.Rule.{Term, Rule, always, negation, either, void, at, beside, some-name, sometime, somewhere, placed, ruleIndex}
 use Rattle.rules.specs.ReadRule.{isChosen, termOf, termBound}
-use Rattle.rules.specs.declared.RuleTable.{RuleTable}
+use Rattle.rule_reader.specs.declared.RuleTable.{RuleTable}
 
 module _ (words : List ℕ) where
   -- "a word's top 4 bits are its kind": the word at the index i has the kind k

@@ -14,15 +14,16 @@ use Rattle.messages.specs.Reading.{Cursor, cursor, Reading, refuse, got}
 use Rattle.messages.specs.declared.Outcome.the-variants.{Read, Refused}
 use Rattle.messages.proofs.Readings.{placed, read≢refused}
 use Rattle.messages.proofs.Tails.{no-element, first, part, part-drop}
 use Rattle.rules.specs.Rule.{Rule}
 use Rattle.rules.specs.ReadRule.{RuleKind, TRUE, NOT, OR, VOID, AT, BESIDE, SOME, SOMETIME, SOMEWHERE, PLACED, OTHER, ruleKind, fits, bound, somesWith, Reader, readRule}
-use Rattle.rules.specs.RuleTable.{follow, levelled, asked, refusedAt, turned, entered, tabulate, scanned}
-use Rattle.rules.specs.declared.RuleTable.{RuleTable}
-use Rattle.rules.specs.declared.RuleScan.{RuleScan}
+use Rattle.rules.specs.RuleWords.{follow, levelled, asked}
+use Rattle.rule_reader.specs.RuleTable.{refusedAt, turned, entered, tabulate, scanned}
+use Rattle.rule_reader.specs.declared.RuleTable.{RuleTable}
+use Rattle.rule_reader.specs.declared.RuleScan.{RuleScan}
 use Rattle.rules.specs.declared.Asked.{Asked}
 use Rattle.rules.specs.declared.Asked.the-variants.{Leaf, One, Two, Choice, Place, No}
 use Rattle.rules.proofs.Cases.{and-true}
-use Rattle.rules.proofs.Laws.{RuleRead, rule-read, rule-fuel, onward, stepped, step}
+use Rattle.rule_reader.proofs.Laws.{RuleRead, rule-read, rule-fuel, onward, stepped, step}
 
 -- the rule at the front of the words l, the first of which has the index i; n PLACED words stand before it
 abbrev pub ruleAt : (l : List ℕ) (i around : ℕ) (somes : List ℕ) (n : ℕ) → Reading (Rule × Cursor)

@@ -12,15 +12,16 @@ use Rattle.messages.specs.Words.{operand}
 use Rattle.messages.specs.Reading.{Cursor, cursor, Reading, refuse, got, _>>=_, ask, split, nextWord, nextPart}
 use Rattle.messages.specs.declared.Outcome.the-variants.{Read}
 use Rattle.messages.proofs.Readings.{bind-cong, bind-got, bind-refuse, Advances, advances-on, Next, next, next-advances, next-shorter, advances-shorter, next-end}
 use Rattle.rules.specs.Rule.{Term, Rule, always, negation, either, void, at, beside, some-name, sometime, somewhere, ruleIndex}
 use Rattle.rules.specs.Rule as Rule
 use Rattle.rules.specs.ReadRule.{RuleKind, TRUE, NOT, OR, VOID, AT, BESIDE, SOME, SOMETIME, SOMEWHERE, PLACED, OTHER, ruleKind, termOf, fits, bound, somesWith, Reader, one, two, ruleFrom, readRule}
-use Rattle.rules.specs.RuleTable.{follow, levelled, asked, refusedAt, turned, entered, tabulate, scanned}
-use Rattle.rules.specs.declared.RuleTable.{RuleTable}
-use Rattle.rules.specs.declared.RuleScan.{RuleScan}
+use Rattle.rules.specs.RuleWords.{follow, levelled, asked}
+use Rattle.rule_reader.specs.RuleTable.{refusedAt, turned, entered, tabulate, scanned}
+use Rattle.rule_reader.specs.declared.RuleTable.{RuleTable}
+use Rattle.rule_reader.specs.declared.RuleScan.{RuleScan}
 use Rattle.rules.specs.declared.Asked.{Asked}
 use Rattle.rules.specs.declared.Asked.the-variants.{Leaf, One, Two, Choice, Place, No}
 use Rattle.rules.proofs.Cases.{Cases, rule-case}
 
 -- What holds where a rule was read from c on, p being the rule and the cursor behind it: `index` says where the rule stands,
 -- `rises` and `fewer` that there are no more PLACED words than words, and `counted` that the table counts them.

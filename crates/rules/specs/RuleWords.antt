@@ -1,21 +1,16 @@
--- What the code of `rules` answers, and the rule table that its reader fills, as a function of the rule that the words are read
--- as. Assumes nothing: these are definitions.
-use Prim.Native.Nat.{ℕ, _+_}
+-- What the code of `rules` answers for one word of a rule. Assumes nothing: these are definitions.
+use Prim.Native.Nat.{ℕ}
 use mathlib.Core.Bool.{_&&_, _||_, cond}
 use mathlib.Core.List.{List}
-use lib.ListN.{length, set, replicate}
+use lib.ListN.{length}
 use lib.Dec.{leb, eqb}
 use Rattle.messages.specs.Words.{nameFits}
-use Rattle.messages.specs.Reading.{Cursor, Reading, refuse, got}
-use Rattle.messages.specs.declared.Outcome.the-variants.{Read, Refused}
-use Rattle.rules.specs.Rule.{Term, constant, chosen, Rule, always, negation, either, void, at, beside, some-name, sometime, somewhere, placed, ruleIndex}
+use Rattle.rules.specs.Rule.{Term, constant, chosen}
 use Rattle.rules.specs.ReadRule.{RuleKind, TRUE, NOT, OR, VOID, AT, BESIDE, SOME, SOMETIME, SOMEWHERE, PLACED, OTHER, isChosen, termOf, fits, termBound, bound, somesWith}
 use Rattle.rules.specs.declared.RuleTerm.{RuleTerm}
 use Rattle.rules.specs.declared.RuleTerm.the-variants.{Constant, Chosen}
 use Rattle.rules.specs.declared.Asked.{Asked}
 use Rattle.rules.specs.declared.Asked.the-variants.{Leaf, One, Two, Choice, Place, No}
-use Rattle.rules.specs.declared.RuleTable.{RuleTable}
-use Rattle.rules.specs.declared.RuleScan.{RuleScan}
 
 -- "a name 1 to 255, or with bit 27 set the index of a SOME around it": the code's answer by cases
 unfoldable pub termWord : Term → RuleTerm
@@ -54,40 +49,7 @@ unfoldable pub asked : (around : ℕ) (somes : List ℕ) → RuleKind → (opera
 asked around somes k n =
     cond (fits k n) (cond (bound somes k n) (levelled around (somesWith k (length somes)) (follow k)) (No 9)) (No 8)
 
--- no rule
-abbrev pub vacant : RuleTable
-vacant = record { rights = replicate 256 0; places = replicate 256 0; count = 0 }
-
--- the right rule of the OR or BESIDE at the index i starts at the index k
-abbrev pub turned : (i k : ℕ) → RuleTable → RuleTable
-turned i k t = record { rights = set (t .rights) i k; places = t .places; count = t .count }
-
--- "The j-th PLACED word (from 0)" is the one at the index i
-abbrev pub entered : (i j : ℕ) → RuleTable → RuleTable
-entered i j t = record { rights = t .rights; places = set (t .places) i j; count = t .count + 1 }
-
--- the table after a rule was read
-unfoldable pub tabulate : Rule → RuleTable → RuleTable
-tabulate (always i) t = t
-tabulate (negation i r) t = tabulate r t
-tabulate (either i r q) t = tabulate q (turned i (ruleIndex q) (tabulate r t))
-tabulate (void i) t = t
-tabulate (at i n r) t = tabulate r t
-tabulate (beside i r q) t = tabulate q (turned i (ruleIndex q) (tabulate r t))
-tabulate (some-name i r) t = tabulate r t
-tabulate (sometime i r) t = tabulate r t
-tabulate (somewhere i r) t = tabulate r t
-tabulate (placed i j n r) t = tabulate r (entered i j t)
-
--- What the readers of the code answer; a refusal gives the empty table.
-abbrev pub refusedAt : (question place : ℕ) → RuleScan
-refusedAt q i = record { outcome = Refused q i; table = vacant }
-
-unfoldable pub scanned : RuleTable → Reading (Rule × Cursor) → RuleScan
-scanned t (refuse q i) = refusedAt q i
-scanned t (got p) = record { outcome = Read (p .1 .index); table = tabulate (p .0) t }
-
 -- To unfold this is to unfold every definition of this module: for a proof by computation.
 unfoldable pub computing : Unit {0}
-unfolding termWord follow levelled askedPlain askedTerm asked tabulate scanned
+unfolding termWord follow levelled askedPlain askedTerm asked
 computing = tt

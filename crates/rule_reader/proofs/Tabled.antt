@@ -13,14 +13,14 @@ use borrow.Author.Tests.{leb-true}
 use Rattle.messages.specs.Words.{kind, operand}
 use Rattle.messages.specs.Reading.{Cursor, cursor, got, ask, nextPart, isEmpty}
 use Rattle.messages.proofs.Readings.{bind-all, got-all, ask-inv, Stands, stands-on, Next, next-advances}
 use Rattle.rules.specs.Rule.{Rule, always, negation, either, void, at, beside, some-name, sometime, somewhere, placed, ruleIndex}
 use Rattle.rules.specs.ReadRule.{termOf, readRule, readWholeRule}
-use Rattle.rules.specs.RuleTable.{vacant, turned, entered, tabulate, scanned}
-use Rattle.rules.specs.Ruled.{Worded, Said, Ruled, Tabled}
-use Rattle.rules.specs.declared.RuleTable.{RuleTable}
-use Rattle.rules.specs.declared.RuleScan.{RuleScan}
+use Rattle.rule_reader.specs.RuleTable.{vacant, turned, entered, tabulate, scanned}
+use Rattle.rule_reader.specs.Ruled.{Worded, Said, Ruled, Tabled}
+use Rattle.rule_reader.specs.declared.RuleTable.{RuleTable}
+use Rattle.rule_reader.specs.declared.RuleScan.{RuleScan}
 use Rattle.rules.proofs.Cases.{Cases, Operand, rule-case, and-true}
-use Rattle.rules.proofs.Laws.{RuleRead, read-cases}
+use Rattle.rule_reader.proofs.Laws.{RuleRead, read-cases}
 
 -- what the table has at an index
 abbrev entry : RuleTable → ℕ → ℕ × ℕ

@@ -8,14 +8,14 @@ use lib.Dec.{leb}
 use lib.ListN.{getD, length}
 use borrow.Author.Tests.{leb-true}
 use Rattle.messages.specs.Words.{kind, operand, nameFits, member}
 use Rattle.rules.specs.Rule.{Term, constant, chosen, Rule, always, negation, either, void, at, beside, some-name, sometime, somewhere, placed, ruleIndex}
 use Rattle.rules.specs.ReadRule.{isChosen, termOf, termBound}
-use Rattle.rules.specs.RuleTable.{termWord}
-use Rattle.rules.specs.Ruled.{Said, Ruled}
-use Rattle.rules.specs.declared.RuleTable.{RuleTable}
+use Rattle.rules.specs.RuleWords.{termWord}
+use Rattle.rule_reader.specs.Ruled.{Said, Ruled}
+use Rattle.rule_reader.specs.declared.RuleTable.{RuleTable}
 use Rattle.rules.specs.declared.RuleTerm.the-variants.{Constant, Chosen}
 use Rattle.rules.proofs.Words.{constant-told, chosen-told}
 use Rattle.rules.proofs.Cases.{and-true}
 
 module _ (words : List ℕ) (t : RuleTable) (somes : List ℕ) where
   -- the term of the word at the index i

@@ -11,10 +11,10 @@ use Rattle.messages.specs.Words.{operand}
 use Rattle.messages.specs.Reading.{Cursor, cursor, got, ask, nextWord, nextPart, isEmpty}
 use Rattle.messages.proofs.Readings.{ask-inv}
 use Rattle.messages.proofs.Places.{Within, bind-within, ask-within, Ends, ends-on, next-within, next-ends}
 use Rattle.rules.specs.Rule.{Term, Rule, negation, either, at, beside, some-name, sometime, somewhere, placed}
 use Rattle.rules.specs.ReadRule.{RuleKind, TRUE, NOT, OR, VOID, AT, BESIDE, SOME, SOMETIME, SOMEWHERE, PLACED, OTHER, ruleKind, termOf, fits, bound, somesWith, Reader, one, two, ruleFrom, readRule, readWholeRule}
 use Rattle.rules.proofs.Cases.{and-true}
-use Rattle.rules.proofs.Laws.{RuleRead, rule-read}
+use Rattle.rule_reader.proofs.Laws.{RuleRead, rule-read}
 
 -- a rule, by the rules inside it
 module _ (x : ℕ) (read : Reader) (h : (a : List ℕ) (c : Cursor) (p : Rule × Cursor) → read a c ≡ got p → RuleRead a c p)

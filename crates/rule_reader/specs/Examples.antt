@@ -6,12 +6,12 @@ use lib.ListN.{replicate}
 use Rattle.messages.specs.Words
 use Rattle.messages.specs.Reading
 use Rattle.messages.specs.Reading.{Reading, refuse, got, cursor}
 use Rattle.rules.specs.Rule.{constant, chosen, always, negation, either, void, at, beside, some-name, sometime, placed, greatestRuleName}
 use Rattle.rules.specs.Rule
 use Rattle.rules.specs.ReadRule.{readWholeRule}
 use Rattle.rules.specs.ReadRule
-use Rattle.rules.specs.RuleTable.{vacant, turned, entered, tabulate}
-use Rattle.rules.specs.RuleTable
+use Rattle.rule_reader.specs.RuleTable.{vacant, turned, entered, tabulate}
+use Rattle.rule_reader.specs.RuleTable
 
 -- `n` parts of the script, the rule's words, and what is read
 abbrev Row : Type 0

@@ -1,12 +1,12 @@
 -- `rules::read_whole_rule` meets its contract: questions 7, 11 and 12 around the rule's reading. Assumes nothing.
 use mathlib.Core.Path.{ap, _∙_}
 use native.Mathlib.Omega.{arith}
-use Rattle.rules.specs.declared.RuleTable.{RuleTable}
-use Rattle.rules.proofs.Whole.{RuleAsked, rule-none, rule-long, rule-refused, rule-fewer, rule-behind, rule-many, rule-whole}
-use Rattle.rules.proofs.Tabled.{answers}
+use Rattle.rule_reader.specs.declared.RuleTable.{RuleTable}
+use Rattle.rule_reader.proofs.Whole.{RuleAsked, rule-none, rule-long, rule-refused, rule-fewer, rule-behind, rule-many, rule-whole}
+use Rattle.rule_reader.proofs.Tabled.{answers}
 use borrow.Author.Needs.{needs}
-use Rattle.rules.proofs.read_whole_rule.Statement.{statement}
-use Rattle.rules.proofs.read_whole_rule.Tie as tie
+use Rattle.rule_reader.proofs.read_whole_rule.Statement.{statement}
+use Rattle.rule_reader.proofs.read_whole_rule.Tie as tie
 
 -- question 7 and the rule's reading
 read : (c : tie.After-read-rule) → RuleAsked (c .before .before .before .before .before .args .parts) (c .before .before .before .before .before .args .rule .now) (c .read-rule .result)

@@ -10,13 +10,13 @@ use lib.ListN.{length}
 use Rattle.messages.specs.Reading.{Cursor, cursor, Reading, refuse, got, _>>=_, ask, isEmpty}
 use Rattle.messages.specs.declared.Outcome.the-variants.{Read, Refused}
 use Rattle.messages.proofs.Readings.{bind-got, bind-refuse, ask-yes, ask-no, left-none, left-some, read≢refused}
 use Rattle.rules.specs.Rule.{Rule}
 use Rattle.rules.specs.ReadRule.{readWholeRule}
-use Rattle.rules.specs.RuleTable.{vacant, refusedAt, tabulate, scanned}
-use Rattle.rules.specs.declared.RuleTable.{RuleTable}
-use Rattle.rules.specs.declared.RuleScan.{RuleScan}
-use Rattle.rules.proofs.Laws.{RuleRead, rule-read}
-use Rattle.rules.proofs.Steps.{ruleAt, scan-told}
+use Rattle.rule_reader.specs.RuleTable.{vacant, refusedAt, tabulate, scanned}
+use Rattle.rule_reader.specs.declared.RuleTable.{RuleTable}
+use Rattle.rule_reader.specs.declared.RuleScan.{RuleScan}
+use Rattle.rule_reader.proofs.Laws.{RuleRead, rule-read}
+use Rattle.rule_reader.proofs.Steps.{ruleAt, scan-told}
 
 scan-refused : (t : RuleTable) (x : Reading (Rule × Cursor)) (k : Rule × Cursor → Reading (Rule × Cursor)) (a : RuleScan) (q i : ℕ) → a ≡ scanned t x → a .outcome ≡ Refused q i → a ≡ scanned t (x >>= k)
 unfolding scanned _>>=_

@@ -1,0 +1,7 @@
+-- The laws of `rule_reader` that its own proofs and the crates above cite.
+pub mod Laws
+pub mod Steps
+pub mod Tabled
+pub mod Whole
+pub mod Inversion
+pub mod Places
