@@ -22,8 +22,8 @@ use Rattle.closures.specs.declared.State.{State}
 use Rattle.writer.specs.Bodies.{Scripted}
 use Rattle.decision.specs.Walk.{walkFrom}
 use Rattle.decision.specs.ClosureWalk.{closureSpace}
-use Rattle.walk.specs.Visits.{walkedOf, Walks}
-use Rattle.walk.specs.declared.Walked.{Walked}
+use Rattle.stages.specs.Visits.{walkedOf, Walks}
+use Rattle.stages.specs.declared.Walked.{Walked}
 use Rattle.rules.proofs.Order.{rule-ordered}
 use Rattle.plain_call.specs.Call.{Call, Verdict, accepted, refused, walked, setting, answer}
 use Rattle.plain_call.specs.Call as plain

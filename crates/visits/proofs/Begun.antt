@@ -11,10 +11,10 @@ use Rattle.closures.specs.Represents.{Ready, Represents}
 use Rattle.closures.specs.declared.State.{State}
 use Rattle.lent_states.specs.Lent.{kindsIn, startsIn, stateIn}
 use Rattle.decision.specs.Walk.{Count}
-use Rattle.walk.specs.Visits.{countOf, machineOf, Scene, visits, Visits, Walks}
-use Rattle.walk.specs.declared.Counts.{Counts}
-use Rattle.walk.specs.declared.Limits.{Limits}
-use Rattle.walk.specs.declared.Walked.{Walked}
+use Rattle.stages.specs.Visits.{countOf, machineOf, Scene, visits, Visits, Walks}
+use Rattle.stages.specs.declared.Counts.{Counts}
+use Rattle.stages.specs.declared.Limits.{Limits}
+use Rattle.stages.specs.declared.Walked.{Walked}
 use Rattle.walk.proofs.Lendings.{carried}
 
 -- THEOREM: the first visit answers the whole walk.

@@ -4,11 +4,11 @@
 use bindings::wide;
 use closures::State;
 use rule_reader::RuleTable;
-use walk::Counts;
-use walk::Limits;
+use stages::Counts;
+use stages::Limits;
+use stages::Walked;
 use walk::Spot;
 use walk::Step;
-use walk::Walked;
 use walk::all_targets;
 use walk::is_called;
 use walk::lend_state;
@@ -21,8 +21,8 @@ use walk::void_rule;
 use walk::with_name;
 ghost use Prim.Native.Nat.{_+_, _-_, _≤_, _<_};
 ghost use Rattle.closures.specs.Represents.{Ready};
-ghost use Rattle.walk.specs.Visits.{Lendable};
-ghost use Rattle.walk.specs.Visits.{Visits as Answers, Looks as Finds, Splits, Tries, Walks};
+ghost use Rattle.stages.specs.Visits.{Lendable};
+ghost use Rattle.stages.specs.Visits.{Visits as Answers, Looks as Finds, Splits, Tries, Walks};
 
 // A visit at the word of the spot, whose depth is among the depths left.
 fn visit<'a>(

@@ -21,7 +21,7 @@ use Rattle.closures.specs.Seen.{nameIn}
 use Rattle.closures.specs.declared.State.{State}
 use Rattle.lent_states.specs.Lent.{stretch}
 use Rattle.lent_states.proofs.Copying.{getD-stretch}
-use Rattle.walk.specs.Visits.{nameSaid}
+use Rattle.stages.specs.Visits.{nameSaid}
 use Rattle.walk.specs.declared.Step.the-variants.{Move, Place}
 
 -- the name that a term says

@@ -1,6 +1,6 @@
 // What the words of a rule ask of the process that a state stands for (document 01, "The rule and its walk"), a state being
-// lent as two arrays and made only where a move or PLACED changes it. It rests on the promises of moves, settling,
-// lent_states, closures, rules and sets.
+// lent as two arrays and made only where a move or PLACED changes it. It rests on stages and on the promises of moves,
+// settling, lent_states, closures, rules and sets.
 use closures::State;
 use closures::locate;
 use closures::targets;
@@ -11,6 +11,8 @@ use moves::make_move;
 use rules::RuleTerm;
 use rules::term_of;
 use settling::place_part;
+use stages::Counts;
+use stages::Walked;
 ghost use mathlib.Core.Path.{_≡_};
 ghost use mathlib.Core.Bool.{false};
 ghost use Prim.Native.Nat.{ℕ, _+_, _-_, _≤_, _<_, max};
@@ -33,28 +35,7 @@ ghost use Rattle.closures.specs.Represents.{boundIn, Represents};
 ghost use Rattle.lent_states.specs.Lent.{Small, stretch, kindsIn, startsIn, stateIn};
 ghost use Rattle.walk.specs.declared.Step.the-variants.{Move, Place};
 ghost use Rattle.decision.specs.Walk.{turned as reversed, says};
-ghost use Rattle.walk.specs.Visits.{countOf, walkedOf, nameSaid, Lendable};
-
-// Visits made, and the greatest depth.
-pub struct Counts {
-    pub visits: u32,
-    pub deepest: u32,
-}
-
-// The call's numbers: the most visits, the greatest name, the script's parts, and these with the parts that PLACED words make.
-pub struct Limits {
-    pub patience: u32,
-    pub greatest: u32,
-    pub parts: usize,
-    pub limit: usize,
-}
-
-// Yes or no with the counts; or the question's number, the place and the visits made.
-pub enum Walked {
-    Yes(Counts),
-    No(Counts),
-    Stopped(u32, usize, u32),
-}
+ghost use Rattle.stages.specs.Visits.{countOf, walkedOf, nameSaid, Lendable};
 
 // Where a visit is made: the word's index, the set of the top parts, the SOMEs around, and the depths left.
 pub struct Spot {

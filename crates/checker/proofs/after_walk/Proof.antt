@@ -2,8 +2,8 @@
 use mathlib.Core.Path.{sym, ap, _∙_}
 use Rattle.closure_machine.specs.Closure.{unfoldMachine}
 use Rattle.closures.specs.Represents.{boundIn}
-use Rattle.walk.specs.Visits.{walkedOf}
-use Rattle.walk.specs.declared.Walked as declared
+use Rattle.stages.specs.Visits.{walkedOf}
+use Rattle.stages.specs.declared.Walked as declared
 use Rattle.plain_call.specs.Call.{refusal, walked}
 use Rattle.checker.specs.Answering.{callOf}
 use borrow.Author.Needs.{needs}

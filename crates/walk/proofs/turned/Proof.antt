@@ -1,8 +1,8 @@
 -- `turned` meets its contract, case by case. Assumes nothing.
 use mathlib.Core.Path.{sym, ap}
-use Rattle.walk.specs.Visits.{walkedOf}
+use Rattle.stages.specs.Visits.{walkedOf}
 use Rattle.decision.specs.Walk as spec
-use Rattle.walk.specs.declared.Walked.{Walked}
+use Rattle.stages.specs.declared.Walked.{Walked}
 use borrow.Author.Needs.{needs}
 use Rattle.walk.proofs.turned.Statement.{statement}
 use Rattle.walk.proofs.turned.Tie as tie

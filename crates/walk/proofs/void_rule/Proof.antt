@@ -1,10 +1,10 @@
 -- `void_rule` meets its contract. Assumes nothing.
 use mathlib.Core.Path.{sym, ap}
-use Rattle.walk.specs.Visits.{walkedOf}
+use Rattle.stages.specs.Visits.{walkedOf}
 use Rattle.decision.specs.Walk as spec
 use mathlib.Core.Bool.{Bool}
 use borrow.Author.Tests.{eq-eqb, ne-eqb}
-use Rattle.walk.specs.Visits.{countOf}
+use Rattle.stages.specs.Visits.{countOf}
 use Rattle.walk.proofs.void_rule.Statement.{statement}
 use Rattle.walk.proofs.void_rule.Tie as tie
 

@@ -3,8 +3,8 @@ use Prim.Native.Nat.{ℕ, _-_}
 use mathlib.Core.Path.{sym, _∙_}
 use native.Mathlib.Omega.{arith}
 use borrow.Author.Needs.{needs}
-use Rattle.walk.proofs.Members.{single-low, at-several, at-other, at-goes}
-use Rattle.walk.proofs.Scenes.{lendable-top}
+use Rattle.stages.proofs.Members.{single-low, at-several, at-other, at-goes}
+use Rattle.stages.proofs.Scenes.{lendable-top}
 use Rattle.visits.proofs.+at_name+beside+either+moves_of+negation+placed_in+some_name+sometime+somewhere+split+visit.Lts-at_name as lts
 use Rattle.visits.proofs.at_name.Reads as reads
 use Rattle.visits.proofs.+at_name+beside+either+moves_of+negation+placed_in+some_name+sometime+somewhere+split+visit.Proof.Measures.{at-name-at, at-name-claims}

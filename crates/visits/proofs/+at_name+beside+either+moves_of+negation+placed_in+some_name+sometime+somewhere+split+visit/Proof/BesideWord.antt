@@ -2,7 +2,7 @@
 use Prim.Native.Nat.{ℕ, _-_, _^_, _<_}
 use native.Mathlib.Omega.{arith}
 use borrow.Author.Needs.{needs}
-use Rattle.walk.proofs.Turns.{Dividing, dividing-holds, dividing-again, dividing-stops, dividing-last}
+use Rattle.stages.proofs.Turns.{Dividing, dividing-holds, dividing-again, dividing-stops, dividing-last}
 use Rattle.visits.proofs.+at_name+beside+either+moves_of+negation+placed_in+some_name+sometime+somewhere+split+visit.Lts-beside as lts
 use Rattle.visits.proofs.beside.Reads as reads
 use Rattle.visits.proofs.+at_name+beside+either+moves_of+negation+placed_in+some_name+sometime+somewhere+split+visit.Proof.Measures.{beside-at, beside-claims}

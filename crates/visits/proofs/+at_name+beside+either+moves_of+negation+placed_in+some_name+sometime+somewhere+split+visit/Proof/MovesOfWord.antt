@@ -6,7 +6,7 @@ use borrow.Author.Needs.{needs}
 use lib.ListN.{length}
 use Rattle.sets.specs.Sets.{members}
 use Rattle.sets.proofs.Members.{not-none}
-use Rattle.walk.proofs.Turns.{first-low, rest-shorter, Trying, trying-holds, trying-again, trying-stops, trying-ends}
+use Rattle.stages.proofs.Turns.{first-low, rest-shorter, Trying, trying-holds, trying-again, trying-stops, trying-ends}
 use Rattle.walk.proofs.Lendings.{step-moves, step-apart}
 use Rattle.visits.proofs.+at_name+beside+either+moves_of+negation+placed_in+some_name+sometime+somewhere+split+visit.Lts-moves_of as lts
 use Rattle.visits.proofs.moves_of.Reads as reads

@@ -3,7 +3,7 @@ use Prim.Native.Nat.{ℕ, _+_, _-_, _<_}
 use mathlib.Core.Path.{refl, sym, ap}
 use native.Mathlib.Omega.{arith}
 use borrow.Author.Needs.{needs}
-use Rattle.walk.proofs.Members.{placed-number, placed-far, placed-name, placed-goes}
+use Rattle.stages.proofs.Members.{placed-number, placed-far, placed-name, placed-goes}
 use Rattle.walk.proofs.Lendings.{step-places, step-apart}
 use Rattle.visits.proofs.+at_name+beside+either+moves_of+negation+placed_in+some_name+sometime+somewhere+split+visit.Lts-placed_in as lts
 use Rattle.visits.proofs.placed_in.Reads as reads

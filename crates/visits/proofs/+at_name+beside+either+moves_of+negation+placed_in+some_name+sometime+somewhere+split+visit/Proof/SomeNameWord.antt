@@ -3,7 +3,7 @@ use Prim.Native.Nat.{ℕ, _+_, _-_, _≤_}
 use mathlib.Core.Path.{_≡_, refl}
 use native.Mathlib.Omega.{arith}
 use borrow.Author.Needs.{needs}
-use Rattle.walk.proofs.Turns.{Naming, naming-none, naming-holds, naming-again, naming-stops, naming-ends}
+use Rattle.stages.proofs.Turns.{Naming, naming-none, naming-holds, naming-again, naming-stops, naming-ends}
 use Rattle.visits.proofs.+at_name+beside+either+moves_of+negation+placed_in+some_name+sometime+somewhere+split+visit.Lts-some_name as lts
 use Rattle.visits.proofs.some_name.Reads as reads
 use Rattle.visits.proofs.+at_name+beside+either+moves_of+negation+placed_in+some_name+sometime+somewhere+split+visit.Proof.Measures.{some-name-at, some-name-claims}

@@ -3,7 +3,7 @@ use Prim.Native.Nat.{ℕ, _-_, _≤_}
 use mathlib.Core.Path.{_≡_, refl}
 use native.Mathlib.Omega.{arith}
 use borrow.Author.Needs.{needs}
-use Rattle.walk.proofs.Turns.{sometime-first, sometime-then, Acting, acting-holds, acting-again, acting-stops, acting-ends}
+use Rattle.stages.proofs.Turns.{sometime-first, sometime-then, Acting, acting-holds, acting-again, acting-stops, acting-ends}
 use Rattle.visits.proofs.+at_name+beside+either+moves_of+negation+placed_in+some_name+sometime+somewhere+split+visit.Lts-sometime as lts
 use Rattle.visits.proofs.sometime.Reads as reads
 use Rattle.visits.proofs.+at_name+beside+either+moves_of+negation+placed_in+some_name+sometime+somewhere+split+visit.Proof.Measures.{sometime-at, sometime-claims}

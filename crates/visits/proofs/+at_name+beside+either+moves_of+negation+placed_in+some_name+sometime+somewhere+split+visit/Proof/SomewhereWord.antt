@@ -5,8 +5,8 @@ use borrow.Author.Needs.{needs}
 use lib.ListN.{length}
 use Rattle.sets.specs.Sets.{members}
 use Rattle.sets.proofs.Members.{not-none}
-use Rattle.walk.proofs.Scenes.{lendable-top}
-use Rattle.walk.proofs.Turns.{first-low, rest-shorter, somewhere-first, somewhere-then, Seeking, seeking-holds, seeking-again, seeking-stops, seeking-ends}
+use Rattle.stages.proofs.Scenes.{lendable-top}
+use Rattle.stages.proofs.Turns.{first-low, rest-shorter, somewhere-first, somewhere-then, Seeking, seeking-holds, seeking-again, seeking-stops, seeking-ends}
 use Rattle.visits.proofs.+at_name+beside+either+moves_of+negation+placed_in+some_name+sometime+somewhere+split+visit.Lts-somewhere as lts
 use Rattle.visits.proofs.somewhere.Reads as reads
 use Rattle.visits.proofs.+at_name+beside+either+moves_of+negation+placed_in+some_name+sometime+somewhere+split+visit.Proof.Measures.{somewhere-at, somewhere-claims}

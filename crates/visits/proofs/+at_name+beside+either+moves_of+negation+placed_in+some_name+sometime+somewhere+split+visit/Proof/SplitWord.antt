@@ -2,8 +2,8 @@
 use Prim.Native.Nat.{ℕ, _-_}
 use native.Mathlib.Omega.{arith}
 use borrow.Author.Needs.{needs}
-use Rattle.walk.proofs.Members.{split-stops, split-goes}
-use Rattle.walk.proofs.Scenes.{lendable-top}
+use Rattle.stages.proofs.Members.{split-stops, split-goes}
+use Rattle.stages.proofs.Scenes.{lendable-top}
 use Rattle.visits.proofs.+at_name+beside+either+moves_of+negation+placed_in+some_name+sometime+somewhere+split+visit.Lts-split as lts
 use Rattle.visits.proofs.split.Reads as reads
 use Rattle.visits.proofs.+at_name+beside+either+moves_of+negation+placed_in+some_name+sometime+somewhere+split+visit.Proof.Measures.{split-at, split-claims}

@@ -3,7 +3,7 @@ use Prim.Native.Nat.{ℕ, _-_, _^_, _<_}
 use mathlib.Core.Path.{refl}
 use native.Mathlib.Omega.{arith}
 use borrow.Author.Needs.{needs}
-use Rattle.walk.proofs.Members.{deep-visits, over-visits, outside-visits, counted-visits, always-finds, void-finds, other-kind, none-finds}
+use Rattle.stages.proofs.Members.{deep-visits, over-visits, outside-visits, counted-visits, always-finds, void-finds, other-kind, none-finds}
 use Rattle.visits.proofs.+at_name+beside+either+moves_of+negation+placed_in+some_name+sometime+somewhere+split+visit.Lts-visit as lts
 use Rattle.visits.proofs.visit.Reads as reads
 use Rattle.visits.proofs.+at_name+beside+either+moves_of+negation+placed_in+some_name+sometime+somewhere+split+visit.Proof.Measures.{visit-at, visit-claims}

@@ -26,20 +26,20 @@ use Rattle.closures.specs.Seen.{nameIn}
 use Rattle.closures.specs.Represents.{heads, boundIn, Represents}
 use Rattle.lent_states.specs.Lent.{stretch, kindsIn, startsIn, stateIn}
 use Rattle.lent_states.proofs.Copying.{length-stretch, getD-stretch}
-use Rattle.walk.specs.Pieces.{Room, Divides}
+use Rattle.stages.specs.Pieces.{Room, Divides}
 use Rattle.closures.specs.declared.State.{State}
 use Rattle.decision.specs.Walk.{says, ifAny, look, counted, walk}
 use Rattle.decision.specs.Walk as spec
 use Rattle.decision.specs.ClosureWalk.{closureSpace, only}
-use Rattle.walk.specs.Visits.{countOf, walkedOf, settingOf, indices, nameSaid, Lendable, Scene, here, visits, Visits, Looks, Splits}
-use Rattle.walk.specs.declared.Counts.{Counts}
-use Rattle.walk.specs.declared.Limits.{Limits}
-use Rattle.walk.specs.declared.Walked.{Walked}
-use Rattle.walk.specs.declared.Walked.the-variants.{Yes, No, Stopped}
-use Rattle.walk.proofs.Loops.{NotNo, NotYes, no-goes, no-stops, yes-goes, yes-stops}
-use Rattle.walk.proofs.Focused.{top-told, lent-told}
-use Rattle.walk.proofs.Single.{void-told, at-none, at-one}
-use Rattle.walk.proofs.Scenes.{scene-inside, scene-low, scene-told, scene-deeper, scene-piece, scene-inner, scene-placed, Inside, name-told}
+use Rattle.stages.specs.Visits.{countOf, walkedOf, settingOf, indices, nameSaid, Lendable, Scene, here, visits, Visits, Looks, Splits}
+use Rattle.stages.specs.declared.Counts.{Counts}
+use Rattle.stages.specs.declared.Limits.{Limits}
+use Rattle.stages.specs.declared.Walked.{Walked}
+use Rattle.stages.specs.declared.Walked.the-variants.{Yes, No, Stopped}
+use Rattle.stages.proofs.Loops.{NotNo, NotYes, no-goes, no-stops, yes-goes, yes-stops}
+use Rattle.stages.proofs.Focused.{top-told, lent-told}
+use Rattle.stages.proofs.Single.{void-told, at-none, at-one}
+use Rattle.stages.proofs.Scenes.{scene-inside, scene-low, scene-told, scene-deeper, scene-piece, scene-inner, scene-placed, Inside, name-told}
 
 -- a single part's number
 pub single-low : (m i : ℕ) → isOne (members m) ≡ true → i ≡ headOr 64 (members m) → i < 64

@@ -23,11 +23,11 @@ use Rattle.lent_states.specs.Lent.{Small, kindsIn, startsIn, stateIn}
 use Rattle.decision.specs.Walk.{Count, Setting, onYes, firstYes, look, walk, walkFrom, movesTo}
 use Rattle.decision.specs.Walk as spec
 use Rattle.decision.specs.ClosureWalk.{closureSpace, machineAfter}
-use Rattle.walk.specs.Pieces.{Divides}
-use Rattle.walk.specs.declared.Counts.{Counts}
-use Rattle.walk.specs.declared.Limits.{Limits}
-use Rattle.walk.specs.declared.Walked.{Walked}
-use Rattle.walk.specs.declared.Walked.the-variants.{Yes, No, Stopped}
+use Rattle.stages.specs.Pieces.{Divides}
+use Rattle.stages.specs.declared.Counts.{Counts}
+use Rattle.stages.specs.declared.Limits.{Limits}
+use Rattle.stages.specs.declared.Walked.{Walked}
+use Rattle.stages.specs.declared.Walked.the-variants.{Yes, No, Stopped}
 
 -- the counts and answers of the engine, by document 01's numbers
 abbrev pub countOf : Counts → Count

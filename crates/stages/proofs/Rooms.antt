@@ -21,8 +21,8 @@ use Rattle.closures.specs.declared.State.{State}
 use Rattle.closures.proofs.Holding.{self}
 use Rattle.closures.proofs.Locating.{seen-names}
 use Rattle.decision.specs.ClosureWalk.{beside, insides}
-use Rattle.walk.specs.Pieces.{Piece, Room}
-use Rattle.walk.proofs.Focused.{seen-told, top-told}
+use Rattle.stages.specs.Pieces.{Piece, Room}
+use Rattle.stages.proofs.Focused.{seen-told, top-told}
 
 module _ (k : ℕ → List ℕ) (w : ℕ → ClosureHead) where
   -- the closures are the insides of those parts of b, in their order

@@ -1,5 +1,5 @@
 -- A state with another set of top parts: it stands for the piece of the closure whose top parts they are. Assumes nothing.
-use Prim.Native.Nat.{ℕ, _-_, _≤_, _<_}
+use Prim.Native.Nat.{ℕ, _≤_, _<_}
 use mathlib.Core.List.{List}
 use mathlib.Core.Path.{_≡_, refl, sym, ap, _∙_}
 use native.Mathlib.Omega.{arith}
@@ -17,9 +17,9 @@ use Rattle.closures.specs.Seen.{Seen}
 use Rattle.closures.specs.Represents.{heads, boundIn, Ready, Represents}
 use Rattle.closures.specs.declared.State.{State}
 use Rattle.closures.proofs.Holding.{differ, frame}
-use Rattle.walk.specs.Pieces.{withTop, Piece}
-use Rattle.walk.specs.Visits.{indices, Stage}
-use Rattle.walk.specs.declared.Limits.{Limits}
+use Rattle.stages.specs.Pieces.{withTop, Piece}
+use Rattle.stages.specs.Visits.{indices, Stage}
+use Rattle.stages.specs.declared.Limits.{Limits}
 
 module _ (k : ℕ → List ℕ) (w : ℕ → ClosureHead) (b c : Closure) (P : Piece k w b c) where
   pub fewer : (j : ℕ) → count j c ≤ count j b

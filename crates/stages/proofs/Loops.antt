@@ -10,11 +10,11 @@ use denote.Enum.Declared.{tagOf}
 use types.Run.{OneOf}
 use Rattle.decision.specs.Walk.{Count, says, range, onYes, onNo, firstYes}
 use Rattle.decision.specs.Walk as spec
-use Rattle.walk.specs.Visits.{countOf, walkedOf}
-use Rattle.walk.specs.declared.Counts.{Counts}
-use Rattle.walk.specs.declared.Walked.{Walked}
-use Rattle.walk.specs.declared.Walked.the-variants.{Yes, No, Stopped}
-use Rattle.walk.proofs.Walked.{the-type}
+use Rattle.stages.specs.Visits.{countOf, walkedOf}
+use Rattle.stages.specs.declared.Counts.{Counts}
+use Rattle.stages.specs.declared.Walked.{Walked}
+use Rattle.stages.specs.declared.Walked.the-variants.{Yes, No, Stopped}
+use Rattle.stages.proofs.Walked.{the-type}
 
 -- no No, and no Yes: the other variants of the answer
 abbrev pub NotNo : Walked → Type 0

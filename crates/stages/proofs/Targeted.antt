@@ -21,7 +21,7 @@ use Rattle.closures.proofs.Holding.{self}
 use Rattle.closure_machine.proofs.Tallies.{closure-inv}
 use Rattle.decision.specs.Walk.{range, keep, movesTo, movesFrom, inOrder}
 use Rattle.decision.specs.ClosureWalk.{machineAfter, nexts}
-use Rattle.walk.proofs.Loops.{range-first, range-none}
+use Rattle.stages.proofs.Loops.{range-first, range-none}
 
 -- ---- any moves of one actor
 

@@ -1,6 +1,6 @@
 -- The scenes that the members of the walk's cycle hand on: of a rule inside the one that is visited, on the same closure, on
 -- a piece of it, under a chosen name, after a move, and inside a new ambient. Assumes nothing.
-use Prim.Native.Nat.{ℕ, suc, _+_, _-_, _≤_, _<_}
+use Prim.Native.Nat.{ℕ, suc, _+_, _≤_, _<_}
 use mathlib.Core.Bool.{true}
 use mathlib.Core.List.{List, _∷_}
 use mathlib.Core.Path.{_≡_, refl, sym, ap, _∙_, subst}
@@ -25,11 +25,11 @@ use Rattle.closure_machine.specs.Closure.{Action, Closure, closureMove}
 use Rattle.closures.specs.Represents.{heads, boundIn, Represents}
 use Rattle.lent_states.specs.Lent.{stretch, kindsIn, startsIn, stateIn}
 use Rattle.lent_states.proofs.Copying.{length-stretch}
-use Rattle.walk.specs.Pieces.{Piece}
-use Rattle.walk.specs.Visits.{indices, Chosen, Stage, nameSaid, Lendable, Scene}
-use Rattle.walk.specs.declared.Limits.{Limits}
-use Rattle.walk.proofs.Focused.{ready-top, stage-piece}
-use Rattle.walk.proofs.Targeted.{move-low}
+use Rattle.stages.specs.Pieces.{Piece}
+use Rattle.stages.specs.Visits.{indices, Chosen, Stage, nameSaid, Lendable, Scene}
+use Rattle.stages.specs.declared.Limits.{Limits}
+use Rattle.stages.proofs.Focused.{ready-top, stage-piece}
+use Rattle.stages.proofs.Targeted.{move-low}
 
 module _ (program script sets numbers choices : List ℕ) (top somes left index : ℕ) (limits : Limits) where
   module _ (X : Scene program script sets numbers choices top somes left index limits) where

@@ -15,7 +15,7 @@ use Rattle.scripts.specs.Tree.{close, part, tops, sum}
 use Rattle.scripts.specs.Represents.{Held}
 use Rattle.closure_machine.specs.Closure.{ClosureHead, Closure}
 use Rattle.decision.specs.ClosureWalk.{withEither, divisions}
-use Rattle.walk.specs.Pieces.{Divides}
+use Rattle.stages.specs.Pieces.{Divides}
 
 -- a top part: its number, its head and its inside
 abbrev Cell : Type 0

@@ -20,8 +20,8 @@ use Rattle.closures.specs.Seen.{nameIn}
 use Rattle.closures.specs.Represents.{heads, boundIn, Ready, Represents}
 use Rattle.closures.specs.declared.State.{State}
 use Rattle.decision.specs.ClosureWalk.{isVoid, beside, only}
-use Rattle.walk.specs.Pieces.{Room}
-use Rattle.walk.proofs.Focused.{seen-told, top-told}
+use Rattle.stages.specs.Pieces.{Room}
+use Rattle.stages.proofs.Focused.{seen-told, top-told}
 
 -- VOID
 void-tops : (b : Closure) → isVoid b ≡ isNone (tops b)

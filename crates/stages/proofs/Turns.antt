@@ -30,17 +30,17 @@ use Rattle.decision.specs.Walk.{Count, range, onYes, onNo, firstYes, look, move
 use Rattle.decision.specs.Walk as spec
 use Rattle.decision.specs.ClosureWalk.{closureSpace, divisions, shares, insides, nexts}
 use Rattle.decision.specs.ClosureWalk as over
-use Rattle.walk.specs.Visits.{countOf, walkedOf, settingOf, indices, Lendable, Scene, here, visits, Visits, Looks, Splits, Tries}
-use Rattle.walk.specs.declared.Counts.{Counts}
-use Rattle.walk.specs.declared.Limits.{Limits}
-use Rattle.walk.specs.declared.Walked.{Walked}
-use Rattle.walk.specs.declared.Walked.the-variants.{No}
-use Rattle.walk.proofs.Loops.{NotNo, no-goes, no-stops, first-none, first-goes, first-stops, first-last, first-append, range-first, range-none}
-use Rattle.walk.proofs.Focused.{top-told, lent-told}
-use Rattle.walk.proofs.Divided.{Shared, shared-last, shared-next, remaining, remaining-all, remaining-first, remaining-none}
-use Rattle.walk.proofs.Rooms.{Rooms, rooms-first, rooms-none, rooms-told}
-use Rattle.walk.proofs.Targeted.{Each, to-first, to-end, from-first, from-end, after, nexts-all, after-members, after-made, after-is}
-use Rattle.walk.proofs.Scenes.{scene-told, scene-piece, scene-inner, scene-chosen, scene-moved, Inside}
+use Rattle.stages.specs.Visits.{countOf, walkedOf, settingOf, indices, Lendable, Scene, here, visits, Visits, Looks, Splits, Tries}
+use Rattle.stages.specs.declared.Counts.{Counts}
+use Rattle.stages.specs.declared.Limits.{Limits}
+use Rattle.stages.specs.declared.Walked.{Walked}
+use Rattle.stages.specs.declared.Walked.the-variants.{No}
+use Rattle.stages.proofs.Loops.{NotNo, no-goes, no-stops, first-none, first-goes, first-stops, first-last, first-append, range-first, range-none}
+use Rattle.stages.proofs.Focused.{top-told, lent-told}
+use Rattle.stages.proofs.Divided.{Shared, shared-last, shared-next, remaining, remaining-all, remaining-first, remaining-none}
+use Rattle.stages.proofs.Rooms.{Rooms, rooms-first, rooms-none, rooms-told}
+use Rattle.stages.proofs.Targeted.{Each, to-first, to-end, from-first, from-end, after, nexts-all, after-members, after-made, after-is}
+use Rattle.stages.proofs.Scenes.{scene-told, scene-piece, scene-inner, scene-chosen, scene-moved, Inside}
 
 -- a loop over the members of a set: its first member, and that the others are fewer
 module _ (m i others : ℕ) (small : m < 2 ^ 64) (some-left : m ≡ 0 → ⊥) (first : i ≡ headOr 64 (members m)) (rest : members others ≡ tail (members m)) where
