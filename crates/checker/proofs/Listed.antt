@@ -12,9 +12,9 @@ use Rattle.messages.specs.Words.{kind, operand}
 use Rattle.machine.proofs.Options.{and-inv}
 use Rattle.closure_machine.specs.Closure.{Closure, Bindings, closureMove, ClosureMachine}
 use Rattle.closures.specs.Represents.{boundIn, Represents}
-use Rattle.closures.specs.Targets.{isSome}
-use Rattle.closures.specs.Makes.{Makes, Tries}
 use Rattle.closures.specs.declared.State.{State}
+use Rattle.targets.specs.Targets.{isSome}
+use Rattle.targets.specs.Makes.{Makes, Tries}
 use Rattle.plain_call.specs.Call.{actor, target, moveFits}
 use Rattle.plain_call.specs.ClosureCall.{halted, moved, afterMove, ifMade, closureRun}
 use Rattle.checker.specs.Running.{Ends, Runs}

@@ -1,20 +1,11 @@
--- Laws of the arrays that hold a closure, and of the engine that moves it. Assumes nothing.
+-- Laws of the arrays that hold a closure, of what is kept of its parts, and of how a move changes them. Assumes nothing.
 pub mod Heads
 pub mod Holding
 pub mod Focus
 pub mod Looking
 pub mod Deeds
 pub mod Moving
-pub mod Opening
 pub mod Places
-pub mod Locating
 pub mod Spending
-pub mod Entering
-pub mod Leaving
-pub mod Actors
-pub mod Acting
-pub mod Possible
-pub mod Aiming
 pub mod Arrays
 pub mod Weighing
-pub mod Making

@@ -2,5 +2,3 @@
 pub mod Represents
 pub mod Searches
 pub mod Seen
-pub mod Targets
-pub mod Makes

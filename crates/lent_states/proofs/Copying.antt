@@ -10,8 +10,8 @@ use borrow.Author.Tests.{eqb-true, eqb-false}
 use Rattle.machine.proofs.Options.{byTest}
 use Rattle.sets.specs.Sets.{members}
 use Rattle.scripts.specs.Represents.{bodyIn}
+use Rattle.targets.specs.Targets.{TargetsOf}
 use Rattle.lent_states.specs.Lent.{stretch, stateIn, Put}
-use Rattle.closures.specs.Targets.{TargetsOf}
 
 -- ---- a stretch
 

@@ -19,12 +19,12 @@ use Rattle.closure_machine.specs.Closure.{ClosureHead, Closure, Bindings, under
 use Rattle.closures.specs.Represents.{heads, boundIn, Ready, Represents}
 use Rattle.closures.specs.Searches.{place, Stands}
 use Rattle.closures.specs.Seen.{itemAct, actUnder}
-use Rattle.closures.specs.Targets.{isSome, canOpen, canReceive, canEnter, canExit, canMoveFrom, canMove}
 use Rattle.closures.specs.declared.State.{State}
 use Rattle.closures.proofs.Places.{Active, place-active}
-use Rattle.closures.proofs.Actors.{by-opener, by-receiver, by-enterer, by-leaver, by-idler, by-places}
-use Rattle.closures.proofs.Possible.{possible}
-use Rattle.closures.proofs.Making.{represented}
+use Rattle.targets.specs.Targets.{isSome, canOpen, canReceive, canEnter, canExit, canMoveFrom, canMove}
+use Rattle.targets.proofs.Actors.{by-opener, by-receiver, by-enterer, by-leaver, by-idler, by-places}
+use Rattle.targets.proofs.Possible.{possible}
+use Rattle.targets.proofs.Making.{represented}
 
 -- what the number of an act says of the item, and of the head
 

@@ -24,15 +24,15 @@ use Rattle.machine.proofs.Options.{and-inv}
 use Rattle.closure_machine.specs.Closure.{ClosureHead, Closure, Bindings, under, settleUnder}
 use Rattle.closures.specs.Represents.{headOf, heads, boundIn, Ready, Represents}
 use Rattle.closures.specs.Searches.{place, Stands}
-use Rattle.closures.specs.Targets.{isSome, canOpen, canReceive, canEnter, canExit}
-use Rattle.closures.specs.Makes.{Makes, Opens, Enters, Exits, Receives}
 use Rattle.closures.specs.declared.State.{State}
 use Rattle.closures.proofs.Heads.{by-kind}
 use Rattle.closures.proofs.Places.{place-of, place-active, place-apart}
 use Rattle.closures.proofs.Arrays.{Replaced, Carried, Raised, set-replaced, set-carried, set-raised}
 use Rattle.closures.proofs.Moving.{shrinks}
-use Rattle.closures.proofs.Acting.{receive-at}
-use Rattle.closures.proofs.Making.{Made, represented, open-made, enter-made, exit-made, receive-made, move-is}
+use Rattle.targets.specs.Targets.{isSome, canOpen, canReceive, canEnter, canExit}
+use Rattle.targets.specs.Makes.{Makes, Opens, Enters, Exits, Receives}
+use Rattle.targets.proofs.Acting.{receive-at}
+use Rattle.targets.proofs.Making.{Made, represented, open-made, enter-made, exit-made, receive-made, move-is}
 
 -- ---- who acts, by kind
 

@@ -13,8 +13,8 @@ use Rattle.scripts.specs.Represents.{bodyIn}
 use Rattle.machine.proofs.Options.{byTest}
 use Rattle.closure_machine.specs.Closure.{Closure, settleUnder}
 use Rattle.closures.specs.Represents.{boundIn, Ready, Represents}
-use Rattle.closures.specs.Makes.{Opens, Enters, Exits, Received, Receives}
 use Rattle.closures.specs.declared.State.{State}
+use Rattle.targets.specs.Makes.{Opens, Enters, Exits, Received, Receives}
 use Rattle.lent_states.specs.Lent.{stretch, kindsIn, startsIn, bindingsAt, standing, Put, Small, Lends}
 use Rattle.lent_states.proofs.Copying.{length-stretch}
 use Rattle.lent_states.proofs.Standing.{body-in, kids-set, looks-same}

@@ -9,8 +9,8 @@ use Rattle.scripts.specs.Represents.{bodyIn}
 use Rattle.closure_machine.specs.Closure.{Closure, closureMove}
 use Rattle.closures.specs.Represents.{boundIn, Represents}
 use Rattle.closures.specs.Searches.{place, Located}
-use Rattle.closures.specs.Targets.{isSome, TargetsOf}
-use Rattle.closures.proofs.Aiming.{state-places, state-targets}
+use Rattle.targets.specs.Targets.{isSome, TargetsOf}
+use Rattle.targets.proofs.Aiming.{state-places, state-targets}
 use Rattle.lent_states.specs.Lent.{stretch, kindsIn, startsIn, standing, Lends}
 use Rattle.lent_states.proofs.Copying.{targets-lent}
 

@@ -1,6 +1,4 @@
-// The moves, made on a state that is lent. It rests on the promises of settling, lent_states, closures and sets.
-use closures::locate;
-use closures::targets;
+// The moves, made on a state that is lent. It rests on the promises of settling, lent_states, targets and sets.
 use lent_states::bodies;
 use lent_states::borrowed;
 use lent_states::lend;
@@ -9,11 +7,13 @@ use lent_states::put_sets;
 use settling::received;
 use settling::settle;
 use settling::spend;
+use targets::locate;
+use targets::targets;
 ghost use mathlib.Core.Path.{_≡_};
 ghost use mathlib.Core.Bool.{true, false};
 ghost use Prim.Native.Nat.{_<_};
 ghost use lib.ListN.{getD};
-ghost use Rattle.closures.specs.Makes.{Opens, Enters, Exits, Receives, Moves, Tries};
+ghost use Rattle.targets.specs.Makes.{Opens, Enters, Exits, Receives, Moves, Tries};
 ghost use Rattle.lent_states.specs.Lent.{kindsIn, startsIn, standing, Lends};
 
 // OPEN: the part t goes from the body of p, in which the actor stands, and its body stays.

@@ -30,7 +30,7 @@ ghost use Rattle.machine.specs.Moves.{firstOf};
 ghost use Rattle.closure_machine.specs.Closure.{Closure, under, settleUnder, closureOf};
 ghost use Rattle.closures.specs.Searches.{SettlesBy};
 ghost use Rattle.closures.specs.Represents.{headOf, boundIn, Counted, Ready, Represents};
-ghost use Rattle.closures.specs.Makes.{Received};
+ghost use Rattle.targets.specs.Makes.{Received};
 ghost use Rattle.lent_states.specs.Lent.{kindsIn, startsIn, bindingsAt, standing, Lends};
 
 // What becomes of the parts of left when they are settled: an action with no items left goes, and its body comes in its

@@ -19,7 +19,7 @@ use Rattle.closures.specs.Seen.{Names}
 use Rattle.closures.specs.Represents.{heads, boundIn, Ready, Represents}
 use Rattle.closures.specs.declared.State.{State}
 use Rattle.closures.proofs.Holding.{self}
-use Rattle.closures.proofs.Locating.{seen-names}
+use Rattle.targets.proofs.Locating.{seen-names}
 use Rattle.decision.specs.ClosureWalk.{beside, insides}
 use Rattle.stages.specs.Pieces.{Piece, Room}
 use Rattle.stages.proofs.Focused.{seen-told, top-told}

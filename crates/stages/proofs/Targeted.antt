@@ -16,8 +16,8 @@ use Rattle.machine.specs.Moves.{Moved}
 use Rattle.machine.proofs.Options.{byTest}
 use Rattle.machine.proofs.Everywhere.{Everywhere, settle-everywhere, Keeps, makes-everywhere}
 use Rattle.closure_machine.specs.Closure.{Action, ClosureHead, Closure, Bindings, under, allSpent, closureMove, ClosureMachine}
-use Rattle.closures.specs.Targets.{isSome}
 use Rattle.closures.proofs.Holding.{self}
+use Rattle.targets.specs.Targets.{isSome}
 use Rattle.closure_machine.proofs.Tallies.{closure-inv}
 use Rattle.decision.specs.Walk.{range, keep, movesTo, movesFrom, inOrder}
 use Rattle.decision.specs.ClosureWalk.{machineAfter, nexts}

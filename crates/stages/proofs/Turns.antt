@@ -19,11 +19,11 @@ use Rattle.rule_reader.specs.Ruled.{Ruled}
 use Rattle.rule_reader.proofs.Inversion.{Told}
 use Rattle.closure_machine.specs.Closure.{Closure, ClosureHead, ClosureMachine, Bindings, closureMove}
 use Rattle.closures.specs.Searches.{place, Located}
-use Rattle.closures.specs.Targets.{isSome, TargetsOf}
-use Rattle.closures.specs.Makes.{Moves}
 use Rattle.closures.specs.Represents.{heads, boundIn}
 use Rattle.closures.specs.declared.State.{State}
-use Rattle.closures.proofs.Aiming.{state-places, state-targets}
+use Rattle.targets.specs.Targets.{isSome, TargetsOf}
+use Rattle.targets.specs.Makes.{Moves}
+use Rattle.targets.proofs.Aiming.{state-places, state-targets}
 use Rattle.lent_states.specs.Lent.{stretch, kindsIn, startsIn, stateIn}
 use Rattle.lent_states.proofs.Copying.{length-stretch, getD-stretch}
 use Rattle.decision.specs.Walk.{Count, range, onYes, onNo, firstYes, look, movesTo, movesFrom, lastName}

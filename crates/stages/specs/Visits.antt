@@ -16,9 +16,9 @@ use Rattle.rule_reader.specs.Ruled.{Ruled, Tabled}
 use Rattle.rule_reader.specs.declared.RuleTable.{RuleTable}
 use Rattle.closure_machine.specs.Closure.{Closure, ClosureMachine, closureMove}
 use Rattle.closures.specs.Searches.{place}
-use Rattle.closures.specs.Targets.{isSome}
 use Rattle.closures.specs.Represents.{heads, boundIn, Ready, Represents}
 use Rattle.closures.specs.declared.State.{State}
+use Rattle.targets.specs.Targets.{isSome}
 use Rattle.lent_states.specs.Lent.{Small, kindsIn, startsIn, stateIn}
 use Rattle.decision.specs.Walk.{Count, Setting, onYes, firstYes, look, walk, walkFrom, movesTo}
 use Rattle.decision.specs.Walk as spec

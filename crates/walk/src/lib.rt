@@ -1,9 +1,7 @@
 // What the words of a rule ask of the process that a state stands for (document 01, "The rule and its walk"), a state being
 // lent as two arrays and made only where a move or PLACED changes it. It rests on stages and on the promises of moves,
-// settling, lent_states, closures, rules and sets.
+// settling, lent_states, targets, closures, rules and sets.
 use closures::State;
-use closures::locate;
-use closures::targets;
 use lent_states::bodies;
 use lent_states::borrowed;
 use lent_states::lend;
@@ -13,6 +11,8 @@ use rules::term_of;
 use settling::place_part;
 use stages::Counts;
 use stages::Walked;
+use targets::locate;
+use targets::targets;
 ghost use mathlib.Core.Path.{_≡_};
 ghost use mathlib.Core.Bool.{false};
 ghost use Prim.Native.Nat.{ℕ, _+_, _-_, _≤_, _<_, max};
@@ -29,9 +29,9 @@ ghost use Rattle.rules.specs.ReadRule.{termOf};
 ghost use Rattle.closure_machine.specs.Closure.{Closure};
 ghost use Rattle.closures.specs.Seen.{nameIn};
 ghost use Rattle.closures.specs.Searches.{Located};
-ghost use Rattle.closures.specs.Targets.{TargetsOf};
-ghost use Rattle.closures.specs.Makes.{Moves};
 ghost use Rattle.closures.specs.Represents.{boundIn, Represents};
+ghost use Rattle.targets.specs.Targets.{TargetsOf};
+ghost use Rattle.targets.specs.Makes.{Moves};
 ghost use Rattle.lent_states.specs.Lent.{Small, stretch, kindsIn, startsIn, stateIn};
 ghost use Rattle.walk.specs.declared.Step.the-variants.{Move, Place};
 ghost use Rattle.decision.specs.Walk.{turned as reversed, says};

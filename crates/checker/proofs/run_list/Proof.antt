@@ -3,7 +3,7 @@ use native.Mathlib.Omega.{arith}
 use Prim.Native.Nat.{ℕ, _≤_, _<_, _-_}
 use mathlib.Core.Path.{_≡_, refl, sym, _∙_, subst, transport}
 use lib.ListN.{getD, length}
-use Rattle.closures.specs.Makes.{Tries}
+use Rattle.targets.specs.Makes.{Tries}
 use Rattle.lent_states.specs.Lent.{kindsIn, startsIn, standing, Lends}
 use Rattle.checker.proofs.Listed.{Going, going-none, going-ends, going-unfit, going-stuck, going-on, fitting}
 use borrow.Author.Needs.{needs}

@@ -9,7 +9,7 @@ use borrow.Author.Tests.{eqb-true, eqb-false}
 use Rattle.scripts.specs.Represents.{bodyIn}
 use Rattle.machine.proofs.Options.{byTest}
 use Rattle.closures.specs.Represents.{heads, boundIn}
-use Rattle.closures.specs.Targets.{canExit}
+use Rattle.targets.specs.Targets.{canExit}
 use Rattle.lent_states.specs.Lent.{kindsIn, startsIn, standing}
 use Rattle.lent_states.proofs.Copying.{getD-stretch}
 use Rattle.moves.proofs.Dispatch.{nowhere, can, to-open, to-receive, to-enter, to-exit, inside-some, enter-from, exit-to}

@@ -5,7 +5,7 @@ use native.Mathlib.Omega.{arith}
 use lib.ListN.{getD}
 use Rattle.closure_machine.specs.Closure.{closureMove}
 use Rattle.closures.specs.Represents.{boundIn}
-use Rattle.closures.specs.Targets.{isSome}
+use Rattle.targets.specs.Targets.{isSome}
 use Rattle.lent_states.specs.Lent.{standing}
 use Rattle.moves.proofs.Trying.{lent-places, lent-targets}
 use borrow.Author.Needs.{needs}

@@ -2,8 +2,8 @@
 use mathlib.Core.Path.{refl, subst}
 use native.Mathlib.Omega.{arith}
 use lib.ListN.{getD}
-use Rattle.closures.specs.Makes.{Moves}
 use Rattle.closures.specs.declared.State.{State}
+use Rattle.targets.specs.Makes.{Moves}
 use Rattle.lent_states.specs.Lent.{kindsIn, startsIn, stateIn, standing}
 use Rattle.lent_states.proofs.Standing.{standing-top}
 use Rattle.settling.proofs.Settled.{ready-same}

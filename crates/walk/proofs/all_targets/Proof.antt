@@ -7,7 +7,7 @@ use lib.ListN.{getD, length}
 use Rattle.sets.specs.Sets.{members}
 use Rattle.scripts.specs.Represents.{bodyIn}
 use Rattle.closures.specs.Searches.{Located}
-use Rattle.closures.specs.Targets.{TargetsOf}
+use Rattle.targets.specs.Targets.{TargetsOf}
 use Rattle.lent_states.specs.Lent.{stateIn}
 use Rattle.walk.proofs.Lendings.{filled-more}
 use Rattle.lent_states.proofs.Copying.{targets-lent}

@@ -5,8 +5,8 @@ use lib.ListN.{getD}
 use Rattle.messages.specs.Message.{name as called}
 use Rattle.scripts.specs.Tree.{ambient, close, part, count}
 use Rattle.closure_machine.specs.Closure.{Closure}
-use Rattle.closures.specs.Makes.{Moves}
 use Rattle.closures.specs.Represents.{boundIn, Represents}
+use Rattle.targets.specs.Makes.{Moves}
 use Rattle.lent_states.specs.Lent.{kindsIn, startsIn, stateIn}
 use Rattle.walk.proofs.Lendings.{step-moves, step-places, step-apart}
 use borrow.Author.Needs.{needs}

@@ -2,10 +2,10 @@
 use native.Mathlib.Omega.{arith}
 use Rattle.sets.specs.Sets.{members, elem}
 use Rattle.scripts.specs.Represents.{bodyIn}
-use Rattle.closures.proofs.Aiming.{within-none, within-both}
+use Rattle.targets.proofs.Aiming.{within-none, within-both}
 use borrow.Author.Needs.{needs}
-use Rattle.closures.proofs.aimed_within.Statement.{statement}
-use Rattle.closures.proofs.aimed_within.Tie as tie
+use Rattle.targets.proofs.aimed_within.Statement.{statement}
+use Rattle.targets.proofs.aimed_within.Tie as tie
 
 returns : tie.Need-returns
 returns c t = within-none (bodyIn (c .before .args .kids .now)) (c .before .args .p) 0 t (elem t (members (c .before .args .aim))) (c .if1 .taken)

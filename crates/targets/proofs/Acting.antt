@@ -19,14 +19,14 @@ use Rattle.machine.specs.Moves.{Moved, isNamed, toEnter, toExit, toOpen, headNa
 use Rattle.machine.proofs.Inversion.{sameName-inv, toEnter-inv, toExit-inv}
 use Rattle.machine.proofs.Options.{and-inv}
 use Rattle.closure_machine.specs.Closure.{Action, ClosureHead, Closure, Bindings, under}
 use Rattle.closures.specs.Searches.{place, Stands}
-use Rattle.closures.specs.Targets.{mayExit, mayOpen, canOpen, canReceive, canEnter, canExit}
 use Rattle.closures.proofs.Focus.{Site, site}
 use Rattle.closures.proofs.Places.{Active, place-of, place-active}
-use Rattle.closures.proofs.Actors.{no-receipt, no-item, not-itself}
-use Rattle.closures.proofs.Opening.{open-needs, receive-needs, opened, open-is, open-never, received, receive-is, receive-never}
-use Rattle.closures.proofs.Entering.{enter-needs, entered, enter-is, enter-never}
-use Rattle.closures.proofs.Leaving.{exit-needs, exited, exit-is}
+use Rattle.targets.specs.Targets.{mayExit, mayOpen, canOpen, canReceive, canEnter, canExit}
+use Rattle.targets.proofs.Actors.{no-receipt, no-item, not-itself}
+use Rattle.targets.proofs.Opening.{open-needs, receive-needs, opened, open-is, open-never, received, receive-is, receive-never}
+use Rattle.targets.proofs.Entering.{enter-needs, entered, enter-is, enter-never}
+use Rattle.targets.proofs.Leaving.{exit-needs, exited, exit-is}
 
 pub both : {x y : Bool} → x ≡ true → y ≡ true → (x && y) ≡ true
 both d e = rw d e

@@ -17,19 +17,19 @@ use Rattle.machine.specs.Moves.{Moved, moveHere}
 use Rattle.machine.proofs.Inversion.{here-inv}
 use Rattle.machine.proofs.Options.{byTest}
 use Rattle.closure_machine.specs.Closure.{Action, ClosureHead, Closure, Bindings, under, settleUnder, settledUnder, closureMove}
 use Rattle.closures.specs.Represents.{headOf, heads, boundIn, Represents}
 use Rattle.closures.specs.Searches.{place, Stands}
-use Rattle.closures.specs.Targets.{canOpen, canReceive, canEnter, canExit}
 use Rattle.closures.specs.declared.State.{State}
 use Rattle.closures.proofs.Arrays.{Replaced, Carried, Raised}
 use Rattle.closures.proofs.Heads.{head-spent}
 use Rattle.closures.proofs.Focus.{Change}
 use Rattle.closures.proofs.Moving.{Shrinks, shrinks, After, after}
 use Rattle.closures.proofs.Spending.{Spent}
-use Rattle.closures.proofs.Opening.{open-change, receive-change}
-use Rattle.closures.proofs.Entering.{enter-change}
-use Rattle.closures.proofs.Leaving.{exit-change}
-use Rattle.closures.proofs.Acting.{here-needs, Spot, once-here, open-at, receive-at, enter-at, exit-at}
+use Rattle.targets.specs.Targets.{canOpen, canReceive, canEnter, canExit}
+use Rattle.targets.proofs.Opening.{open-change, receive-change}
+use Rattle.targets.proofs.Entering.{enter-change}
+use Rattle.targets.proofs.Leaving.{exit-change}
+use Rattle.targets.proofs.Acting.{here-needs, Spot, once-here, open-at, receive-at, enter-at, exit-at}
 
 pub represented : (script kinds starts : List ℕ) (weight spent : ℕ) (s : State) (f : Closure) → Represents script kinds starts weight spent s f → Stands (bodyIn (s .kids)) (heads script kinds starts (s .offsets)) f
 represented script kinds starts weight spent s f R = record { top = R .top; held = R .held; once = R .once; low = R .inside }

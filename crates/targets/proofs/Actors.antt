@@ -18,7 +18,7 @@ use Rattle.machine.specs.Moves.{sameName, toEnter, toExit, toOpen, variableOf, 
 use Rattle.machine.proofs.Inversion.{variableOf-inv, messageOf-inv}
 use Rattle.machine.proofs.Options.{byTest, and-inv}
 use Rattle.closure_machine.specs.Closure.{ClosureHead, Bindings, under}
-use Rattle.closures.specs.Targets.{isSome, mayOpen, canOpen, canReceive, canEnter, canExit, canMoveFrom, canMove}
+use Rattle.targets.specs.Targets.{isSome, mayOpen, canOpen, canReceive, canEnter, canExit, canMoveFrom, canMove}
 
 abbrev isItem : First → Bool
 isItem Nothing = false

@@ -6,11 +6,11 @@ use mathlib.Core.Path.{_≡_, refl, sym, _∙_}
 use lib.ListN.{getD}
 use Rattle.sets.specs.Sets.{members, elem}
 use Rattle.scripts.specs.Represents.{bodyIn}
-use Rattle.closures.specs.Targets.{isTarget, TargetsOf}
-use Rattle.closures.proofs.Aiming.{targets-of, no-target, in-none}
+use Rattle.targets.specs.Targets.{isTarget, TargetsOf}
+use Rattle.targets.proofs.Aiming.{targets-of, no-target, in-none}
 use borrow.Author.Needs.{needs}
-use Rattle.closures.proofs.targets.Statement.{statement}
-use Rattle.closures.proofs.targets.Tie as tie
+use Rattle.targets.proofs.targets.Statement.{statement}
+use Rattle.targets.proofs.targets.Tie as tie
 
 abbrev k : tie.Start → ℕ → List ℕ
 k s = bodyIn (s .args .kids .now)

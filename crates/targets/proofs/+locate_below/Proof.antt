@@ -16,14 +16,14 @@ use Rattle.sets.proofs.rest.Reads as rest-reads
 use Rattle.scripts.specs.Represents.{bodyIn}
 use Rattle.machine.specs.Moves.{isNamed, headName}
 use Rattle.closure_machine.specs.Closure.{ClosureHead, Bindings, under}
 use Rattle.closures.specs.Searches.{Locates}
 use Rattle.closures.specs.Seen.{Names}
-use Rattle.closures.proofs.Locating.{Enters, enters-named, enters-nameless, locates-none, locates-no-fuel, locates-first, set-place}
-use Rattle.closures.proofs.locate_below.Reads as locate-below
-use Rattle.closures.proofs.locate_below.Kinds as locate-below-kinds
-use Rattle.closures.proofs.+locate_below.Lts-locate_below as locate-below-lts
-use Rattle.closures.proofs.+locate_below.{statement}
-use Rattle.closures.proofs.+locate_below.Tie.{close}
+use Rattle.targets.proofs.Locating.{Enters, enters-named, enters-nameless, locates-none, locates-no-fuel, locates-first, set-place}
+use Rattle.targets.proofs.locate_below.Reads as locate-below
+use Rattle.targets.proofs.locate_below.Kinds as locate-below-kinds
+use Rattle.targets.proofs.+locate_below.Lts-locate_below as locate-below-lts
+use Rattle.targets.proofs.+locate_below.{statement}
+use Rattle.targets.proofs.+locate_below.Tie.{close}
 
 abbrev μ-locate-below : Measures 2 locate-below-kinds.ps ℕ
 μ-locate-below κs a = a .1 .1 .1 .1 .1 .0

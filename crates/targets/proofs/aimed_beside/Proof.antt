@@ -3,10 +3,10 @@ use native.Mathlib.Omega.{arith}
 use lib.ListN.{getD}
 use Rattle.sets.specs.Sets.{members, elem}
 use Rattle.scripts.specs.Represents.{bodyIn}
-use Rattle.closures.proofs.Aiming.{beside-none, beside-others}
+use Rattle.targets.proofs.Aiming.{beside-none, beside-others}
 use borrow.Author.Needs.{needs}
-use Rattle.closures.proofs.aimed_beside.Statement.{statement}
-use Rattle.closures.proofs.aimed_beside.Tie as tie
+use Rattle.targets.proofs.aimed_beside.Statement.{statement}
+use Rattle.targets.proofs.aimed_beside.Tie as tie
 
 returns : tie.Need-returns
 returns c t = beside-none (bodyIn (c .before .args .kids .now)) (c .before .args .p) (getD (c .before .args .places .now) (c .before .args .p) 0) t (elem t (members (c .before .args .aim))) (c .if1 .taken)

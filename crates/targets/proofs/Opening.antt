@@ -19,11 +19,11 @@ use Rattle.machine.specs.Moves.{Moved, quiet, variableOf, messageOf, spentHead,
 use Rattle.machine.proofs.Options.{byTest}
 use Rattle.machine.proofs.Sums.{find-sum, merge-sum}
 use Rattle.closure_machine.specs.Closure.{Action, ClosureHead, Closure, Bindings, under}
-use Rattle.closures.specs.Targets.{mayOpen}
 use Rattle.closures.proofs.Holding.{tops-drop, tops-merge, tops-alter, in-count, differ, frame, held-drop, held-merge, Found, found-in, not-found}
 use Rattle.closures.proofs.Focus.{Change}
 use Rattle.closures.proofs.Moving.{Shrinks, fewer}
 use Rattle.closures.proofs.Spending.{Spent, held-spend}
+use Rattle.targets.specs.Targets.{mayOpen}
 
 -- ---- where there is no move
 

@@ -15,10 +15,10 @@ use Rattle.machine.specs.Bodies.{_>>=_, check, find, drop, alter, holder}
 use Rattle.machine.specs.Moves.{Moved, quiet, spentHead, spend, isNamed, sameName, toEnter, firstOf, headName, enterMove}
 use Rattle.machine.proofs.Sums.{drop-exact, find-drop}
 use Rattle.closure_machine.specs.Closure.{Action, ClosureHead, Closure, Bindings, under}
-use Rattle.closures.specs.Targets.{mayEnter}
 use Rattle.closures.proofs.Holding.{total, self, tops-put, tops-drop, tops-alter, in-count, differ, frame, held-drop, held-put, held-alter, Found, found-in, not-found, holder-is, holder-inv}
 use Rattle.closures.proofs.Focus.{Change}
 use Rattle.closures.proofs.Spending.{Spent, held-spend}
+use Rattle.targets.specs.Targets.{mayEnter}
 
 pub enter-needs : (σ : Bindings) (a t : ℕ) (b : Closure) → elem t (tops b) ≡ false → enterMove (under σ) a t b ≡ none
 unfolding enterMove _>>=_

@@ -10,10 +10,10 @@ use Rattle.messages.specs.Spelling.{messageAt}
 use Rattle.scripts.specs.Represents.{bodyIn}
 use Rattle.machine.specs.Moves.{Moved}
 use Rattle.closure_machine.specs.Closure.{Action, ClosureHead, Closure, Bindings, closureMove}
 use Rattle.closures.specs.Represents.{heads, boundIn, Represents}
 use Rattle.closures.specs.Searches.{place}
-use Rattle.closures.specs.Targets.{isSome, canOpen, canReceive, canEnter, canExit}
 use Rattle.closures.specs.declared.State.{State}
+use Rattle.targets.specs.Targets.{isSome, canOpen, canReceive, canEnter, canExit}
 
 module _ (script kinds starts : List ℕ) (s r : State) where
   -- r stands for what the move (a, t) makes of the closure b for which s stands

@@ -19,15 +19,15 @@ use Rattle.scripts.specs.Represents.{bodyIn}
 use Rattle.machine.specs.Moves.{sameName, toEnter, toExit, toOpen, variableOf, messageOf, headName, firstOf}
 use Rattle.machine.proofs.Options.{byTest}
 use Rattle.closure_machine.specs.Closure.{ClosureHead, Closure, Bindings, itemsLeft, under, closureMove}
 use Rattle.closures.specs.Represents.{heads, boundIn, Ready, Represents}
 use Rattle.closures.specs.Searches.{place, Stands, Located}
 use Rattle.closures.specs.Seen.{itemAct, itemName, isOutput, actUnder, aimUnder, Seen}
 use Rattle.closures.specs.declared.State.{State}
-use Rattle.closures.specs.Targets.{isSome, canOpen, canReceive, canEnter, canExit, canMoveFrom, canMove, isWithin, isBeside, isAround, isTarget, TargetsOf}
-use Rattle.closures.proofs.Actors.{by-opener, by-receiver, by-enterer, by-leaver, by-idler, by-places}
-use Rattle.closures.proofs.Possible.{possible}
-use Rattle.closures.proofs.Locating.{seen-names}
-use Rattle.closures.proofs.Making.{represented}
+use Rattle.targets.specs.Targets.{isSome, canOpen, canReceive, canEnter, canExit, canMoveFrom, canMove, isWithin, isBeside, isAround, isTarget, TargetsOf}
+use Rattle.targets.proofs.Actors.{by-opener, by-receiver, by-enterer, by-leaver, by-idler, by-places}
+use Rattle.targets.proofs.Possible.{possible}
+use Rattle.targets.proofs.Locating.{seen-names}
+use Rattle.targets.proofs.Making.{represented}
 
 -- ---- the tests, by what is kept
 

@@ -13,10 +13,10 @@ use Rattle.machine.specs.Bodies.{_>>=_, check, drop, alter}
 use Rattle.machine.specs.Moves.{Moved, quiet, spentHead, spend, isNamed, headName, exitMove}
 use Rattle.machine.proofs.Sums.{drop-exact}
 use Rattle.closure_machine.specs.Closure.{Action, ClosureHead, Closure, Bindings, under}
-use Rattle.closures.specs.Targets.{mayExit}
 use Rattle.closures.proofs.Holding.{total, self, tops-put, tops-drop, tops-alter, in-count, differ, frame, held-drop, held-put, held-alter, Found, found-in, not-found, holder-is}
 use Rattle.closures.proofs.Focus.{Change}
 use Rattle.closures.proofs.Spending.{Spent, held-spend}
+use Rattle.targets.specs.Targets.{mayExit}
 
 pub exit-needs : (σ : Bindings) (a t : ℕ) (b : Closure) → elem t (tops b) ≡ false → exitMove (under σ) a t b ≡ none
 unfolding exitMove _>>=_

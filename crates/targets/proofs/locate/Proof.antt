@@ -1,10 +1,10 @@
 -- `locate` meets its contract: the places are found from the top. Assumes nothing.
 use Rattle.scripts.specs.Represents.{bodyIn}
 use lib.ListN.{getD}
-use Rattle.closures.proofs.Locating.{located}
+use Rattle.targets.proofs.Locating.{located}
 use borrow.Author.Needs.{needs}
-use Rattle.closures.proofs.locate.Statement.{statement}
-use Rattle.closures.proofs.locate.Tie as tie
+use Rattle.targets.proofs.locate.Statement.{statement}
+use Rattle.targets.proofs.locate.Tie as tie
 
 returns : tie.Need-returns
 returns c σ w b names Q few = located σ (bodyIn (c .before .before .before .args .kids .now)) w b (λ i. getD (c .locate-below .last .0) i 0) Q few (c .locate-below .ensures .1 σ w names)

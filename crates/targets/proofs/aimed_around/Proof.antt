@@ -2,10 +2,10 @@
 use native.Mathlib.Omega.{arith}
 use lib.ListN.{getD}
 use Rattle.sets.specs.Sets.{members, elem}
-use Rattle.closures.proofs.Aiming.{around-top, around-none, around-one}
+use Rattle.targets.proofs.Aiming.{around-top, around-none, around-one}
 use borrow.Author.Needs.{needs}
-use Rattle.closures.proofs.aimed_around.Statement.{statement}
-use Rattle.closures.proofs.aimed_around.Tie as tie
+use Rattle.targets.proofs.aimed_around.Statement.{statement}
+use Rattle.targets.proofs.aimed_around.Tie as tie
 
 returns : tie.Need-returns
 returns c t = around-top (c .before .args .p) (getD (c .before .args .places .now) (c .before .args .p) 0) t (elem t (members (c .before .args .aim))) (c .if1 .taken)
