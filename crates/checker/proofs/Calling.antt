@@ -31,11 +31,11 @@ use Rattle.closures.specs.Represents.{boundIn, Represents}
 use Rattle.closures.specs.declared.State.{State}
 use Rattle.plain_call.specs.Call.{Call, refusal, answer}
 use Rattle.plain_call.specs.ClosureCall.{ClosureRan, halted, moved, closureRun, begun}
-use Rattle.checker.specs.Running.{Ends, Runs}
+use Rattle.lists.specs.Running.{Ends, Runs}
 use Rattle.checker.specs.Answering.{callOf}
 use Rattle.checker.specs.Calling.{ScriptHeld, RuleHeld, Stands}
-use Rattle.checker.specs.declared.Ended.{Ended}
-use Rattle.checker.specs.declared.Ended.the-variants.{Made, Halted}
+use Rattle.lists.specs.declared.Ended.{Ended}
+use Rattle.lists.specs.declared.Ended.the-variants.{Made, Halted}
 use Rattle.plain_call.proofs.Called.{answers-rule, answers-patience, answers-many, answers-halted}
 
 -- ---- names have 28 bits

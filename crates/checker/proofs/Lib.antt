@@ -1,5 +1,4 @@
--- The laws of the call's code: the list of moves, the end, the questions in their order.
-pub mod Listed
+-- The laws of the call's code: the end, the questions in their order.
 pub mod Ending
 pub mod Calling
 pub mod Concluding

@@ -1,4 +1,3 @@
 -- What the contracts of `checker` cite. Assumes nothing: these are definitions.
-pub mod Running
 pub mod Calling
 pub mod Answering

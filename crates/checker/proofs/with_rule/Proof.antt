@@ -5,17 +5,17 @@ use borrow.Author.Tests.{le-leb, lt-leb}
 use lib.ListN.{length}
 use Rattle.closures.specs.Represents.{Ready}
 use Rattle.lent_states.specs.Lent.{standing}
-use Rattle.checker.specs.Running.{Runs}
+use Rattle.lists.specs.Running.{Runs}
 use Rattle.checker.proofs.Calling.{calm, restless, says-patience, says-many, list-halted, list-made}
 use Rattle.checker.proofs.Concluding.{script-fits}
-use Rattle.checker.specs.declared.Ended.the-variants.{Made, Halted}
+use Rattle.lists.specs.declared.Ended.the-variants.{Made, Halted}
 use borrow.Author.Needs.{needs}
 use Rattle.checker.proofs.with_rule.Statement.{statement}
 use Rattle.checker.proofs.with_rule.Tie as tie
 use Rattle.checker.proofs.with_rule.Reads as reads
 use Rattle.checker.proofs.with_rule.Lts as lts
 use Rattle.checker.proofs.refused.Reads as refused-reads
-use Rattle.checker.proofs.run_list.Reads as run-list-reads
+use Rattle.lists.proofs.run_list.Reads as run-list-reads
 use Rattle.checker.proofs.with_moves.Reads as with-moves-reads
 use Rattle.lent_states.proofs.borrowed.Reads as borrowed-reads
 use Rattle.lent_states.proofs.lend.Reads as lend-reads

@@ -7,8 +7,8 @@ use Rattle.closure_machine.specs.Closure.{Closure}
 use Rattle.closures.specs.Represents.{boundIn, Represents}
 use Rattle.closures.specs.declared.State.{State}
 use Rattle.plain_call.specs.ClosureCall.{ClosureRan, halted, moved, closureRun}
-use Rattle.checker.specs.declared.Ended.{Ended}
-use Rattle.checker.specs.declared.Ended.the-variants.{Made, Halted}
+use Rattle.lists.specs.declared.Ended.{Ended}
+use Rattle.lists.specs.declared.Ended.the-variants.{Made, Halted}
 
 module _ (script kinds starts : List ℕ) where
   -- the state stands for the machine that the list leaves, or the list is stopped by the same question at the same place

@@ -2,8 +2,8 @@
 use mathlib.Core.Path.{refl}
 use Rattle.messages.specs.Words.{operand}
 use borrow.Author.Needs.{needs}
-use Rattle.checker.proofs.actor_of.Statement.{statement}
-use Rattle.checker.proofs.actor_of.Tie as tie
+use Rattle.lists.proofs.actor_of.Statement.{statement}
+use Rattle.lists.proofs.actor_of.Tie as tie
 
 returns : tie.Need-returns
 unfolding operand

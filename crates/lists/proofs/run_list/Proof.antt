@@ -5,10 +5,10 @@ use mathlib.Core.Path.{_≡_, refl, sym, _∙_, subst, transport}
 use lib.ListN.{getD, length}
 use Rattle.targets.specs.Makes.{Tries}
 use Rattle.lent_states.specs.Lent.{kindsIn, startsIn, standing, Lends}
-use Rattle.checker.proofs.Listed.{Going, going-none, going-ends, going-unfit, going-stuck, going-on, fitting}
+use Rattle.lists.proofs.Listed.{Going, going-none, going-ends, going-unfit, going-stuck, going-on, fitting}
 use borrow.Author.Needs.{needs}
-use Rattle.checker.proofs.run_list.Statement.{statement}
-use Rattle.checker.proofs.run_list.Tie as tie
+use Rattle.lists.proofs.run_list.Statement.{statement}
+use Rattle.lists.proofs.run_list.Tie as tie
 
 abbrev Inv-loop : tie.InvT-loop
 Inv-loop script sets₀ numbers₀ moves parts i₀ sets numbers i = (i ≤ length moves) × Lends script sets numbers × (kindsIn numbers ≡ kindsIn numbers₀) × (startsIn numbers ≡ startsIn numbers₀) × Going script (kindsIn numbers₀) (startsIn numbers₀) parts moves (standing sets₀ numbers₀) i (standing sets numbers)

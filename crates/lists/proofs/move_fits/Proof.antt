@@ -6,8 +6,8 @@ use borrow.Author.Tests.{eq-eqb, ne-eqb, lt-ltb, le-ltb}
 use Rattle.messages.specs.Words.{kind, operand}
 use Rattle.plain_call.specs.Call.{moveFits}
 use borrow.Author.Needs.{needs}
-use Rattle.checker.proofs.move_fits.Statement.{statement}
-use Rattle.checker.proofs.move_fits.Tie as tie
+use Rattle.lists.proofs.move_fits.Statement.{statement}
+use Rattle.lists.proofs.move_fits.Tie as tie
 
 returns : tie.Need-returns
 unfolding moveFits kind operand

@@ -17,8 +17,8 @@ use Rattle.targets.specs.Targets.{isSome}
 use Rattle.targets.specs.Makes.{Makes, Tries}
 use Rattle.plain_call.specs.Call.{actor, target, moveFits}
 use Rattle.plain_call.specs.ClosureCall.{halted, moved, afterMove, ifMade, closureRun}
-use Rattle.checker.specs.Running.{Ends, Runs}
-use Rattle.checker.specs.declared.Ended.the-variants.{Made, Halted}
+use Rattle.lists.specs.Running.{Ends, Runs}
+use Rattle.lists.specs.declared.Ended.the-variants.{Made, Halted}
 
 -- the word at an index, and those behind it
 drop-next : (l : List ℕ) (i : ℕ) → i < length l → drop i l ≡ getD l i 0 ∷ drop (suc i) l

@@ -1,0 +1,2 @@
+-- The laws of the list of moves. Assumes nothing.
+pub mod Listed
