@@ -1,17 +1,13 @@
--- The input's words, and lists with a count in front. Assumes nothing.
-use Prim.Native.Nat.{ℕ, zero, suc, _+_, _-_, _*_, _≤_, _<_}
-use mathlib.Core.List.{List, [], _∷_}
-use mathlib.Core.Option.{none, some}
+-- The input's words. Assumes nothing.
+use Prim.Native.Nat.{ℕ, zero, suc, _+_, _*_, _≤_, _<_}
+use mathlib.Core.List.{List}
 use mathlib.Core.Path.{_≡_, refl, sym, ap, _∙_, subst}
 use native.Mathlib.Nat.{zero-add, add-zero}
 use native.Mathlib.Numerals.{add-one}
 use native.Mathlib.Omega.{arith}
-use borrow.Author.Tests.{le-leb, lt-leb}
 use lib.ListN.{length, take, drop, getD, set}
 use lib.Seq.{getD-drop, drop-drop, paste, paste-zero, paste-suc, take-paste, take-all}
-use Rattle.skycorbel.specs.Input.{wordOf, wordsOf, counted}
-
--- ---- words
+use Rattle.skycorbel.specs.Input.{wordOf, wordsOf}
 
 -- a word from its four bytes
 pub word-is : (s : List ℕ) (at a b c d : ℕ) → a ≡ getD s at 0 → b ≡ getD s (at + 1) 0 → c ≡ getD s (at + 2) 0 → d ≡ getD s (at + 3) 0
@@ -61,20 +57,3 @@ unpacked-all old new input count i l m u =
     ∙ ap (λ (n : ℕ). take n (paste old 0 (wordsOf count input) count)) (sym (zero-add count))
     ∙ take-paste old 0 (wordsOf count input) count z b
     ∙ take-all count (wordsOf count input) (omega (arith, length-words count input))
-
--- ---- counts
-
-pub counted-none : (s : List ℕ) → length s ≡ 0 → none ≡ counted s
-unfolding counted
-counted-none [] e = refl
-counted-none (n ∷ s) e = absurd (let z : ⊥ = omega (arith, e) in z)
-
-pub counted-short : (s : List ℕ) → 0 < length s → length s - 1 < getD s 0 0 → none ≡ counted s
-unfolding counted
-counted-short [] l m = absurd (let z : ⊥ = omega (arith, l) in z)
-counted-short (n ∷ s) l m = let h : length s < n = omega (arith, m) in rw (lt-leb n (length s) h) refl
-
-pub counted-some : (s : List ℕ) → 0 < length s → getD s 0 0 ≤ length s - 1 → some (take (getD s 0 0) (drop 1 s), drop (getD s 0 0) (drop 1 s)) ≡ counted s
-unfolding counted
-counted-some [] l m = absurd (let z : ⊥ = omega (arith, l) in z)
-counted-some (n ∷ s) l m = let h : n ≤ length s = omega (arith, m) in rw (le-leb n (length s) h) refl

@@ -1,10 +1,10 @@
 -- `read_count` meets its contract. Assumes nothing.
 use native.Mathlib.Omega.{arith}
-use Rattle.skycorbel.specs.Input.{countedBy}
-use Rattle.skycorbel.proofs.Reading.{counted-none, counted-short, counted-some}
+use Rattle.replies.specs.Reply.{countedBy}
+use Rattle.replies.proofs.Replying.{counted-none, counted-short, counted-some}
 use borrow.Author.Needs.{needs}
-use Rattle.skycorbel.proofs.read_count.Statement.{statement}
-use Rattle.skycorbel.proofs.read_count.Tie as tie
+use Rattle.replies.proofs.read_count.Statement.{statement}
+use Rattle.replies.proofs.read_count.Tie as tie
 
 returns : tie.Need-returns
 unfolding countedBy

@@ -1,10 +1,10 @@
 -- `reply_to_words` meets its contract. Assumes nothing.
 use Rattle.text.proofs.Putting.{puts-as}
-use Rattle.skycorbel.specs.Input.{scriptReply}
-use Rattle.skycorbel.proofs.Replies.{replied-words, replied-short}
+use Rattle.replies.specs.Reply.{scriptReply}
+use Rattle.replies.proofs.Replying.{replied-words, replied-short}
 use borrow.Author.Needs.{needs}
-use Rattle.skycorbel.proofs.reply_to_words.Statement.{statement}
-use Rattle.skycorbel.proofs.reply_to_words.Tie as tie
+use Rattle.replies.proofs.reply_to_words.Statement.{statement}
+use Rattle.replies.proofs.reply_to_words.Tie as tie
 
 returns : tie.Need-returns
 returns c = puts-as (replied-short (c .before .before .before .before .before .before .read-count .result) (c .before .before .before .before .before .before .before .before .before .args .s .now) (λ script rest. scriptReply script rest) (c .before .before .before .before .before .before .read-count .ensures) (c .before .before .before .before .enum-told .given .1)) (c .before .before .put-unfit .ensures)

@@ -4,8 +4,8 @@ use Rattle.text.proofs.Putting.{puts-as}
 use Rattle.plain_call.specs.Call.{Answer}
 use Rattle.text.specs.Text.{answerText}
 use borrow.Author.Needs.{needs}
-use Rattle.skycorbel.proofs.put_call.Statement.{statement}
-use Rattle.skycorbel.proofs.put_call.Tie as tie
+use Rattle.replies.proofs.put_call.Statement.{statement}
+use Rattle.replies.proofs.put_call.Tie as tie
 
 returns : tie.Need-returns
 returns c = puts-as (ap (λ (a : Answer). answerText a) (c .before .before .before .before .before .before .call .ensures .0)) (c .before .before .put-answer .ensures)

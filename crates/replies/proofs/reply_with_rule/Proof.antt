@@ -1,9 +1,9 @@
 -- `reply_with_rule` meets its contract. Assumes nothing.
 use Rattle.text.proofs.Putting.{puts-as}
-use Rattle.skycorbel.proofs.Replies.{rule-one, rule-unfit}
+use Rattle.replies.proofs.Replying.{rule-one, rule-unfit}
 use borrow.Author.Needs.{needs}
-use Rattle.skycorbel.proofs.reply_with_rule.Statement.{statement}
-use Rattle.skycorbel.proofs.reply_with_rule.Tie as tie
+use Rattle.replies.proofs.reply_with_rule.Statement.{statement}
+use Rattle.replies.proofs.reply_with_rule.Tie as tie
 
 returns : tie.Need-returns
 returns c = puts-as (rule-unfit (c .before .before .before .before .before .before .before .before .before .before .args .script .now) (c .before .before .before .before .before .before .before .before .before .before .args .moves .now) (c .before .before .before .before .before .before .before .before .before .before .args .rule .now) (c .before .before .before .before .before .before .before .before .before .before .args .s .now) (c .before .before .before .before .if1 .taken)) (c .before .before .put-unfit .ensures)

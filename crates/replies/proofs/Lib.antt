@@ -1,0 +1,2 @@
+-- The laws of the reply to the words of an input.
+pub mod Replying
