@@ -6,7 +6,7 @@ use text::head;
 use text::put_answer;
 use text::put_refusal;
 ghost use mathlib.Core.Path.{_≡_};
-ghost use Rattle.text.specs.Text.{Puts};
+ghost use Rattle.digits.specs.Digits.{Puts};
 ghost use Rattle.replies.specs.Reply.{counted, countedBy, unfitText, callReply, ruleReply, movesReply, scriptReply, wordsReply};
 
 // How many words a count at the start of a slice counts, or that there are not so many behind it.

@@ -18,7 +18,8 @@ use Rattle.decision.specs.Walk.{Count, Walked, stopped, says, walkFrom}
 use Rattle.decision.specs.PlainWalk.{plainSpace}
 use Rattle.plain_call.specs.Call.{Call, Verdict, accepted, refused, Answer, answer, refusal, Ran, halted, moved, run, begun, written, finish, walked, setting, ruleRun, ruleRead, scriptRead}
 use Rattle.checker.specs.Answering.{callOf}
-use Rattle.text.specs.Text.{digit, hexadecimal, line, lines, decimalBy, decimal, refusedText, atText, movesText, visitsText, deepestText, weightText, wordsText, refusalText, countsText, saidText, verdictText, Puts}
+use Rattle.digits.specs.Digits.{digit, hexadecimal, line, lines, decimalBy, decimal, Puts}
+use Rattle.text.specs.Text.{refusedText, atText, movesText, visitsText, deepestText, weightText, wordsText, refusalText, countsText, saidText, verdictText}
 use Rattle.replies.specs.Reply.{counted, replied, unfitText, callReply, ruleReply, movesReply, scriptReply, wordsReply}
 use Rattle.skycorbel.specs.Input.{reply}
 

@@ -7,7 +7,7 @@ ghost use mathlib.Core.Path.{_≡_};
 ghost use Prim.Native.Nat.{_+_, _*_, _≤_, _<_};
 ghost use lib.ListN.{length, take, drop};
 ghost use Rattle.io.specs.Counts.{Counts};
-ghost use Rattle.text.specs.Text.{Puts};
+ghost use Rattle.digits.specs.Digits.{Puts};
 ghost use Rattle.replies.specs.Reply.{wordsReply};
 ghost use Rattle.skycorbel.specs.Input.{wordOf, wordsOf};
 ghost use Rattle.skycorbel.specs.Input.{reply as replyOf};

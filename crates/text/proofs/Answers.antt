@@ -7,7 +7,8 @@ use Rattle.checker.specs.Answering.{verdictOf, answerOf}
 use Rattle.checker.specs.declared.Answer.{Answer}
 use Rattle.checker.specs.declared.Verdict.{Verdict}
 use Rattle.checker.specs.declared.Verdict.the-variants.{Yes, No, Refused}
-use Rattle.text.specs.Text.{lines, yesText, noText, refusalText, countsText, saidText, verdictText, answerText}
+use Rattle.digits.specs.Digits.{lines}
+use Rattle.text.specs.Text.{yesText, noText, refusalText, countsText, saidText, verdictText, answerText}
 
 -- what follows a yes or no
 abbrev pub counts : Answer → List ℕ

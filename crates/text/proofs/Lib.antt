@@ -1,4 +1,2 @@
--- The laws of text: pieces, numbers, answers.
-pub mod Putting
-pub mod Numbers
+-- The laws of text: answers.
 pub mod Answers

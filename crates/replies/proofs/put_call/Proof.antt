@@ -1,6 +1,6 @@
 -- `put_call` meets its contract. Assumes nothing.
 use mathlib.Core.Path.{ap}
-use Rattle.text.proofs.Putting.{puts-as}
+use Rattle.digits.proofs.Putting.{puts-as}
 use Rattle.plain_call.specs.Call.{Answer}
 use Rattle.text.specs.Text.{answerText}
 use borrow.Author.Needs.{needs}

@@ -1,5 +1,5 @@
 -- `reply_to_words` meets its contract. Assumes nothing.
-use Rattle.text.proofs.Putting.{puts-as}
+use Rattle.digits.proofs.Putting.{puts-as}
 use Rattle.replies.specs.Reply.{scriptReply}
 use Rattle.replies.proofs.Replying.{replied-words, replied-short}
 use borrow.Author.Needs.{needs}

@@ -1,5 +1,5 @@
 -- `reply_with_moves` meets its contract. Assumes nothing.
-use Rattle.text.proofs.Putting.{puts-as}
+use Rattle.digits.proofs.Putting.{puts-as}
 use Rattle.replies.specs.Reply.{ruleReply}
 use Rattle.replies.proofs.Replying.{replied-words, replied-short}
 use borrow.Author.Needs.{needs}

@@ -1,5 +1,5 @@
 -- `reply_with_rule` meets its contract. Assumes nothing.
-use Rattle.text.proofs.Putting.{puts-as}
+use Rattle.digits.proofs.Putting.{puts-as}
 use Rattle.replies.proofs.Replying.{rule-one, rule-unfit}
 use borrow.Author.Needs.{needs}
 use Rattle.replies.proofs.reply_with_rule.Statement.{statement}

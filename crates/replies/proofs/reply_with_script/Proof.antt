@@ -1,5 +1,5 @@
 -- `reply_with_script` meets its contract. Assumes nothing.
-use Rattle.text.proofs.Putting.{puts-as}
+use Rattle.digits.proofs.Putting.{puts-as}
 use Rattle.replies.specs.Reply.{movesReply}
 use Rattle.replies.proofs.Replying.{replied-words, replied-short}
 use borrow.Author.Needs.{needs}

@@ -2,7 +2,7 @@
 use Prim.Native.Nat.{ℕ}
 use mathlib.Core.List.{List}
 use mathlib.Core.Path.{ap, _∙_}
-use Rattle.text.proofs.Putting.{puts-as}
+use Rattle.digits.proofs.Putting.{puts-as}
 use Rattle.replies.specs.Reply.{wordsReply}
 use borrow.Author.Needs.{needs}
 use Rattle.skycorbel.proofs.reply_to_bytes.Statement.{statement}

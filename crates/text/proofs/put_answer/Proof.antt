@@ -1,5 +1,5 @@
 -- `put_answer` meets its contract, by the verdict. Assumes nothing.
-use Rattle.text.proofs.Putting.{puts-as}
+use Rattle.digits.proofs.Putting.{puts-as}
 use Rattle.text.proofs.Answers.{yes-text, no-text, refused-text}
 use borrow.Author.Needs.{needs}
 use Rattle.text.proofs.put_answer.Statement.{statement}

@@ -1,6 +1,6 @@
 -- `put_count` meets its contract. Assumes nothing.
-use Rattle.text.proofs.Putting.{puts-more}
-use Rattle.text.proofs.Numbers.{twenty-digits}
+use Rattle.digits.proofs.Putting.{puts-more}
+use Rattle.digits.proofs.Numbers.{twenty-digits}
 use borrow.Author.Needs.{needs}
 use Rattle.text.proofs.put_count.Statement.{statement}
 use Rattle.text.proofs.put_count.Tie as tie

@@ -1,7 +1,7 @@
 -- `put_counts` meets its contract. Assumes nothing.
 use mathlib.Core.Path.{_∙_}
 use Rattle.text.specs.Text.{countsText}
-use Rattle.text.proofs.Putting.{puts-more}
+use Rattle.digits.proofs.Putting.{puts-more}
 use borrow.Author.Needs.{needs}
 use Rattle.text.proofs.put_counts.Statement.{statement}
 use Rattle.text.proofs.put_counts.Tie as tie

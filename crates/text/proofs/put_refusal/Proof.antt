@@ -1,7 +1,7 @@
 -- `put_refusal` meets its contract. Assumes nothing.
 use Rattle.text.specs.Text.{refusalText}
-use Rattle.text.proofs.Putting.{puts-more}
-use Rattle.text.proofs.Numbers.{twenty-digits}
+use Rattle.digits.proofs.Putting.{puts-more}
+use Rattle.digits.proofs.Numbers.{twenty-digits}
 use native.Mathlib.Omega.{arith}
 use borrow.Author.Needs.{needs}
 use Rattle.text.proofs.put_refusal.Statement.{statement}

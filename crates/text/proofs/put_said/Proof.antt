@@ -2,8 +2,8 @@
 use Prim.Native.Nat.{ℕ}
 use mathlib.Core.List.{List}
 use mathlib.Core.Path.{ap}
-use Rattle.text.specs.Text.{lines}
-use Rattle.text.proofs.Putting.{puts-more, puts-as}
+use Rattle.digits.specs.Digits.{lines}
+use Rattle.digits.proofs.Putting.{puts-more, puts-as}
 use borrow.Author.Needs.{needs}
 use Rattle.text.proofs.put_said.Statement.{statement}
 use Rattle.text.proofs.put_said.Tie as tie

@@ -4,14 +4,14 @@ use native.Mathlib.Omega.{arith}
 use borrow.Author.Needs.{needs}
 use borrow.Fn.Kinds.{In}
 use borrow.Fn.PlainCycle.{Measures, is, falls, and}
-use Rattle.text.proofs.Putting.{puts-as}
-use Rattle.text.proofs.Numbers.{decimal-one, puts-decimal}
-use Rattle.text.proofs.put_decimal.Reads as put-decimal
-use Rattle.text.proofs.put_decimal.Kinds as put-decimal-kinds
-use Rattle.text.proofs.+put_decimal.Lts-put_decimal as put-decimal-lts
-use Rattle.text.proofs.put_byte.Reads as put-byte-reads
-use Rattle.text.proofs.+put_decimal.{statement}
-use Rattle.text.proofs.+put_decimal.Tie.{close}
+use Rattle.digits.proofs.Putting.{puts-as}
+use Rattle.digits.proofs.Numbers.{decimal-one, puts-decimal}
+use Rattle.digits.proofs.put_decimal.Reads as put-decimal
+use Rattle.digits.proofs.put_decimal.Kinds as put-decimal-kinds
+use Rattle.digits.proofs.+put_decimal.Lts-put_decimal as put-decimal-lts
+use Rattle.digits.proofs.put_byte.Reads as put-byte-reads
+use Rattle.digits.proofs.+put_decimal.{statement}
+use Rattle.digits.proofs.+put_decimal.Tie.{close}
 
 abbrev μ-put-decimal : Measures 1 put-decimal-kinds.ps ℕ
 μ-put-decimal κs a = a .1 .1 .0

@@ -1,11 +1,11 @@
 -- `put_bytes` meets its contract: the first i bytes are put. Assumes nothing.
 use Prim.Native.Nat.{_≤_, _-_}
 use lib.ListN.{length, take}
-use Rattle.text.specs.Text.{Puts}
-use Rattle.text.proofs.Putting.{puts-none, puts-more, puts-as, next-is, whole}
+use Rattle.digits.specs.Digits.{Puts}
+use Rattle.digits.proofs.Putting.{puts-none, puts-more, puts-as, next-is, whole}
 use borrow.Author.Needs.{needs}
-use Rattle.text.proofs.put_bytes.Statement.{statement}
-use Rattle.text.proofs.put_bytes.Tie as tie
+use Rattle.digits.proofs.put_bytes.Statement.{statement}
+use Rattle.digits.proofs.put_bytes.Tie as tie
 
 abbrev Inv-loop : tie.InvT-loop
 Inv-loop text₀ at piece next₀ i₀ text next i = (i ≤ length piece) × Puts text₀ text at next (take i piece)

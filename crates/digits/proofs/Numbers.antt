@@ -6,8 +6,8 @@ use native.Mathlib.Nat.{pow-suc}
 use native.Mathlib.Omega.{arith}
 use borrow.Author.Tests.{lt-ltb, le-ltb}
 use lib.ListN.{length, take, getD}
-use Rattle.text.specs.Text.{digit, hexadecimal, line, lines, decimalBy, Puts}
-use Rattle.text.proofs.Putting.{puts-more, puts-as, next-is}
+use Rattle.digits.specs.Digits.{digit, hexadecimal, line, lines, decimalBy, Puts}
+use Rattle.digits.proofs.Putting.{puts-more, puts-as, next-is}
 
 -- ---- base ten
 

@@ -1,9 +1,9 @@
 -- `put_word` meets its contract. Assumes nothing.
-use Rattle.text.specs.Text.{line}
-use Rattle.text.proofs.Putting.{puts-more}
+use Rattle.digits.specs.Digits.{line}
+use Rattle.digits.proofs.Putting.{puts-more}
 use borrow.Author.Needs.{needs}
-use Rattle.text.proofs.put_word.Statement.{statement}
-use Rattle.text.proofs.put_word.Tie as tie
+use Rattle.digits.proofs.put_word.Statement.{statement}
+use Rattle.digits.proofs.put_word.Tie as tie
 
 returns : tie.Need-returns
 unfolding line

@@ -6,15 +6,15 @@ use native.Mathlib.Omega.{arith}
 use borrow.Author.Needs.{needs}
 use borrow.Fn.Kinds.{In}
 use borrow.Fn.PlainCycle.{Measures, is, falls, and}
-use Rattle.text.proofs.Putting.{puts-none, puts-more, puts-as}
-use Rattle.text.proofs.Numbers.{hex-none, hex-more}
-use Rattle.text.proofs.put_digits.Reads as put-digits
-use Rattle.text.proofs.put_digits.Kinds as put-digits-kinds
-use Rattle.text.proofs.+put_digits.Lts-put_digits as put-digits-lts
-use Rattle.text.proofs.glyph.Reads as glyph-reads
-use Rattle.text.proofs.put_byte.Reads as put-byte-reads
-use Rattle.text.proofs.+put_digits.{statement}
-use Rattle.text.proofs.+put_digits.Tie.{close}
+use Rattle.digits.proofs.Putting.{puts-none, puts-more, puts-as}
+use Rattle.digits.proofs.Numbers.{hex-none, hex-more}
+use Rattle.digits.proofs.put_digits.Reads as put-digits
+use Rattle.digits.proofs.put_digits.Kinds as put-digits-kinds
+use Rattle.digits.proofs.+put_digits.Lts-put_digits as put-digits-lts
+use Rattle.digits.proofs.glyph.Reads as glyph-reads
+use Rattle.digits.proofs.put_byte.Reads as put-byte-reads
+use Rattle.digits.proofs.+put_digits.{statement}
+use Rattle.digits.proofs.+put_digits.Tie.{close}
 
 abbrev μ-put-digits : Measures 1 put-digits-kinds.ps ℕ
 μ-put-digits κs a = a .1 .1 .1 .0

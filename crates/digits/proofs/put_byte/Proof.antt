@@ -1,8 +1,8 @@
 -- `put_byte` meets its contract. Assumes nothing.
-use Rattle.text.proofs.Putting.{puts-byte, puts-cut}
+use Rattle.digits.proofs.Putting.{puts-byte, puts-cut}
 use borrow.Author.Needs.{needs}
-use Rattle.text.proofs.put_byte.Statement.{statement}
-use Rattle.text.proofs.put_byte.Tie as tie
+use Rattle.digits.proofs.put_byte.Statement.{statement}
+use Rattle.digits.proofs.put_byte.Tie as tie
 
 returns : tie.Need-returns
 returns c = puts-byte (c .if1 .taken)

@@ -3,12 +3,12 @@ use Prim.Native.Nat.{ℕ, _≤_, _-_}
 use mathlib.Core.List.{List}
 use mathlib.Core.Path.{ap}
 use lib.ListN.{length, take}
-use Rattle.text.specs.Text.{lines, Puts}
-use Rattle.text.proofs.Putting.{puts-none, puts-more, puts-as, whole}
-use Rattle.text.proofs.Numbers.{lines-next}
+use Rattle.digits.specs.Digits.{lines, Puts}
+use Rattle.digits.proofs.Putting.{puts-none, puts-more, puts-as, whole}
+use Rattle.digits.proofs.Numbers.{lines-next}
 use borrow.Author.Needs.{needs}
-use Rattle.text.proofs.put_words.Statement.{statement}
-use Rattle.text.proofs.put_words.Tie as tie
+use Rattle.digits.proofs.put_words.Statement.{statement}
+use Rattle.digits.proofs.put_words.Tie as tie
 
 abbrev Inv-loop : tie.InvT-loop
 Inv-loop text₀ at words next₀ i₀ text next i = (i ≤ length words) × Puts text₀ text at next (lines (take i words))

@@ -6,7 +6,7 @@ use native.Mathlib.Numerals.{add-one}
 use native.Mathlib.Omega.{arith}
 use lib.ListN.{length, take, set, getD, length-append, length-set}
 use lib.Seq.{take-suc, take-suc-set, take-all}
-use Rattle.text.specs.Text.{Puts}
+use Rattle.digits.specs.Digits.{Puts}
 
 -- nothing
 pub puts-none : {t : List ℕ} {at : ℕ} → Puts t t at at []

@@ -1,8 +1,8 @@
 -- `glyph` meets its contract. Assumes nothing.
-use Rattle.text.proofs.Numbers.{digit-low, digit-high}
+use Rattle.digits.proofs.Numbers.{digit-low, digit-high}
 use borrow.Author.Needs.{needs}
-use Rattle.text.proofs.glyph.Statement.{statement}
-use Rattle.text.proofs.glyph.Tie as tie
+use Rattle.digits.proofs.glyph.Statement.{statement}
+use Rattle.digits.proofs.glyph.Tie as tie
 
 returns : tie.Need-returns
 returns c = digit-low (c .before .args .d) (c .if1 .taken)

@@ -1,0 +1,3 @@
+-- The laws of numbers and words as text: pieces, numbers.
+pub mod Putting
+pub mod Numbers
