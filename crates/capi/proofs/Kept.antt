@@ -14,7 +14,8 @@ use Rattle.checker.proofs.Concluding.{decides}
 use Rattle.plain_call.proofs.ClosureRuns.{moves-bounded}
 use Rattle.plain_call.proofs.Runs.{weight-holds}
 use Rattle.plain_call.proofs.Small.{PlaceWithin, Small, answer-small}
-use Rattle.capi.specs.Told.{placeOf, told, returned, answered, written}
+use Rattle.answer_words.specs.Told.{placeOf, told}
+use Rattle.capi.specs.Told.{returned, answered, written}
 
 -- what every call keeps to
 abbrev pub Keeps : Call → Type 0

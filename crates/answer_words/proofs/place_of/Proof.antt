@@ -1,9 +1,9 @@
 -- `place_of` meets its contract, by cases. Assumes nothing.
 use Rattle.checker.specs.Answering.{verdictOf}
-use Rattle.capi.specs.Told.{placeOf}
+use Rattle.answer_words.specs.Told.{placeOf}
 use borrow.Author.Needs.{needs}
-use Rattle.capi.proofs.place_of.Statement.{statement}
-use Rattle.capi.proofs.place_of.Tie as tie
+use Rattle.answer_words.proofs.place_of.Statement.{statement}
+use Rattle.answer_words.proofs.place_of.Tie as tie
 
 returns : tie.Need-returns
 unfolding placeOf verdictOf

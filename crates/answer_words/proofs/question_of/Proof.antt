@@ -1,9 +1,9 @@
 -- `question_of` meets its contract, by cases. Assumes nothing.
 use Rattle.checker.specs.Answering.{verdictOf}
-use Rattle.capi.specs.Told.{questionOf}
+use Rattle.answer_words.specs.Told.{questionOf}
 use borrow.Author.Needs.{needs}
-use Rattle.capi.proofs.question_of.Statement.{statement}
-use Rattle.capi.proofs.question_of.Tie as tie
+use Rattle.answer_words.proofs.question_of.Statement.{statement}
+use Rattle.answer_words.proofs.question_of.Tie as tie
 
 returns : tie.Need-returns
 unfolding questionOf verdictOf

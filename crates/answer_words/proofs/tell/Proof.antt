@@ -4,10 +4,10 @@ use lib.ListN.{length}
 use native.Mathlib.Omega.{arith}
 use lib.Seq.{lt-length-set, sets-eq}
 use Rattle.checker.specs.Answering.{answerOf}
-use Rattle.capi.specs.Told.{told}
+use Rattle.answer_words.specs.Told.{told}
 use borrow.Author.Needs.{needs}
-use Rattle.capi.proofs.tell.Statement.{statement}
-use Rattle.capi.proofs.tell.Tie as tie
+use Rattle.answer_words.proofs.tell.Statement.{statement}
+use Rattle.answer_words.proofs.tell.Tie as tie
 
 slice-write-answer-2 : tie.Need-slice-write-answer-2
 slice-write-answer-2 c =

@@ -1,9 +1,9 @@
 -- `said` meets its contract, by cases. Assumes nothing.
 use Rattle.checker.specs.Answering.{verdictOf}
-use Rattle.capi.specs.Told.{saidOf}
+use Rattle.answer_words.specs.Told.{saidOf}
 use borrow.Author.Needs.{needs}
-use Rattle.capi.proofs.said.Statement.{statement}
-use Rattle.capi.proofs.said.Tie as tie
+use Rattle.answer_words.proofs.said.Statement.{statement}
+use Rattle.answer_words.proofs.said.Tie as tie
 
 returns : tie.Need-returns
 unfolding saidOf verdictOf

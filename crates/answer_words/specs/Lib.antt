@@ -1,0 +1,2 @@
+-- What the contracts of `answer_words` cite. Assumes nothing: these are definitions.
+pub mod Told

@@ -1,0 +1,38 @@
+-- The eight words of an answer. Assumes nothing: these are definitions.
+use Prim.Native.Nat.{ℕ}
+use mathlib.Core.Bool.{true, false}
+use mathlib.Core.List.{List, [], _∷_}
+use Rattle.plain_call.specs.Call.{Verdict, accepted, refused, Answer}
+
+-- "0 refused, 1 no, 2 yes"
+unfoldable pub saidOf : Verdict → ℕ
+saidOf (accepted true) = 2
+saidOf (accepted false) = 1
+saidOf (refused q i) = 0
+
+-- number and place of a refusal, 0 where there is none
+unfoldable pub questionOf : Verdict → ℕ
+questionOf (accepted a) = 0
+questionOf (refused q i) = q
+
+unfoldable pub placeOf : Verdict → ℕ
+placeOf (accepted a) = 0
+placeOf (refused q i) = i
+
+-- the eight words of an answer: "0 refused, 1 no, 2 yes; number; place; moves; visits; deepest; weight; words"
+unfoldable pub told : Answer → List ℕ
+told a =
+    saidOf (a .verdict)
+    ∷ questionOf (a .verdict)
+    ∷ placeOf (a .verdict)
+    ∷ a .moves
+    ∷ a .visits
+    ∷ a .deepest
+    ∷ a .weight
+    ∷ a .words
+    ∷ []
+
+-- To unfold this is to unfold every definition of this module: for a proof by computation.
+unfoldable pub computing : Unit {0}
+unfolding saidOf questionOf placeOf told
+computing = tt
