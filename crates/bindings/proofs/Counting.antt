@@ -1,5 +1,4 @@
--- Laws of what is counted: sums that stop at 2^32 - 1, what is kept with the bindings, and items from an offset on.
--- Assumes nothing.
+-- Laws of what is counted: numbers of items, what is kept with the bindings, and items from an offset on. Assumes nothing.
 use Prim.Native.Nat.{ℕ, zero, suc, _+_, _-_, _*_, _^_, _≤_, _<_}
 use mathlib.Core.List.{List, [], _∷_, _++_}
 use mathlib.Core.Path.{_≡_, refl, sym, ap, _∙_}
@@ -9,17 +8,17 @@ use lib.Seq.{drop-nil, drop-append-le, drop-append-add}
 use Rattle.messages.specs.Message.{Message, asks, firstItem}
 use Rattle.messages.specs.Spelling.{messageAt}
 use Rattle.messages.specs.declared.First.the-variants.{Nothing}
+use Rattle.slices.proofs.Capping.{capped-sum, below-count, whole-count}
 use Rattle.bindings.specs.Resolve.{resolve, bindingsIn}
-use Rattle.bindings.specs.Measures.{capped, keptOf, Kept}
-use Rattle.bindings.specs.Passes.{firstWord, shapeOf, ownItems}
+use Rattle.slices.specs.Sums.{capped}
+use Rattle.bindings.specs.Measures.{keptOf, Kept}
+use Rattle.message_words.specs.Words.{firstWord, shapeOf}
+use Rattle.bindings.specs.Passes.{ownItems}
 use Rattle.bindings.proofs.Resolving.{given, given-next}
-use Rattle.bindings.proofs.Passing.{Free, own-free, items-small}
+use Rattle.message_words.proofs.FirstWords.{items-small}
+use Rattle.bindings.proofs.Passing.{Free, own-free}
 
--- sums that stop at 2^32 - 1
-
-pub capped-sum : (a b : ℕ) {x o r t : ℕ} → x ≡ a + b → o ≡ capped a → r ≡ capped b → t ≡ capped (o + r) → t ≡ capped x
-unfolding capped
-capped-sum a b e p q s = omega arith
+-- numbers of items
 
 pub items-sum : (x a b : List Message) {o r t : ℕ} → x ≡ a ++ b → o ≡ capped (length a) → r ≡ capped (length b) → t ≡ capped (o + r) → t ≡ capped (length x)
 items-sum x a b e p q s = capped-sum (length a) (length b) (ap length e ∙ length-append a b) p q s
@@ -32,16 +31,6 @@ no-items x e = rw e
 pub capped-shape : (σ : List (ℕ × Message)) (l : List ℕ) → Free σ (firstWord l) → shapeOf (firstWord l) .items ≡ capped (length (ownItems σ l))
 unfolding capped
 capped-shape σ l f = omega (arith, own-free σ l f, items-small (firstWord l))
-
--- below what is kept is below the count
-pub below-count : (n o c : ℕ) → c ≡ capped n → o < c → o < n
-unfolding capped
-below-count n o c e h = omega arith
-
--- what is kept is the count where an offset is as large
-pub whole-count : (n o c : ℕ) → c ≡ capped n → c ≤ o → o < 4294967295 → c ≡ n
-unfolding capped
-whole-count n o c e h p = omega arith
 
 -- what is kept with the bindings
 

@@ -2,5 +2,4 @@
 pub mod Resolving
 pub mod Passing
 pub mod Counting
-pub mod Searching
 pub mod Substitution

@@ -4,28 +4,17 @@ use mathlib.Core.List.{List, [], _∷_, _++_, append-assoc, append-nil}
 use mathlib.Core.Path.{_≡_, refl, sym, ap, _∙_}
 use native.Mathlib.Omega.{arith}
 use native.Mathlib.Nat.{add-comm, add-zero}
-use lib.ListN.{length, drop, getD, length-drop}
+use lib.ListN.{length, drop, length-drop}
 use lib.Seq.{drop-drop, drop-nil}
 use Rattle.messages.specs.Message.{Message, variable, empty, items, nameOf, asks}
-use Rattle.messages.specs.ReadMessage.{messageWord}
 use Rattle.messages.specs.Spelling.{top, push, spelled, messageAt}
 use Rattle.messages.specs.declared.MessageWord.{MessageWord}
 use Rattle.messages.specs.declared.MessageWord.the-variants.{Name, Variable, Enter, Exit, Open, Empty, Path, Unfit}
-use Rattle.bindings.specs.Resolve.{resolve, bindingsIn, place}
-use Rattle.bindings.specs.Passes.{firstWord, firsts, allItems, shapeOf, arityOf, boundAt, plainName, plainItem, wordItems, ownItems}
-use Rattle.bindings.proofs.Resolving.{place-within, resolve-name, resolve-enter, resolve-exit, resolve-opens, resolve-empty, resolve-path, resolve-unbound, resolve-bound, given}
-
--- the first word
-
-pub first-none : (l : List ℕ) → length l ≡ 0 → Empty ≡ firstWord l
-unfolding firstWord
-first-none [] h = refl
-first-none (w ∷ l) h = absurd (omega arith)
-
-pub first-some : (l : List ℕ) → (length l ≡ 0 → ⊥) → messageWord (getD l 0 0) ≡ firstWord l
-unfolding firstWord
-first-some [] h = absurd (h refl)
-first-some (w ∷ l) h = refl
+use Rattle.message_words.specs.Words.{place, firstWord, shapeOf, arityOf, boundAt, plainName, plainItem}
+use Rattle.message_words.proofs.FirstWords.{arity-small, bound, bound-variable}
+use Rattle.bindings.specs.Resolve.{resolve, bindingsIn}
+use Rattle.bindings.specs.Passes.{firsts, allItems, wordItems, ownItems}
+use Rattle.bindings.proofs.Resolving.{resolve-name, resolve-enter, resolve-exit, resolve-opens, resolve-empty, resolve-path, resolve-unbound, resolve-bound, given}
 
 -- what words spell, by their first word
 pub spelled-first : (l : List ℕ) → 0 < length l → spelled l ≡ push (firstWord l) (spelled (drop 1 l))
@@ -43,19 +32,6 @@ unfolding firsts firstWord spelled push top
 firsts-first zero l = refl
 firsts-first (suc p) [] = ap (λ (r : List Message). empty ∷ firsts p r) (drop-nil 1)
 firsts-first (suc p) (w ∷ l) = refl
-
--- how many messages a word begins
-
-pub arity-small : (m : MessageWord) → arityOf m ≤ 2
-unfolding shapeOf
-arity-small (Name n) = omega arith
-arity-small (Variable v) = omega arith
-arity-small Enter = omega arith
-arity-small Exit = omega arith
-arity-small Open = omega arith
-arity-small Empty = omega arith
-arity-small Path = omega arith
-arity-small Unfit = omega arith
 
 first-arity : arityOf (firstWord []) ≡ 0
 unfolding firstWord shapeOf
@@ -141,17 +117,6 @@ pub unbound-free : (script vs ps : List ℕ) (m : MessageWord) → length vs ≤
 unfolding boundAt
 unbound-free script vs ps m h v e = resolve-unbound script vs ps v (rw e at h)
 
-pub bound-within : (m : MessageWord) (vs : List ℕ) → boundAt m vs ≤ length vs
-unfolding boundAt
-bound-within (Name n) vs = omega arith
-bound-within (Variable v) vs = place-within vs v
-bound-within Enter vs = omega arith
-bound-within Exit vs = omega arith
-bound-within Open vs = omega arith
-bound-within Empty vs = omega arith
-bound-within Path vs = omega arith
-bound-within Unfit vs = omega arith
-
 name-word : (σ : List (ℕ × Message)) (m : MessageWord) (s : List Message) → Free σ m → nameOf (resolve σ (top (push m s))) ≡ plainName m
 unfolding push top nameOf plainName
 name-word σ (Name n) s f = rw (resolve-name)
@@ -195,17 +160,6 @@ pub own-free : (σ : List (ℕ × Message)) (l : List ℕ) → Free σ (firstWor
 unfolding ownItems
 own-free σ l f = own-word σ (firstWord l) (spelled (drop 1 l)) f
 
-pub items-small : (m : MessageWord) → shapeOf m .items ≤ 1
-unfolding shapeOf
-items-small (Name n) = omega arith
-items-small (Variable v) = omega arith
-items-small Enter = omega arith
-items-small Exit = omega arith
-items-small Open = omega arith
-items-small Empty = omega arith
-items-small Path = omega arith
-items-small Unfit = omega arith
-
 -- the only item
 only : (x : Message) (l : List Message) (o : ℕ) → l ≡ x ∷ [] → o < length l → drop o l ≡ x ∷ []
 only x l o e h =
@@ -229,20 +183,6 @@ unfolding ownItems
 single σ l o f h = rw (message-first l) (single-word σ (firstWord l) (spelled (drop 1 l)) o f h)
 
 -- A word that is a variable with a binding stands for the message of that binding, after the older ones.
-
-pub data Bound (vs : List ℕ) (k : ℕ) (m : MessageWord) : Type 0 where
-  bound : (v : ℕ) → m ≡ Variable v → k ≡ place vs v → Bound vs k m
-
-pub bound-variable : (vs : List ℕ) (m : MessageWord) (k : ℕ) → k ≡ boundAt m vs → k < length vs → Bound vs k m
-unfolding boundAt
-bound-variable vs (Name n) k e h = absurd (omega arith)
-bound-variable vs (Variable v) k e h = bound v refl e
-bound-variable vs Enter k e h = absurd (omega arith)
-bound-variable vs Exit k e h = absurd (omega arith)
-bound-variable vs Open k e h = absurd (omega arith)
-bound-variable vs Empty k e h = absurd (omega arith)
-bound-variable vs Path k e h = absurd (omega arith)
-bound-variable vs Unfit k e h = absurd (omega arith)
 
 pub split-bound : (σ : List (ℕ × Message)) (vs l : List ℕ) (p k : ℕ) → 0 < p → k ≡ boundAt (firstWord l) vs → k < length vs
     → allItems σ (firsts p (spelled l)) ≡ ownItems σ l ++ allItems σ (firsts (p - 1) (spelled (drop 1 l)))

@@ -1,79 +1,17 @@
--- Laws of bindings: where a variable is bound, and what the bindings do to each kind of message. Assumes nothing.
+-- Laws of bindings: what they do to each kind of message. Assumes nothing.
 use Prim.Native.Nat.{ℕ, suc, _+_, _-_, _≤_, _<_}
-use mathlib.Core.Bool.{Bool, true, false}
+use mathlib.Core.Bool.{true, false}
 use mathlib.Core.List.{List, [], _∷_}
 use mathlib.Core.Path.{_≡_, refl, sym, ap, _∙_}
 use native.Mathlib.Omega.{arith}
-use native.Mathlib.Nat.{add-zero}
-use native.Mathlib.Numerals.{add-one}
 use lib.Dec.{eqb, ltb}
-use lib.ListN.{length, drop, getD, length-drop}
-use lib.Seq.{drop-drop, getD-drop}
-use borrow.Author.Tests.{eq-eqb, ne-eqb}
+use lib.ListN.{length, drop, getD}
 use Rattle.messages.specs.Message.{Message, name, variable, enter, exit, opens, empty, path, substitute}
 use Rattle.messages.specs.Spelling.{messageAt}
-use Rattle.bindings.specs.Resolve.{resolve, bindingsIn, place, messageOf}
-
--- a test, by its two answers
-pub by-test {ℓ} : {P : Type ℓ} (t : Bool) → (t ≡ true → P) → (t ≡ false → P) → P
-by-test true f g = f refl
-by-test false f g = g refl
-
--- the place of a variable
-
-place-hit : (v u : ℕ) (vs : List ℕ) → eqb u v ≡ true → place (v ∷ vs) u ≡ 0
-unfolding place
-place-hit v u vs e = rw e
-
-place-miss : (v u : ℕ) (vs : List ℕ) → eqb u v ≡ false → place (v ∷ vs) u ≡ suc (place vs u)
-unfolding place
-place-miss v u vs e = rw e
-
-pub place-none : (vs : List ℕ) (u : ℕ) → length vs ≡ 0 → 0 ≡ place vs u
-unfolding place
-place-none [] u h = refl
-place-none (v ∷ vs) u h = absurd (omega arith)
-
-pub place-here : (vs : List ℕ) (u : ℕ) → 0 < length vs → getD vs 0 0 ≡ u → 0 ≡ place vs u
-place-here [] u h e = absurd (omega arith)
-place-here (v ∷ vs) u h e = sym (place-hit v u vs (eq-eqb u v (sym e)))
-
-pub place-there : (vs : List ℕ) (u : ℕ) → 0 < length vs → (getD vs 0 0 ≡ u → ⊥) → place (drop 1 vs) u + 1 ≡ place vs u
-place-there [] u h n = absurd (omega arith)
-place-there (v ∷ vs) u h n = add-one (place vs u) ∙ sym (place-miss v u vs (ne-eqb u v (λ e. n (sym e))))
-
-pub place-within : (vs : List ℕ) (u : ℕ) → place vs u ≤ length vs
-unfolding place
-place-within [] u = omega arith
-place-within (v ∷ vs) u = by-test (eqb u v) (λ e. rw e (omega arith)) (λ e. rw e (omega (arith, place-within vs u)))
-
--- a search from the front: no binding of u stands before the i-th
-
-pub Past : (vs : List ℕ) (u i : ℕ) → Type 0
-Past vs u i = place vs u ≡ i + place (drop i vs) u
-
-pub past-none : (vs : List ℕ) (u : ℕ) → Past vs u 0
-unfolding Past
-past-none vs u = omega arith
-
-pub past-here : (vs : List ℕ) (u i : ℕ) → Past vs u i → i < length vs → getD vs i 0 ≡ u → i ≡ place vs u
-unfolding Past
-past-here vs u i p h e =
-    let z = place-here (drop i vs) u (omega (arith, length-drop i vs)) (getD-drop i vs 0 0 ∙ ap (λ (j : ℕ). getD vs j 0) (add-zero i) ∙ e) in
-    omega arith
-
-pub past-more : (vs : List ℕ) (u i : ℕ) → Past vs u i → i < length vs → (getD vs i 0 ≡ u → ⊥) → Past vs u (i + 1)
-unfolding Past
-past-more vs u i p h n =
-    let z = place-there (drop i vs) u (omega (arith, length-drop i vs)) (λ e. n (ap (λ (j : ℕ). getD vs j 0) (sym (add-zero i)) ∙ sym (getD-drop i vs 0 0) ∙ e)) in
-    let d = ap (λ (l : List ℕ). place l u) (drop-drop 1 i vs) in
-    omega arith
-
-pub past-all : (vs : List ℕ) (u i : ℕ) → Past vs u i → i ≡ length vs → length vs ≡ place vs u
-unfolding Past
-past-all vs u i p h =
-    let z = place-none (drop i vs) u (omega (arith, length-drop i vs)) in
-    omega arith
+use Rattle.message_words.specs.Words.{place}
+use Rattle.slices.proofs.Tests.{byTest}
+use Rattle.message_words.proofs.Variables.{place-hit, place-miss}
+use Rattle.bindings.specs.Resolve.{resolve, bindingsIn, messageOf}
 
 -- what the bindings do to each kind of message
 
@@ -121,7 +59,7 @@ unfolding resolve bindingsIn
 resolve-unbound script [] ps u h = refl
 resolve-unbound script (v ∷ vs) [] u h = refl
 resolve-unbound script (v ∷ vs) (a ∷ ps) u h =
-    by-test (eqb u v) (λ e. absurd (omega (arith, place-hit v u vs e)))
+    byTest (eqb u v) (λ e. absurd (omega (arith, place-hit v u vs e)))
     (λ e. ap (resolve (bindingsIn script vs ps)) (substitute-miss v u _ e) ∙ resolve-unbound script vs ps u (omega (arith, place-miss v u vs e)))
 
 -- the message of the binding at that place, after the older bindings
@@ -139,7 +77,7 @@ unfolding resolve bindingsIn
 resolve-bound script [] ps u l h = absurd (omega arith)
 resolve-bound script (v ∷ vs) [] u l h = absurd (omega arith)
 resolve-bound script (v ∷ vs) (a ∷ ps) u l h =
-    by-test (eqb u v) (λ e. rw (place-hit v u vs e) (ap (resolve (bindingsIn script vs ps)) (substitute-hit v u _ e)))
+    byTest (eqb u v) (λ e. rw (place-hit v u vs e) (ap (resolve (bindingsIn script vs ps)) (substitute-hit v u _ e)))
     (λ e. rw (place-miss v u vs e) (ap (resolve (bindingsIn script vs ps)) (substitute-miss v u _ e)
     ∙ resolve-bound script vs ps u (omega arith) (omega (arith, place-miss v u vs e)) ∙ sym (given-next script v a vs ps (place vs u))))
 

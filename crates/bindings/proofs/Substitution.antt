@@ -7,7 +7,8 @@ use lib.Dec.{eqb}
 use borrow.Author.Tests.{eq-eqb, ne-eqb, eqb-true, eqb-false}
 use Rattle.messages.specs.Message.{Message, name, variable, enter, exit, opens, empty, path, items, substitute, substituteItems}
 use Rattle.bindings.specs.Resolve.{resolve}
-use Rattle.bindings.proofs.Resolving.{by-test, substitute-hit, substitute-miss}
+use Rattle.slices.proofs.Tests.{byTest}
+use Rattle.bindings.proofs.Resolving.{substitute-hit, substitute-miss}
 
 -- the variable does not stand in the message
 unfoldable pub Fresh : ℕ → Message → Type 0
@@ -44,12 +45,12 @@ pub substitute-twice : (u v : ℕ) (n r m : Message) → (u ≡ v → ⊥) → F
 unfolding substitute
 substitute-twice u v n r (name x) d h = refl
 substitute-twice u v n r (variable x) d h =
-    by-test (eqb x v)
+    byTest (eqb x v)
     (λ e. let a = eqb-true x v e in
     ap (substitute u n) (hit v x r a) ∙ sym (ap (substitute v (substitute u n r)) (miss u x n (λ z. d (sym z ∙ a))) ∙ hit v x (substitute u n r) a))
     (λ e. let a = eqb-false x v e in
     ap (substitute u n) (miss v x r a)
-    ∙ by-test (eqb x u)
+    ∙ byTest (eqb x u)
     (λ f. let b = eqb-true x u f in hit u x n b ∙ sym (ap (substitute v (substitute u n r)) (hit u x n b) ∙ substitute-fresh v (substitute u n r) n h))
     (λ f. let b = eqb-false x u f in miss u x n b ∙ sym (ap (substitute v (substitute u n r)) (miss u x n b) ∙ miss v x (substitute u n r) a)))
 substitute-twice u v n r (enter m) d h = ap enter (substitute-twice u v n r m d h)

@@ -1,16 +1,13 @@
 -- What is kept with the bindings: a count of each message, taken when it was bound, as of its items. The counts stop at
 -- 2^32 - 1. Assumes nothing: these are definitions.
-use Prim.Native.Nat.{ℕ, min}
+use Prim.Native.Nat.{ℕ}
 use mathlib.Core.List.{List, [], _∷_}
 use mathlib.Core.Path.{_≡_}
 use lib.ListN.{length, drop}
 use Rattle.messages.specs.Message.{Message, items}
 use Rattle.messages.specs.Spelling.{messageAt}
+use Rattle.slices.specs.Sums.{capped}
 use Rattle.bindings.specs.Resolve.{resolve, bindingsIn}
-
--- no more than 2^32 - 1
-unfoldable pub capped : ℕ → ℕ
-capped n = min n 4294967295
 
 abbrev pub itemCount : Message → ℕ
 itemCount m = length (items m)
@@ -28,5 +25,5 @@ pub record Kept (count : Message → ℕ) (script variables places values : List
 
 -- To unfold this is to unfold every definition of this module: for a proof by computation.
 unfoldable pub computing : Unit {0}
-unfolding capped keptOf
+unfolding keptOf
 computing = tt

@@ -3,24 +3,13 @@
 -- Assumes nothing: these are definitions.
 use Prim.Native.Nat.{ℕ, zero, suc, _+_}
 use mathlib.Core.List.{List, [], _∷_, _++_}
-use lib.ListN.{length, drop}
+use lib.ListN.{drop}
 use Rattle.messages.specs.Message.{Message, name, variable, enter, exit, opens, items}
-use Rattle.messages.specs.ReadMessage.{messageWord}
 use Rattle.messages.specs.Spelling.{top, spelled}
 use Rattle.messages.specs.declared.MessageWord.{MessageWord}
 use Rattle.messages.specs.declared.MessageWord.the-variants.{Name, Variable, Enter, Exit, Open, Empty, Path, Unfit}
-use Rattle.messages.specs.declared.Named.{Named}
-use Rattle.messages.specs.declared.Named.the-variants.{Called, Nameless}
-use Rattle.messages.specs.declared.First.{First}
-use Rattle.messages.specs.declared.First.the-variants.{Enter as AskEnter, Exit as AskExit, Open as AskOpen, Other}
-use Rattle.bindings.specs.declared.Shape.{Shape}
-use Rattle.bindings.specs.declared.Search.{Search}
-use Rattle.bindings.specs.Resolve.{resolve, place}
-
--- the first of the words
-unfoldable pub firstWord : List ℕ → MessageWord
-firstWord [] = Empty
-firstWord (w ∷ ws) = messageWord w
+use Rattle.message_words.specs.Words.{firstWord}
+use Rattle.bindings.specs.Resolve.{resolve}
 
 -- the first so many of the messages; where there are not so many, empty ones
 unfoldable pub firsts : ℕ → List Message → List Message
@@ -31,58 +20,6 @@ firsts (suc p) s = top s ∷ firsts p (drop 1 s)
 unfoldable pub allItems : List (ℕ × Message) → List Message → List Message
 allItems σ [] = []
 allItems σ (m ∷ ms) = items (resolve σ m) ++ allItems σ ms
-
--- How a word begins a message: how many items it is of its own if it is no variable with a binding, how many messages
--- behind it are closed in such an item, and how many stand open, as those of PATH, whose items are their own.
-abbrev pub shapeWith : (items closed opened : ℕ) → Shape
-shapeWith i c o = record { items = i; closed = c; opened = o }
-
-unfoldable pub shapeOf : MessageWord → Shape
-shapeOf (Name n) = shapeWith 1 0 0
-shapeOf (Variable v) = shapeWith 1 0 0
-shapeOf Enter = shapeWith 1 1 0
-shapeOf Exit = shapeWith 1 1 0
-shapeOf Open = shapeWith 1 1 0
-shapeOf Empty = shapeWith 0 0 0
-shapeOf Path = shapeWith 0 0 2
-shapeOf Unfit = shapeWith 0 0 0
-
--- how many messages stand in a message that begins with such a word
-abbrev pub arityOf : MessageWord → ℕ
-arityOf m = shapeOf m .closed + shapeOf m .opened
-
--- the place of the newest binding of a word that is a variable; of other words the number of bindings
-unfoldable pub boundAt : MessageWord → List ℕ → ℕ
-boundAt (Name n) vs = length vs
-boundAt (Variable v) vs = place vs v
-boundAt Enter vs = length vs
-boundAt Exit vs = length vs
-boundAt Open vs = length vs
-boundAt Empty vs = length vs
-boundAt Path vs = length vs
-boundAt Unfit vs = length vs
-
--- the name that a message is whose first word is no variable with a binding
-unfoldable pub plainName : MessageWord → Named
-plainName (Name n) = Called n
-plainName (Variable v) = Nameless
-plainName Enter = Nameless
-plainName Exit = Nameless
-plainName Open = Nameless
-plainName Empty = Nameless
-plainName Path = Nameless
-plainName Unfit = Nameless
-
--- the first item that such a word is, `inside` being the name that the message behind it is
-unfoldable pub plainItem : MessageWord → (inside : Named) → First
-plainItem (Name n) i = Other
-plainItem (Variable v) i = Other
-plainItem Enter i = AskEnter i
-plainItem Exit i = AskExit i
-plainItem Open i = AskOpen i
-plainItem Empty i = Other
-plainItem Path i = Other
-plainItem Unfit i = Other
 
 -- the items that a word has of its own, after the bindings, `behind` being what is spelled behind it
 unfoldable pub wordItems : List (ℕ × Message) → MessageWord → (behind : List Message) → List Message
@@ -99,11 +36,7 @@ wordItems σ Unfit s = []
 unfoldable pub ownItems : List (ℕ × Message) → (words : List ℕ) → List Message
 ownItems σ ws = wordItems σ (firstWord ws) (spelled (drop 1 ws))
 
--- where a search for an item stands
-abbrev pub searching : (left pending before older : ℕ) → Search
-searching l p b o = record { left = l; pending = p; before = b; older = o }
-
 -- To unfold this is to unfold every definition of this module: for a proof by computation.
 unfoldable pub computing : Unit {0}
-unfolding firstWord firsts allItems shapeOf boundAt plainName plainItem wordItems ownItems
+unfolding firsts allItems wordItems ownItems
 computing = tt

@@ -1,9 +1,9 @@
 -- Messages under bindings. A binding is a receipt's variable and the message that the receipt was given.
 -- Assumes nothing: these are definitions.
-use Prim.Native.Nat.{ℕ, suc, _-_}
+use Prim.Native.Nat.{ℕ, _-_}
 use mathlib.Core.Bool.{cond}
 use mathlib.Core.List.{List, [], _∷_}
-use lib.Dec.{eqb, ltb}
+use lib.Dec.{ltb}
 use lib.ListN.{drop}
 use Rattle.messages.specs.Message.{Message, name, substitute}
 use Rattle.messages.specs.Spelling.{messageAt}
@@ -20,11 +20,6 @@ bindingsIn script [] ps = []
 bindingsIn script (v ∷ vs) [] = []
 bindingsIn script (v ∷ vs) (a ∷ ps) = (v, messageAt (drop a script)) ∷ bindingsIn script vs ps
 
--- the place of the newest binding of a variable, or the number of bindings
-unfoldable pub place : List ℕ → ℕ → ℕ
-place [] u = 0
-place (v ∷ vs) u = cond (eqb u v) 0 (suc (place vs u))
-
 -- The message that a part starts with: at a word of the script, or, from 65536 on, a name given directly (a part that
 -- PLACED made). No binding changes a name.
 unfoldable pub messageOf : (script : List ℕ) → (start : ℕ) → Message
@@ -32,5 +27,5 @@ messageOf script start = cond (ltb start 65536) (messageAt (drop start script)) 
 
 -- To unfold this is to unfold every definition of this module: for a proof by computation.
 unfoldable pub computing : Unit {0}
-unfolding resolve bindingsIn place messageOf
+unfolding resolve bindingsIn messageOf
 computing = tt

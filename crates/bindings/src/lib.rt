@@ -2,168 +2,32 @@
 // the script. Bindings are lent newest first, in slices: the variables, the indices of the messages' first words, and the
 // number of items that was counted of each message when it was bound. What is older than a binding is the tail behind it.
 // Each operation is one pass over words, since a variable's count is at hand; counts stop at 2^32 - 1. It rests on the
-// promises of messages.
-use messages::First;
-use messages::MessageWord;
+// promises of message_words, messages and slices.
+use message_words::arity;
+use message_words::bound;
+use message_words::first_word;
+use message_words::given;
+use message_words::plain_name;
+use message_words::shape_of;
 use messages::Named;
-use messages::message_word;
+use slices::sum;
+use slices::tail;
+use slices::wide;
 ghost use mathlib.Core.Path.{_≡_};
 ghost use Prim.Native.Nat.{ℕ, _+_, _-_, _*_, _<_, _≤_, _^_};
 ghost use mathlib.Core.List.{List, _++_};
-ghost use lib.ListN.{length, drop, getD};
-ghost use Rattle.messages.specs.Message.{Message, items, nameOf, firstItem};
+ghost use lib.ListN.{length, drop};
+ghost use Rattle.messages.specs.Message.{Message, items, nameOf};
 ghost use Rattle.messages.specs.Spelling.{spelled, messageAt};
-ghost use Rattle.bindings.specs.Resolve.{resolve, bindingsIn, place, messageOf};
-ghost use Rattle.bindings.specs.Measures.{capped, itemCount, Kept};
-ghost use Rattle.bindings.specs.Passes.{firstWord, firsts, allItems, shapeWith, shapeOf, arityOf, boundAt, plainName, plainItem, ownItems, searching};
-
-// How a word begins a message: the items that it is of its own, the messages behind it that are closed in such an item,
-// and those that stand open.
-pub struct Shape {
-    pub items: u32,
-    pub closed: usize,
-    pub opened: usize,
-}
+ghost use Rattle.bindings.specs.Resolve.{resolve, bindingsIn, messageOf};
+ghost use Rattle.slices.specs.Sums.{capped};
+ghost use Rattle.bindings.specs.Measures.{itemCount, Kept};
+ghost use Rattle.bindings.specs.Passes.{firsts, allItems, ownItems};
 
 // Where a pass stands behind a word's own items: the words used, and the messages still pending.
 pub struct Behind {
     pub used: usize,
     pub left: usize,
-}
-
-// Where a search for an item stands: before which words left in the script, how many messages of these are pending, how many
-// of their items come before the item, and from which binding on the older ones are that the messages lie under.
-struct Search {
-    left: usize,
-    pending: usize,
-    before: u32,
-    older: usize,
-}
-
-// A word as an index.
-pub fn wide(x: u32) -> usize
-    ensures { λ r. ⌜ r ≡ x ⌝ }
-{
-    x as usize
-}
-
-// The sum, at most 2^32 - 1.
-pub fn sum(a: u32, b: u32) -> u32
-    ensures { λ r. ⌜ r ≡ capped (a + b) ⌝ }
-{
-    if a <= 4294967295 - b {
-        a + b
-    } else {
-        4294967295
-    }
-}
-
-// What stands from an index on, nothing where there is not so much.
-pub fn tail(s: &[u32], at: usize) -> &[u32]
-    ensures { λ r. ⌜ now r ≡ drop at (now (s .entry)) ⌝ }
-{
-    let n = s.len();
-    if at <= n { &s[at..] } else { &s[n..] }
-}
-
-// The place of the newest binding of a variable, or the number of bindings.
-pub fn find(variables: &[u32], v: u32) -> usize
-    ensures { λ r. ⌜ r ≡ place (now (variables .entry)) v ⌝ }
-{
-    let n = variables.len();
-    let mut i: usize = 0;
-    while i < n {
-        if variables[i] == v {
-            return i;
-        }
-        i += 1;
-    }
-    n
-}
-
-// The words of the message of the binding at that place.
-pub fn given<'a, 'b>(script: &'a [u32], places: &'b [u32], k: usize) -> &'a [u32]
-    requires { ⌜ k < length (now places) ⌝ }
-    ensures { λ r. ⌜ now r ≡ drop (getD (now (places .entry)) k 0) (now (script .entry)) ⌝ }
-{
-    tail(script, wide(places[k]))
-}
-
-// The first of the words; where there is none, EMPTY.
-pub fn first_word(words: &[u32]) -> MessageWord
-    ensures { λ r. ⌜ r ≡ firstWord (now (words .entry)) ⌝ }
-{
-    if words.len() == 0 {
-        return MessageWord::Empty;
-    }
-    message_word(words[0])
-}
-
-// The shape with these numbers.
-fn shaped(items: u32, closed: usize, opened: usize) -> Shape
-    ensures { λ r. ⌜ r ≡ shapeWith items closed opened ⌝ }
-{
-    Shape {
-        items,
-        closed,
-        opened,
-    }
-}
-
-// How the word begins a message.
-pub fn shape_of(m: MessageWord) -> Shape
-    ensures { λ r. ⌜ r ≡ shapeOf m ⌝ }
-{
-    match m {
-        MessageWord::Name(_) => shaped(1, 0, 0),
-        MessageWord::Variable(_) => shaped(1, 0, 0),
-        MessageWord::Enter => shaped(1, 1, 0),
-        MessageWord::Exit => shaped(1, 1, 0),
-        MessageWord::Open => shaped(1, 1, 0),
-        MessageWord::Empty => shaped(0, 0, 0),
-        MessageWord::Path => shaped(0, 0, 2),
-        MessageWord::Unfit => shaped(0, 0, 0),
-    }
-}
-
-// How many messages stand in a message that begins with this word.
-pub fn arity(m: MessageWord) -> usize
-    ensures { λ r. ⌜ r ≡ arityOf m ⌝ }
-{
-    let s = shape_of(m);
-    s.closed + s.opened
-}
-
-// The place of the newest binding of a word that is a variable; of other words the number of bindings.
-pub fn bound(m: MessageWord, variables: &[u32]) -> usize
-    ensures { λ r. ⌜ r ≡ boundAt m (now (variables .entry)) ⌝ }
-{
-    match m {
-        MessageWord::Name(_) => variables.len(),
-        MessageWord::Variable(v) => find(variables, v),
-        MessageWord::Enter => variables.len(),
-        MessageWord::Exit => variables.len(),
-        MessageWord::Open => variables.len(),
-        MessageWord::Empty => variables.len(),
-        MessageWord::Path => variables.len(),
-        MessageWord::Unfit => variables.len(),
-    }
-}
-
-// The name that a message is which begins with this word, no variable with a binding.
-fn plain_name(m: MessageWord) -> Named
-    ensures { λ r. ⌜ r ≡ plainName m ⌝ }
-{
-    match m {
-        MessageWord::Name(n) => Named::Called(n),
-        MessageWord::Variable(_) => Named::Nameless,
-        MessageWord::Enter => Named::Nameless,
-        MessageWord::Exit => Named::Nameless,
-        MessageWord::Open => Named::Nameless,
-        MessageWord::Empty => Named::Nameless,
-        MessageWord::Path => Named::Nameless,
-        MessageWord::Unfit => Named::Nameless,
-    }
 }
 
 // The name that the message at the first of the words is, after the bindings.
@@ -266,96 +130,4 @@ pub fn item_count(
     ensures { λ r. ⌜ r ≡ capped (length (items (resolve (bindingsIn (now (script .entry)) (now (variables .entry)) (now (places .entry))) (messageAt (drop at (now (script .entry))))))) ⌝ }
 {
     count_from(tail(script, at), 1, variables, counts)
-}
-
-// The first item that a word is, no variable with a binding; inside is the name that the message behind it is, for which
-// IN, EXIT and OPEN ask.
-fn plain_item(m: MessageWord, inside: Named) -> First
-    ensures { λ r. ⌜ r ≡ plainItem m inside ⌝ }
-{
-    match m {
-        MessageWord::Name(_) => First::Other,
-        MessageWord::Variable(_) => First::Other,
-        MessageWord::Enter => First::Enter(inside),
-        MessageWord::Exit => First::Exit(inside),
-        MessageWord::Open => First::Open(inside),
-        MessageWord::Empty => First::Other,
-        MessageWord::Path => First::Other,
-        MessageWord::Unfit => First::Other,
-    }
-}
-
-// a - b, or 0 where b is greater.
-fn less(a: usize, b: usize) -> usize
-    ensures { λ r. ⌜ r ≡ a - b ⌝ }
-{
-    if b < a { a - b } else { 0 }
-}
-
-// The search at a variable whose binding is the k-th: in its message, which has so many items and begins at a word of the
-// script's n, or behind the variable.
-fn at_variable(s: Search, n: usize, k: usize, count: u32, place: usize) -> Search
-    requires { ⌜ (0 < s .pending) × (k + 1 < 2 ^ 64) ⌝ }
-    ensures inside { λ r. ⌜ (s .before < count → r ≡ searching (n - place) 1 (s .before) (k + 1)) ⌝ }
-    ensures past { λ r. ⌜ (count ≤ s .before → r ≡ searching (s .left - 1) (s .pending - 1) (s .before - count) (s .older)) ⌝ }
-{
-    if s.before < count {
-        return Search {
-            left: less(n, place),
-            pending: 1,
-            before: s.before,
-            older: k + 1,
-        };
-    }
-    Search {
-        left: less(s.left, 1),
-        pending: s.pending - 1,
-        before: s.before - count,
-        older: s.older,
-    }
-}
-
-// The first from the offset on of the items of the message at a word of the script, after the bindings. A variable's count
-// tells at once whether that item is in its message, so the search goes on there or behind it, and never comes back.
-pub fn first_item(
-    script: &[u32],
-    at: usize,
-    offset: u32,
-    variables: &[u32],
-    places: &[u32],
-    counts: &[u32],
-) -> First
-    requires { ⌜ Kept itemCount (now script) (now variables) (now places) (now counts) × (offset < 4294967295) ⌝ }
-    ensures { λ r. ⌜ r ≡ firstItem (drop offset (items (resolve (bindingsIn (now (script .entry)) (now (variables .entry)) (now (places .entry))) (messageAt (drop at (now (script .entry))))))) ⌝ }
-{
-    let n = script.len();
-    let mut s = Search {
-        left: less(n, at),
-        pending: 1,
-        before: offset,
-        older: 0,
-    };
-    while 0 < s.pending {
-        let words = tail(script, n - s.left);
-        let m = first_word(words);
-        let receipts = tail(variables, s.older);
-        let k = s.older + bound(m, receipts);
-        if k < variables.len() {
-            s = at_variable(s, n, k, counts[k], wide(places[k]));
-        } else {
-            let own = shape_of(m);
-            if s.before < own.items {
-                return plain_item(
-                    m,
-                    name_of(script, tail(words, 1), receipts, tail(places, s.older)),
-                );
-            }
-            let b = after_own(words, s.pending);
-            let left = less(s.left, b.used);
-            s.left = left;
-            s.pending = b.left;
-            s.before -= own.items;
-        }
-    }
-    First::Nothing
 }

@@ -1,5 +1,4 @@
 // The call. It rests on the promises of all layers below.
-use bindings::tail;
 use closures::State;
 use closures::weigh;
 use lent_states::borrowed;
@@ -14,6 +13,7 @@ use scripts::Table;
 use scripts::greatest_name;
 use scripts::read_script;
 use settling::first_state;
+use slices::tail;
 use stages::Limits;
 use stages::Walked;
 use visits::walk_rule;
@@ -31,8 +31,7 @@ ghost use Rattle.stages.specs.Visits.{walkedOf};
 ghost use Rattle.message_writer.specs.Write.{write};
 ghost use Rattle.writer.specs.Bodies.{Scripted};
 ghost use Rattle.writer.specs.Room.{answered, buffered};
-ghost use Rattle.plain_call.specs.Call.{accepted, refusal, walked, answer};
-ghost use Rattle.plain_call.specs.Call.{finish as finished};
+ghost use Rattle.plain_call.specs.Call.{accepted, refusal, walked, answer, finish as finished};
 ghost use Rattle.checker.specs.Answering.{verdictOf, answerOf, callOf};
 ghost use Rattle.plain_call.specs.Standing.{Decides, MovesBounded, WeightHolds};
 ghost use Rattle.checker.specs.Calling.{ScriptHeld, RuleHeld, Stands};

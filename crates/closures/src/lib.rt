@@ -1,12 +1,12 @@
 // What the engine keeps of a closure: its state, what is asked of the parts again and again, and the weight. It rests on the
 // promises of held_bindings, bindings, scripts, messages and sets.
-use bindings::first_item;
 use bindings::name_at;
-use bindings::tail;
-use bindings::wide;
+use first_items::first_item;
 use held_bindings::Bindings;
 use messages::First;
 use messages::Named;
+use slices::tail;
+use slices::wide;
 ghost use mathlib.Core.Path.{_≡_};
 ghost use mathlib.Core.Bool.{Bool, true, false, cond};
 ghost use mathlib.Core.List.{List};

@@ -12,11 +12,15 @@ use Rattle.messages.specs.Spelling.{top, push, spelled, messageAt}
 use Rattle.messages.specs.declared.MessageWord.{MessageWord}
 use Rattle.messages.specs.declared.MessageWord.the-variants.{Name, Variable, Enter, Exit, Open, Empty, Path, Unfit}
 use Rattle.bindings.specs.Resolve.{resolve, bindingsIn}
-use Rattle.bindings.specs.Measures.{capped, itemCount}
-use Rattle.bindings.specs.Passes.{firstWord, firsts, shapeOf, arityOf, boundAt}
+use Rattle.slices.specs.Sums.{capped}
+use Rattle.bindings.specs.Measures.{itemCount}
+use Rattle.message_words.specs.Words.{firstWord, shapeOf, arityOf, boundAt}
+use Rattle.bindings.specs.Passes.{firsts}
 use Rattle.bindings.proofs.Resolving.{resolve-name, resolve-enter, resolve-exit, resolve-opens, resolve-empty, resolve-path, given}
-use Rattle.bindings.proofs.Passing.{firsts-first, Free, bound, bound-variable, given-place}
-use Rattle.bindings.proofs.Counting.{capped-sum, kept-none, kept-drop, kept-more}
+use Rattle.message_words.proofs.FirstWords.{bound, bound-variable}
+use Rattle.bindings.proofs.Passing.{firsts-first, Free, given-place}
+use Rattle.slices.proofs.Capping.{capped-sum}
+use Rattle.bindings.proofs.Counting.{kept-none, kept-drop, kept-more}
 use Rattle.held_bindings.specs.Sizes.{size, itemsSize, bulk, cappedItems, itemBulk, Cached, allSizes, ownSize}
 use Rattle.held_bindings.specs.Held.{Measures}
 use Rattle.held_bindings.specs.declared.Measured.{Measured}

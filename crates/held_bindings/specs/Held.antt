@@ -6,7 +6,8 @@ use mathlib.Core.Path.{_≡_}
 use lib.ListN.{drop}
 use Rattle.messages.specs.Message.{Message}
 use Rattle.bindings.specs.Resolve.{bindingsIn}
-use Rattle.bindings.specs.Measures.{capped, itemCount}
+use Rattle.slices.specs.Sums.{capped}
+use Rattle.bindings.specs.Measures.{itemCount}
 use Rattle.held_bindings.specs.Sizes.{itemBulk, Cached}
 use Rattle.held_bindings.specs.Sizes as sizes
 use Rattle.held_bindings.specs.declared.Measured.{Measured}

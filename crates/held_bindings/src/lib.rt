@@ -2,16 +2,16 @@
 // message when it was bound: its items, its words, and the words of its items with one PATH each. So a new binding, too, is
 // counted in one pass over words; counts stop at 2^32 - 1. It rests on the promises of bindings.
 use bindings::after_own;
-use bindings::arity;
-use bindings::bound;
-use bindings::first_word;
-use bindings::given;
 use bindings::item_count;
 use bindings::own;
-use bindings::sum;
-use bindings::tail;
-use bindings::wide;
+use message_words::arity;
+use message_words::bound;
+use message_words::first_word;
+use message_words::given;
 use messages::MessageWord;
+use slices::sum;
+use slices::tail;
+use slices::wide;
 ghost use mathlib.Core.Path.{_≡_};
 ghost use Prim.Native.Nat.{ℕ, _+_, _-_, _<_, _^_};
 ghost use mathlib.Core.List.{List, [], _∷_};
@@ -19,7 +19,8 @@ ghost use lib.ListN.{length, drop};
 ghost use Rattle.messages.specs.Message.{items};
 ghost use Rattle.messages.specs.Spelling.{spelled, messageAt};
 ghost use Rattle.bindings.specs.Resolve.{resolve, bindingsIn};
-ghost use Rattle.bindings.specs.Measures.{capped, Kept};
+ghost use Rattle.slices.specs.Sums.{capped};
+ghost use Rattle.bindings.specs.Measures.{Kept};
 ghost use Rattle.bindings.specs.Passes.{firsts, allItems, ownItems};
 ghost use Rattle.held_bindings.specs.Sizes.{size, itemsSize, bulk, cappedItems, Cached, allSizes, ownSize};
 ghost use Rattle.held_bindings.specs.Held.{Measures, bindingsOf, Held};

@@ -1,9 +1,9 @@
 // A state as two arrays, for lending: written into them and read out again. It rests on the promises of closures,
 // held_bindings and bindings.
-use bindings::wide;
 use closures::Looks;
 use closures::State;
 use held_bindings::Bindings;
+use slices::wide;
 ghost use mathlib.Core.Path.{_≡_};
 ghost use Prim.Native.Nat.{ℕ, _+_, _≤_, _<_};
 ghost use lib.ListN.{length, getD, set};

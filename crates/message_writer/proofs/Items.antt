@@ -10,9 +10,10 @@ use Rattle.messages.specs.Words.{word}
 use Rattle.messages.specs.Message.{Message}
 use Rattle.messages.specs.Spelling.{spelled, messageAt}
 use Rattle.bindings.specs.Resolve.{resolve}
-use Rattle.bindings.specs.Measures.{capped}
+use Rattle.slices.specs.Sums.{capped}
 use Rattle.bindings.specs.Passes.{firsts}
-use Rattle.bindings.proofs.Counting.{whole-count, below-count, drop-within}
+use Rattle.slices.proofs.Capping.{whole-count, below-count}
+use Rattle.bindings.proofs.Counting.{drop-within}
 use Rattle.message_writer.specs.Write.{Indices, writeMessage, whole}
 use Rattle.message_writer.specs.Passes.{allWritten, link, strung}
 use Rattle.message_writer.proofs.Words.{some-words, one-written}

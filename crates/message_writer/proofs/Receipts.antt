@@ -6,9 +6,9 @@ use native.Mathlib.Omega.{arith}
 use lib.Dec.{eqb}
 use lib.ListN.{length, drop, set, getD}
 use borrow.Author.Tests.{eq-eqb, ne-eqb, eqb-true, eqb-false}
-use Rattle.bindings.specs.Resolve.{place}
-use Rattle.bindings.proofs.Resolving.{by-test}
-use Rattle.messages.proofs.Tails.{drop-set}
+use Rattle.message_words.specs.Words.{place}
+use Rattle.slices.proofs.Tests.{byTest}
+use Rattle.slices.proofs.Tails.{drop-set}
 use Rattle.message_writer.specs.Write.{Indices, newIndex}
 use Rattle.message_writer.specs.Indices.{indicesIn, Indexed}
 
@@ -26,7 +26,7 @@ new-at [] [] u l = unfold newIndex in refl
 new-at [] (i ∷ is) u l = absurd (omega arith)
 new-at (v ∷ vs) [] u l = absurd (omega arith)
 new-at (v ∷ vs) (i ∷ is) u l =
-    by-test (eqb u v) (λ e. rw e (new-hit v u i (indicesIn vs is) (eqb-true u v e)))
+    byTest (eqb u v) (λ e. rw e (new-hit v u i (indicesIn vs is) (eqb-true u v e)))
     (λ e. rw e (new-miss v u i (indicesIn vs is) (eqb-false u v e) ∙ new-at vs is u (omega arith)))
 
 past : (is : List ℕ) (k : ℕ) → length is ≤ k → getD is k 0 ≡ 0

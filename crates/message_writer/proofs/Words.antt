@@ -17,9 +17,12 @@ use Rattle.messages.specs.declared.MessageWord.{MessageWord}
 use Rattle.messages.specs.declared.MessageWord.the-variants.{Name, Variable, Enter, Exit, Open, Empty, Path, Unfit}
 use Rattle.bindings.specs.Resolve.{resolve, bindingsIn}
 use Rattle.held_bindings.specs.Sizes.{size, itemsSize}
-use Rattle.bindings.specs.Passes.{firstWord, firsts, shapeOf, arityOf, boundAt}
-use Rattle.bindings.proofs.Resolving.{by-test, resolve-name, resolve-enter, resolve-exit, resolve-opens, resolve-empty, resolve-path}
-use Rattle.bindings.proofs.Passing.{firsts-first, Free, bound, bound-variable, given-place}
+use Rattle.message_words.specs.Words.{firstWord, shapeOf, arityOf, boundAt}
+use Rattle.bindings.specs.Passes.{firsts}
+use Rattle.slices.proofs.Tests.{byTest}
+use Rattle.bindings.proofs.Resolving.{resolve-name, resolve-enter, resolve-exit, resolve-opens, resolve-empty, resolve-path}
+use Rattle.message_words.proofs.FirstWords.{bound, bound-variable}
+use Rattle.bindings.proofs.Passing.{firsts-first, Free, given-place}
 use Rattle.message_writer.specs.Write.{Indices, writeMessage, whole}
 use Rattle.message_writer.specs.Passes.{allWritten, plainWord}
 
@@ -75,8 +78,8 @@ either false x y f g = g
 
 name-small : (o : ℕ) → operandOf (cond (nameFits o) (Name o) Unfit) ≤ 255
 unfolding nameFits operandOf
-name-small o = by-test (leb o 255) (λ t. either (nameFits o) (Name o) Unfit (leb-true o 255 t) (omega arith))
-    (λ t. by-test (leb 1 o) (λ u. rw (u, t) (omega arith)) (λ u. rw u (omega arith)))
+name-small o = byTest (leb o 255) (λ t. either (nameFits o) (Name o) Unfit (leb-true o 255 t) (omega arith))
+    (λ t. byTest (leb 1 o) (λ u. rw (u, t) (omega arith)) (λ u. rw u (omega arith)))
 
 operand-small : (l : List ℕ) → operandOf (firstWord l) ≤ 255
 unfolding firstWord messageWord operandOf

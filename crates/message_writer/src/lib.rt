@@ -2,15 +2,15 @@
 // words it wrote, and lends the tail behind them to the next writer.
 // It rests on the promises of bindings and messages.
 use bindings::after_own;
-use bindings::arity;
-use bindings::bound;
-use bindings::find;
-use bindings::first_word;
-use bindings::given;
 use bindings::item_count;
 use bindings::own;
-use bindings::tail;
+use message_words::arity;
+use message_words::bound;
+use message_words::find;
+use message_words::first_word;
+use message_words::given;
 use messages::MessageWord;
+use slices::tail;
 ghost use mathlib.Core.Path.{_≡_};
 ghost use mathlib.Core.List.{[], _∷_};
 ghost use Prim.Native.Nat.{ℕ, _+_, _-_, _≤_, _<_, _^_};

@@ -19,7 +19,7 @@ use Rattle.messages.specs.declared.Asked.the-variants.{Leaf, One, Two, N
 use Rattle.messages.specs.declared.Outcome.{Outcome}
 use Rattle.messages.specs.declared.Outcome.the-variants.{Read, Refused}
 use Rattle.messages.proofs.Readings.{refuse≢got, bind-all, got-all, bind-cong, bind-got, bind-refuse, ask-inv, Advances, stands, advances-on, Next, next, next-advances, next-shorter, advances-shorter, next-end, placed, outcome-refused, outcome-read}
-use Rattle.messages.proofs.Tails.{no-element, first, part, part-drop, length-part}
+use Rattle.slices.proofs.Tails.{no-element, first, part, part-drop, length-part}
 
 -- What holds where a message was read from c on, p being the message and the cursor behind it.
 pub record MessageRead (around : List ℕ) (c : Cursor) (p : Message × Cursor) : Type 0 where

@@ -1,6 +1,5 @@
 -- The laws of `messages` that its own proofs and the crates above cite.
 pub mod Readings
-pub mod Tails
 pub mod Laws
 pub mod Cases
 pub mod Spells

@@ -1,8 +1,8 @@
 // From the words of an input to the text of the reply: the lists that it counts, lent to the call, and the call's answer, or
 // that the input does not fit. It rests on the promises of the call and on those of its answer as text.
-use bindings::tail;
 use checker::call;
-use text::head;
+use slices::head;
+use slices::tail;
 use text::put_answer;
 use text::put_refusal;
 ghost use mathlib.Core.Path.{_≡_};

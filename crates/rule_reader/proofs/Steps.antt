@@ -13,7 +13,7 @@ use Rattle.messages.specs.Words.{operand}
 use Rattle.messages.specs.Reading.{Cursor, cursor, Reading, refuse, got}
 use Rattle.messages.specs.declared.Outcome.the-variants.{Read, Refused}
 use Rattle.messages.proofs.Readings.{placed, read≢refused}
-use Rattle.messages.proofs.Tails.{no-element, first, part, part-drop}
+use Rattle.slices.proofs.Tails.{no-element, first, part, part-drop}
 use Rattle.rules.specs.Rule.{Rule}
 use Rattle.rules.specs.ReadRule.{RuleKind, TRUE, NOT, OR, VOID, AT, BESIDE, SOME, SOMETIME, SOMEWHERE, PLACED, OTHER, ruleKind, fits, bound, somesWith, Reader, readRule}
 use Rattle.rules.specs.RuleWords.{follow, levelled, asked}

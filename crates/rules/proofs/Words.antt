@@ -8,7 +8,7 @@ use native.Mathlib.Numerals.{add-one}
 use lib.ListN.{length, drop, getD}
 use borrow.Author.Tests.{le-leb, lt-leb}
 use Rattle.messages.specs.Words.{kind, operand, nameFits, member}
-use Rattle.messages.proofs.Tails.{before}
+use Rattle.slices.proofs.Tails.{before}
 use Rattle.rules.specs.Rule.{Term, constant, chosen, ruleName, greatestRuleName}
 use Rattle.rules.specs.ReadRule.{RuleKind, TRUE, NOT, OR, VOID, AT, BESIDE, SOME, SOMETIME, SOMEWHERE, PLACED, OTHER, ruleKind, isChosen, termOf, fits, termBound, bound, somesWith}
 use Rattle.rules.specs.RuleWords.{termWord, follow, levelled, askedPlain, askedTerm, asked}

@@ -18,8 +18,8 @@ use Rattle.messages.specs.Words.{kind, operand}
 use Rattle.messages.specs.Message.{Message}
 use Rattle.messages.specs.ReadMessage.{readMessage}
 use Rattle.messages.proofs.Readings.{bind-got, placed, outcome-read, read≢refused}
-use Rattle.messages.proofs.Tails.{part-drop, length-part}
-use Rattle.messages.proofs.Tails as Tails
+use Rattle.slices.proofs.Tails.{part-drop, length-part}
+use Rattle.slices.proofs.Tails as Tails
 use Rattle.messages.proofs.Laws.{MessageRead, message-advances, readOf, read-bounds}
 use Rattle.scripts.specs.Tree.{Head, ambient, action, receipt, close, part, sum, parts, kindNumber}
 use Rattle.scripts.specs.Script.{Written, Script, partWord, fits, guardedHead, guardedFrom, partFrom, orClose, readBody, askedPart}

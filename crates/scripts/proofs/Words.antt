@@ -9,7 +9,7 @@ use denote.Enum.Declared.{tagOf}
 use types.Run.{OneOf}
 use lib.ListN.{length, drop, getD}
 use Rattle.messages.specs.Words.{kind, operand}
-use Rattle.messages.proofs.Tails.{before}
+use Rattle.slices.proofs.Tails.{before}
 use Rattle.scripts.proofs.PartWord.{the-type}
 use Rattle.scripts.specs.declared.PartWord.{PartWord}
 use Rattle.scripts.specs.declared.PartWord.the-variants.{Close, Ambient, Action, Receipt, Output, No}

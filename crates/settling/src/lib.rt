@@ -1,8 +1,6 @@
 // What a move leaves of a state: an item is spent or a message received, and what has no items left is gone; the first
 // state of a script, and the state inside a new ambient (PLACED). It rests on the promises of lent_states, closures,
 // held_bindings, bindings, messages and sets.
-use bindings::tail;
-use bindings::wide;
 use closures::State;
 use closures::item_deed;
 use closures::looked;
@@ -16,6 +14,8 @@ use lent_states::lend;
 use lent_states::numbers_32;
 use lent_states::numbers_64;
 use messages::First;
+use slices::tail;
+use slices::wide;
 ghost use mathlib.Core.Path.{_≡_};
 ghost use mathlib.Core.List.{List, []};
 ghost use Prim.Native.Nat.{ℕ, _+_, _≤_, _<_};

@@ -2,15 +2,14 @@
 // the bytes written is `reply`. It rests on the reply to words, and for reading and writing on io.
 use replies::put_unfit;
 use replies::reply_to_words;
-use text::head;
+use slices::head;
 ghost use mathlib.Core.Path.{_≡_};
 ghost use Prim.Native.Nat.{_+_, _*_, _≤_, _<_};
 ghost use lib.ListN.{length, take, drop};
 ghost use Rattle.io.specs.Counts.{Counts};
 ghost use Rattle.digits.specs.Digits.{Puts};
 ghost use Rattle.replies.specs.Reply.{wordsReply};
-ghost use Rattle.skycorbel.specs.Input.{wordOf, wordsOf};
-ghost use Rattle.skycorbel.specs.Input.{reply as replyOf};
+ghost use Rattle.skycorbel.specs.Input.{wordOf, wordsOf, reply as replyOf};
 
 // A byte as a word.
 fn wide(x: u8) -> u32

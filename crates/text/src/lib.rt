@@ -1,25 +1,17 @@
 // Answers as text, put into a lent buffer piece by piece, as the functions of digits put them. It rests on the promises of
-// digits, and on what an answer of the call is.
+// digits and slices, and on what an answer of the call is.
 use checker::Answer;
 use checker::Verdict;
 use digits::put_byte;
 use digits::put_bytes;
 use digits::put_decimal;
 use digits::put_words;
-ghost use mathlib.Core.Path.{_≡_};
+use slices::head;
 ghost use mathlib.Core.List.{_++_};
 ghost use lib.ListN.{take};
 ghost use Rattle.checker.specs.Answering.{answerOf};
 ghost use Rattle.digits.specs.Digits.{lines, decimal, Puts};
 ghost use Rattle.text.specs.Text.{refusalText, countsText, answerText};
-
-// The words at the start of a slice, or all of it where there are no more.
-pub fn head(s: &[u32], n: usize) -> &[u32]
-    ensures { λ r. ⌜ now r ≡ take n (now (s .entry)) ⌝ }
-{
-    let most = s.len();
-    if n <= most { &s[..n] } else { &s[..most] }
-}
 
 // "a refusal as the one line `refused`, number, `at`, place"
 pub fn put_refusal(text: &mut [u8], question: u32, place: usize) -> usize

@@ -1,9 +1,9 @@
 // The walk of a rule over the process that a state stands for (document 01, "The rule and its walk"): a visit at each word
 // met. A state is lent as two arrays, and made only where a move or PLACED changes it. It rests on the promises of walk,
 // closures, rules and sets.
-use bindings::wide;
 use closures::State;
 use rule_reader::RuleTable;
+use slices::wide;
 use stages::Counts;
 use stages::Limits;
 use stages::Walked;
@@ -21,8 +21,7 @@ use walk::void_rule;
 use walk::with_name;
 ghost use Prim.Native.Nat.{_+_, _-_, _≤_, _<_};
 ghost use Rattle.closures.specs.Represents.{Ready};
-ghost use Rattle.stages.specs.Visits.{Lendable};
-ghost use Rattle.stages.specs.Visits.{Visits as Answers, Looks as Finds, Splits, Tries, Walks};
+ghost use Rattle.stages.specs.Visits.{Lendable, Visits as Answers, Looks as Finds, Splits, Tries, Walks};
 
 // A visit at the word of the spot, whose depth is among the depths left.
 fn visit<'a>(

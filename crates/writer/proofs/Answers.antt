@@ -6,7 +6,7 @@ use native.Mathlib.Omega.{arith}
 use lib.ListN.{length, take, drop, drop-of-length-le}
 use lib.Seq.{length-take-le}
 use borrow.Author.Tests.{le-leb, lt-leb}
-use Rattle.bindings.specs.Measures.{capped}
+use Rattle.slices.specs.Sums.{capped}
 use Rattle.message_writer.specs.Buffer.{over, Wrote}
 use Rattle.writer.specs.Room.{room, answered, buffered}
 use Rattle.writer.specs.declared.Fitting.the-variants.{Words, Refused}

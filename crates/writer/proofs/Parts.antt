@@ -13,10 +13,10 @@ use Rattle.sets.specs.Sets.{headOr, tail}
 use Rattle.scripts.specs.Tree.{ambient, action, receipt, output, close, part, kindNumber, tops, sum, parts, mapHeads, Plain}
 use Rattle.scripts.specs.Represents.{Held}
 use Rattle.bindings.specs.Resolve.{resolve}
-use Rattle.bindings.specs.Measures.{capped}
+use Rattle.slices.specs.Sums.{capped}
 use Rattle.held_bindings.specs.Sizes.{cappedItems}
 use Rattle.bindings.proofs.Resolving.{message-word}
-use Rattle.bindings.proofs.Counting.{capped-sum}
+use Rattle.slices.proofs.Capping.{capped-sum}
 use Rattle.closure_machine.specs.Closure.{ClosureHead, Closure, Bindings, itemsLeft, unfoldHead, unfolded}
 use Rattle.closures.specs.Represents.{headOf}
 use Rattle.closures.proofs.Heads.{by-kind, head-action, head-receipt}

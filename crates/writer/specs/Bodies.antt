@@ -7,7 +7,7 @@ use mathlib.Core.Path.{_≡_}
 use lib.ListN.{length, getD}
 use Rattle.scripts.specs.Tree.{Head, ambient, action, receipt, output, tops, parts, PlainHead}
 use Rattle.scripts.specs.Represents.{Held}
-use Rattle.bindings.specs.Measures.{capped}
+use Rattle.slices.specs.Sums.{capped}
 use Rattle.closure_machine.specs.Closure.{ClosureHead, Closure, Bindings, unfolded, unfoldHead}
 use Rattle.message_writer.specs.Write.{Indices, writeMessage, whole, write, writePart}
 use Rattle.message_writer.specs.Buffer.{Wrote}

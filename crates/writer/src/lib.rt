@@ -1,14 +1,14 @@
 // The tree writer: the words of the standing tree counted, then written at the front of a lent buffer. Each writer writes at
 // the front of the buffer that it is lent, says how many words it wrote, and lends the tail behind them to the next writer.
 // It rests on the promises of message_writer, closures and what is below.
-use bindings::sum;
-use bindings::tail;
-use bindings::wide;
 use held_bindings::item_words;
 use held_bindings::words_of;
 use message_writer::write_items;
 use message_writer::write_message;
 use message_writer::write_word;
+use slices::sum;
+use slices::tail;
+use slices::wide;
 ghost use mathlib.Core.Path.{_≡_};
 ghost use mathlib.Core.List.{List, []};
 ghost use Prim.Native.Nat.{ℕ, _+_, _≤_, _<_};
@@ -18,7 +18,8 @@ ghost use Rattle.messages.specs.Words.{word};
 ghost use Rattle.scripts.specs.Tree.{kindNumber, tops, parts};
 ghost use Rattle.scripts.specs.Represents.{Held, bodyIn};
 ghost use Rattle.bindings.specs.Resolve.{bindingsIn};
-ghost use Rattle.bindings.specs.Measures.{capped, Kept, itemCount};
+ghost use Rattle.slices.specs.Sums.{capped};
+ghost use Rattle.bindings.specs.Measures.{Kept, itemCount};
 ghost use Rattle.held_bindings.specs.Sizes.{Cached};
 ghost use Rattle.closure_machine.specs.Closure.{Closure, Bindings, unfoldHead, unfolded};
 ghost use Rattle.closures.specs.Represents.{headOf, heads};

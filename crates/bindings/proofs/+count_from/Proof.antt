@@ -17,8 +17,8 @@ use Rattle.bindings.proofs.count_from.Kinds as count-from-kinds
 use Rattle.bindings.proofs.+count_from.Lts-count_from as count-from-lts
 use Rattle.bindings.proofs.after_own.Reads as after-own-reads
 use Rattle.bindings.proofs.own.Reads as own-reads
-use Rattle.bindings.proofs.sum.Reads as sum-reads
-use Rattle.bindings.proofs.tail.Reads as tail-reads
+use Rattle.slices.proofs.sum.Reads as sum-reads
+use Rattle.slices.proofs.tail.Reads as tail-reads
 use Rattle.bindings.proofs.+count_from.{statement}
 use Rattle.bindings.proofs.+count_from.Tie.{close}
 

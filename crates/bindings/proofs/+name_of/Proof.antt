@@ -11,11 +11,11 @@ use borrow.Fn.PlainCycle.{Measures, is, falls, and}
 use Rattle.bindings.proofs.name_of.Reads as name-of
 use Rattle.bindings.proofs.name_of.Kinds as name-of-kinds
 use Rattle.bindings.proofs.+name_of.Lts-name_of as name-of-lts
-use Rattle.bindings.proofs.bound.Reads as bound-reads
-use Rattle.bindings.proofs.first_word.Reads as first-word-reads
-use Rattle.bindings.proofs.given.Reads as given-reads
-use Rattle.bindings.proofs.plain_name.Reads as plain-name-reads
-use Rattle.bindings.proofs.tail.Reads as tail-reads
+use Rattle.message_words.proofs.bound.Reads as bound-reads
+use Rattle.message_words.proofs.first_word.Reads as first-word-reads
+use Rattle.message_words.proofs.given.Reads as given-reads
+use Rattle.message_words.proofs.plain_name.Reads as plain-name-reads
+use Rattle.slices.proofs.tail.Reads as tail-reads
 use Rattle.bindings.proofs.+name_of.{statement}
 use Rattle.bindings.proofs.+name_of.Tie.{close}
 

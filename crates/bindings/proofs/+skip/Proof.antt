@@ -4,15 +4,16 @@ use mathlib.Core.Path.{ap}
 use native.Mathlib.Omega.{arith}
 use borrow.Author.Needs.{needs}
 use lib.ListN.{length, length-drop}
-use Rattle.bindings.proofs.Passing.{arity-small, skip-none, skip-some}
+use Rattle.message_words.proofs.FirstWords.{arity-small}
+use Rattle.bindings.proofs.Passing.{skip-none, skip-some}
 use borrow.Fn.Kinds.{In}
 use borrow.Fn.PlainCycle.{Measures, is, falls, and}
 use Rattle.bindings.proofs.skip.Reads as skip
 use Rattle.bindings.proofs.skip.Kinds as skip-kinds
 use Rattle.bindings.proofs.+skip.Lts-skip as skip-lts
-use Rattle.bindings.proofs.arity.Reads as arity-reads
-use Rattle.bindings.proofs.first_word.Reads as first-word-reads
-use Rattle.bindings.proofs.tail.Reads as tail-reads
+use Rattle.message_words.proofs.arity.Reads as arity-reads
+use Rattle.message_words.proofs.first_word.Reads as first-word-reads
+use Rattle.slices.proofs.tail.Reads as tail-reads
 use Rattle.bindings.proofs.+skip.{statement}
 use Rattle.bindings.proofs.+skip.Tie.{close}
 

@@ -3,8 +3,9 @@ use mathlib.Core.Path.{ap}
 use native.Mathlib.Omega.{arith}
 use borrow.Author.Needs.{needs}
 use lib.ListN.{length, length-drop}
-use Rattle.bindings.specs.Passes.{firstWord, shapeOf}
-use Rattle.bindings.proofs.Passing.{arity-small, room, split-first}
+use Rattle.message_words.specs.Words.{firstWord, shapeOf}
+use Rattle.message_words.proofs.FirstWords.{arity-small}
+use Rattle.bindings.proofs.Passing.{room, split-first}
 use Rattle.bindings.proofs.after_own.Statement.{statement}
 use Rattle.bindings.proofs.after_own.Tie as tie
 

@@ -5,7 +5,7 @@ use native.Mathlib.Omega.{arith}
 use borrow.Author.Needs.{needs}
 use lib.ListN.{length, drop, length-drop}
 use Rattle.messages.specs.Message.{Message}
-use Rattle.bindings.specs.Measures.{capped}
+use Rattle.slices.specs.Sums.{capped}
 use Rattle.bindings.proofs.Passing.{one-message}
 use Rattle.bindings.proofs.Counting.{kept-length}
 use Rattle.bindings.proofs.item_count.Statement.{statement}

@@ -7,7 +7,7 @@ use borrow.Author.Needs.{needs}
 use lib.ListN.{length}
 use Rattle.messages.specs.Message.{Message}
 use Rattle.bindings.specs.Resolve.{bindingsIn}
-use Rattle.bindings.specs.Measures.{capped}
+use Rattle.slices.specs.Sums.{capped}
 use Rattle.bindings.proofs.Passing.{unbound-free, given-items}
 use Rattle.bindings.proofs.Counting.{capped-shape, kept-given}
 use Rattle.bindings.proofs.own.Statement.{statement}

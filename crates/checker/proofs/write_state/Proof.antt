@@ -9,7 +9,7 @@ use Rattle.checker.proofs.write_state.Statement.{statement}
 use Rattle.checker.proofs.write_state.Tie as tie
 use Rattle.checker.proofs.write_state.Reads as reads
 use Rattle.checker.proofs.write_state.Lts as lts
-use Rattle.bindings.proofs.tail.Reads as tail-reads
+use Rattle.slices.proofs.tail.Reads as tail-reads
 use Rattle.writer.proofs.write_tree.Reads as write-tree-reads
 
 -- the bindings' arrays

@@ -9,11 +9,13 @@ use lib.ListN.{length, drop, getD, length-drop}
 use Rattle.messages.specs.Message.{Message}
 use Rattle.messages.specs.Spelling.{spelled}
 use Rattle.bindings.specs.Resolve.{bindingsIn}
-use Rattle.bindings.specs.Measures.{capped}
+use Rattle.slices.specs.Sums.{capped}
 use Rattle.held_bindings.specs.Sizes.{bulk}
-use Rattle.bindings.specs.Passes.{firstWord, firsts, allItems, ownItems}
+use Rattle.message_words.specs.Words.{firstWord}
+use Rattle.bindings.specs.Passes.{firsts, allItems, ownItems}
 use Rattle.bindings.proofs.Passing.{none-pending, one-message, unbound-free, single, given-items}
-use Rattle.bindings.proofs.Counting.{below-count, kept-length, kept-given, drop-past, drop-within, rank, rank-less, rank-older}
+use Rattle.slices.proofs.Capping.{below-count}
+use Rattle.bindings.proofs.Counting.{kept-length, kept-given, drop-past, drop-within, rank, rank-less, rank-older}
 use Rattle.held_bindings.proofs.Sizing.{cached-drop, one-size, bulk-none, bulk-sum, bulk-only}
 use borrow.Fn.Kinds.{In}
 use borrow.Fn.PlainCycle.{Measures, is, falls, and}
@@ -24,13 +26,13 @@ use Rattle.held_bindings.proofs.own_bulk.Reads as own-bulk
 use Rattle.held_bindings.proofs.own_bulk.Kinds as own-bulk-kinds
 use Rattle.held_bindings.proofs.+bulk_from+own_bulk.Lts-own_bulk as own-bulk-lts
 use Rattle.bindings.proofs.after_own.Reads as after-own-reads
-use Rattle.bindings.proofs.bound.Reads as bound-reads
-use Rattle.bindings.proofs.first_word.Reads as first-word-reads
-use Rattle.bindings.proofs.given.Reads as given-reads
+use Rattle.message_words.proofs.bound.Reads as bound-reads
+use Rattle.message_words.proofs.first_word.Reads as first-word-reads
+use Rattle.message_words.proofs.given.Reads as given-reads
 use Rattle.bindings.proofs.own.Reads as own-reads
 use Rattle.held_bindings.proofs.size_from.Reads as size-from-reads
-use Rattle.bindings.proofs.sum.Reads as sum-reads
-use Rattle.bindings.proofs.tail.Reads as tail-reads
+use Rattle.slices.proofs.sum.Reads as sum-reads
+use Rattle.slices.proofs.tail.Reads as tail-reads
 use Rattle.held_bindings.proofs.+bulk_from+own_bulk.{statement}
 use Rattle.held_bindings.proofs.+bulk_from+own_bulk.Tie.{close}
 

@@ -7,21 +7,22 @@ use borrow.Author.Needs.{needs}
 use lib.ListN.{length, drop}
 use Rattle.messages.specs.Spelling.{spelled}
 use Rattle.bindings.specs.Resolve.{bindingsIn}
-use Rattle.bindings.specs.Passes.{firstWord, firsts, arityOf}
+use Rattle.message_words.specs.Words.{firstWord, arityOf}
+use Rattle.bindings.specs.Passes.{firsts}
 use Rattle.held_bindings.specs.Sizes.{allSizes, ownSize}
 use Rattle.bindings.proofs.Passing.{room}
-use Rattle.bindings.proofs.Counting.{capped-sum}
+use Rattle.slices.proofs.Capping.{capped-sum}
 use Rattle.held_bindings.proofs.Sizing.{none-size, sizes-first}
 use borrow.Fn.Kinds.{In}
 use borrow.Fn.PlainCycle.{Measures, is, falls, and}
 use Rattle.held_bindings.proofs.size_from.Reads as size-from
 use Rattle.held_bindings.proofs.size_from.Kinds as size-from-kinds
 use Rattle.held_bindings.proofs.+size_from.Lts-size_from as size-from-lts
-use Rattle.bindings.proofs.arity.Reads as arity-reads
-use Rattle.bindings.proofs.first_word.Reads as first-word-reads
+use Rattle.message_words.proofs.arity.Reads as arity-reads
+use Rattle.message_words.proofs.first_word.Reads as first-word-reads
 use Rattle.held_bindings.proofs.own_size.Reads as own-size-reads
-use Rattle.bindings.proofs.sum.Reads as sum-reads
-use Rattle.bindings.proofs.tail.Reads as tail-reads
+use Rattle.slices.proofs.sum.Reads as sum-reads
+use Rattle.slices.proofs.tail.Reads as tail-reads
 use Rattle.held_bindings.proofs.+size_from.{statement}
 use Rattle.held_bindings.proofs.+size_from.Tie.{close}
 

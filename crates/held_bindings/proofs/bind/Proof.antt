@@ -6,7 +6,7 @@ use borrow.Author.Needs.{needs}
 use lib.ListN.{length}
 use Rattle.bindings.specs.Resolve.{bindingsIn}
 use Rattle.held_bindings.specs.Held.{bindingsOf}
-use Rattle.messages.proofs.Tails.{drop-set}
+use Rattle.slices.proofs.Tails.{drop-set}
 use Rattle.held_bindings.proofs.Sizing.{cached-more}
 use Rattle.held_bindings.proofs.bind.Statement.{statement}
 use Rattle.held_bindings.proofs.bind.Tie as tie

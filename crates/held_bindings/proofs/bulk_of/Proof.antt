@@ -4,7 +4,7 @@ use mathlib.Core.Path.{ap, _∙_}
 use borrow.Author.Needs.{needs}
 use lib.ListN.{drop}
 use Rattle.messages.specs.Message.{Message}
-use Rattle.bindings.specs.Measures.{capped}
+use Rattle.slices.specs.Sums.{capped}
 use Rattle.held_bindings.specs.Sizes.{bulk}
 use Rattle.bindings.proofs.Passing.{one-message}
 use Rattle.held_bindings.proofs.bulk_of.Statement.{statement}

@@ -7,7 +7,7 @@ use lib.ListN.{drop}
 use Rattle.messages.specs.Message.{Message, items}
 use Rattle.messages.specs.Spelling.{messageAt}
 use Rattle.bindings.specs.Resolve.{resolve, bindingsIn}
-use Rattle.bindings.specs.Measures.{capped}
+use Rattle.slices.specs.Sums.{capped}
 use Rattle.held_bindings.specs.Sizes.{bulk}
 use Rattle.bindings.proofs.Passing.{one-message}
 use Rattle.held_bindings.proofs.Sizing.{words-none, words-some}

@@ -3,7 +3,7 @@ use mathlib.Core.Path.{ap, _∙_}
 use native.Mathlib.Omega.{arith}
 use borrow.Author.Needs.{needs}
 use Rattle.bindings.specs.Resolve.{bindingsIn}
-use Rattle.bindings.specs.Measures.{capped}
+use Rattle.slices.specs.Sums.{capped}
 use Rattle.bindings.proofs.Passing.{unbound-free}
 use Rattle.bindings.proofs.Counting.{kept-given}
 use Rattle.held_bindings.proofs.Sizing.{given-size, capped-one}

@@ -3,7 +3,7 @@ use mathlib.Core.Path.{ap, _∙_}
 use native.Mathlib.Omega.{arith}
 use borrow.Author.Needs.{needs}
 use lib.ListN.{length, drop, length-drop}
-use Rattle.bindings.specs.Measures.{capped}
+use Rattle.slices.specs.Sums.{capped}
 use Rattle.bindings.proofs.Counting.{kept-length}
 use Rattle.held_bindings.proofs.Sizing.{one-size}
 use Rattle.held_bindings.proofs.words_of.Statement.{statement}

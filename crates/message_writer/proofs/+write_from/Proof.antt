@@ -7,7 +7,7 @@ use borrow.Author.Needs.{needs}
 use lib.ListN.{length, getD, length-drop}
 use Rattle.messages.specs.Spelling.{spelled}
 use Rattle.bindings.specs.Resolve.{bindingsIn}
-use Rattle.bindings.specs.Passes.{firstWord}
+use Rattle.message_words.specs.Words.{firstWord}
 use Rattle.bindings.proofs.Passing.{unbound-free, room}
 use Rattle.bindings.proofs.Counting.{rank, rank-less, rank-older}
 use Rattle.message_writer.specs.Indices.{indicesIn}
@@ -19,11 +19,11 @@ use borrow.Fn.PlainCycle.{Measures, is, falls, and}
 use Rattle.message_writer.proofs.write_from.Reads as write-from
 use Rattle.message_writer.proofs.write_from.Kinds as write-from-kinds
 use Rattle.message_writer.proofs.+write_from.Lts-write_from as write-from-lts
-use Rattle.bindings.proofs.arity.Reads as arity-reads
-use Rattle.bindings.proofs.bound.Reads as bound-reads
-use Rattle.bindings.proofs.first_word.Reads as first-word-reads
-use Rattle.bindings.proofs.given.Reads as given-reads
-use Rattle.bindings.proofs.tail.Reads as tail-reads
+use Rattle.message_words.proofs.arity.Reads as arity-reads
+use Rattle.message_words.proofs.bound.Reads as bound-reads
+use Rattle.message_words.proofs.first_word.Reads as first-word-reads
+use Rattle.message_words.proofs.given.Reads as given-reads
+use Rattle.slices.proofs.tail.Reads as tail-reads
 use Rattle.message_writer.proofs.plain_word.Reads as plain-word-reads
 use Rattle.message_writer.proofs.write_word.Reads as write-word-reads
 use Rattle.message_writer.proofs.+write_from.{statement}

@@ -9,9 +9,11 @@ use lib.ListN.{length, drop, getD, length-drop}
 use Rattle.messages.specs.Message.{Message}
 use Rattle.messages.specs.Spelling.{spelled}
 use Rattle.bindings.specs.Resolve.{bindingsIn}
-use Rattle.bindings.specs.Passes.{firstWord, firsts, allItems, ownItems}
+use Rattle.message_words.specs.Words.{firstWord}
+use Rattle.bindings.specs.Passes.{firsts, allItems, ownItems}
 use Rattle.bindings.proofs.Passing.{none-pending, one-message, unbound-free, single, given-items}
-use Rattle.bindings.proofs.Counting.{below-count, kept-length, kept-drop, drop-past, rank, rank-less, rank-older}
+use Rattle.slices.proofs.Capping.{below-count}
+use Rattle.bindings.proofs.Counting.{kept-length, kept-drop, drop-past, rank, rank-less, rank-older}
 use Rattle.message_writer.specs.Indices.{indicesIn}
 use Rattle.message_writer.specs.Passes.{strung}
 use Rattle.message_writer.proofs.Lending.{lent-length, joined-length, wrote-none, wrote-as, wrote-if, wrote-more}
@@ -26,11 +28,11 @@ use Rattle.message_writer.proofs.write_rest.Reads as write-rest
 use Rattle.message_writer.proofs.write_rest.Kinds as write-rest-kinds
 use Rattle.message_writer.proofs.+write_own+write_rest.Lts-write_rest as write-rest-lts
 use Rattle.bindings.proofs.after_own.Reads as after-own-reads
-use Rattle.bindings.proofs.bound.Reads as bound-reads
-use Rattle.bindings.proofs.first_word.Reads as first-word-reads
-use Rattle.bindings.proofs.given.Reads as given-reads
+use Rattle.message_words.proofs.bound.Reads as bound-reads
+use Rattle.message_words.proofs.first_word.Reads as first-word-reads
+use Rattle.message_words.proofs.given.Reads as given-reads
 use Rattle.bindings.proofs.own.Reads as own-reads
-use Rattle.bindings.proofs.tail.Reads as tail-reads
+use Rattle.slices.proofs.tail.Reads as tail-reads
 use Rattle.message_writer.proofs.less.Reads as less-reads
 use Rattle.message_writer.proofs.write_from.Reads as write-from-reads
 use Rattle.message_writer.proofs.write_link.Reads as write-link-reads

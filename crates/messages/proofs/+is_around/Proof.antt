@@ -10,7 +10,7 @@ use borrow.Author.Tests.{eq-eqb, ne-eqb}
 use borrow.Fn.Kinds.{In}
 use borrow.Fn.PlainCycle.{Measures, is, falls, and}
 use Rattle.messages.specs.Words.{member}
-use Rattle.messages.proofs.Tails.{no-element, first, part, part-drop, length-part}
+use Rattle.slices.proofs.Tails.{no-element, first, part, part-drop, length-part}
 use Rattle.messages.proofs.is_around.Reads as is-around
 use Rattle.messages.proofs.is_around.Kinds as is-around-kinds
 use Rattle.messages.proofs.+is_around.Lts-is_around as is-around-lts

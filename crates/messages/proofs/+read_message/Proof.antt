@@ -6,7 +6,7 @@ use lib.ListN.{length}
 use borrow.Author.Needs.{needs}
 use borrow.Fn.Kinds.{In}
 use borrow.Fn.PlainCycle.{Measures, is, falls, and}
-use Rattle.messages.proofs.Tails.{length-part}
+use Rattle.slices.proofs.Tails.{length-part}
 use Rattle.messages.proofs.Laws.{First, read-none, level, no-read, leaf-read, one-read, two-refused, first-bounds, two-read}
 use Rattle.messages.proofs.read_message.Reads as read-message
 use Rattle.messages.proofs.read_message.Kinds as read-message-kinds

@@ -7,7 +7,7 @@ use borrow.Author.Needs.{needs}
 use borrow.Fn.Kinds.{In}
 use borrow.Fn.PlainCycle.{Measures, is, falls, and}
 use Rattle.messages.specs.Words.{operand}
-use Rattle.messages.proofs.Tails.{length-part}
+use Rattle.slices.proofs.Tails.{length-part}
 use Rattle.rules.specs.ReadRule.{ruleKind}
 use Rattle.rules.specs.RuleWords.{asked}
 use Rattle.rule_reader.specs.declared.RuleTable.{RuleTable}

@@ -3,7 +3,7 @@ use native.Mathlib.Omega.{arith}
 use mathlib.Core.Path.{_≡_}
 use lib.ListN.{length}
 use borrow.Author.Needs.{needs}
-use Rattle.messages.proofs.Tails.{drop-set}
+use Rattle.slices.proofs.Tails.{drop-set}
 use Rattle.rule_reader.proofs.with_some.Statement.{statement}
 use Rattle.rule_reader.proofs.with_some.Tie as tie
 

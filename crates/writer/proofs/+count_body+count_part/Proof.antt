@@ -10,7 +10,7 @@ use Rattle.sets.specs.Sets.{members, tail}
 use Rattle.sets.proofs.Members.{first-is, first-below, not-none, members-empty}
 use Rattle.scripts.specs.Represents.{bodyIn}
 use Rattle.bindings.specs.Resolve.{bindingsIn}
-use Rattle.bindings.specs.Measures.{capped}
+use Rattle.slices.specs.Sums.{capped}
 use Rattle.closure_machine.specs.Closure.{ClosureHead, Bindings, unfolded}
 use Rattle.closures.specs.Represents.{heads}
 use Rattle.writer.proofs.Parts.{no-tops, no-parts, part-only, counts-inside, counts-more}
@@ -23,7 +23,7 @@ use Rattle.writer.proofs.+count_body+count_part.Lts-count_body as count
 use Rattle.writer.proofs.count_part.Reads as count-part
 use Rattle.writer.proofs.count_part.Kinds as count-part-kinds
 use Rattle.writer.proofs.+count_body+count_part.Lts-count_part as count-part-lts
-use Rattle.bindings.proofs.sum.Reads as sum-reads
+use Rattle.slices.proofs.sum.Reads as sum-reads
 use Rattle.sets.proofs.first.Reads as first-reads
 use Rattle.sets.proofs.rest.Reads as rest-reads
 use Rattle.writer.proofs.count_head.Reads as count-head-reads

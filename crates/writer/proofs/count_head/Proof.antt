@@ -5,7 +5,7 @@ use lib.ListN.{length, drop}
 use Rattle.messages.specs.Message.{items}
 use Rattle.messages.specs.Spelling.{messageAt}
 use Rattle.bindings.specs.Resolve.{resolve, bindingsIn}
-use Rattle.bindings.specs.Measures.{capped}
+use Rattle.slices.specs.Sums.{capped}
 use Rattle.held_bindings.specs.Sizes.{cappedItems}
 use Rattle.closures.specs.Represents.{headOf}
 use Rattle.message_writer.proofs.Words.{message-length, items-length}

@@ -3,7 +3,7 @@ use Prim.Native.Nat.{ℕ, _-_}
 use mathlib.Core.Path.{_∙_}
 use native.Mathlib.Omega.{arith}
 use lib.ListN.{length, drop}
-use Rattle.messages.proofs.Tails.{length-part}
+use Rattle.slices.proofs.Tails.{length-part}
 use Rattle.scripts.proofs.Steps.{BodyLoop, BodyOn, body-begins, body-ends, body-closes, body-hands, body-again, asked-front}
 use Rattle.scripts.proofs.+read_body+read_guarded+read_part.Lts-read_body as lts
 use Rattle.scripts.proofs.read_body.Reads as reads

@@ -4,8 +4,8 @@ use mathlib.Core.Path.{_≡_}
 use native.Mathlib.Omega.{arith}
 use borrow.Author.Needs.{needs}
 use lib.ListN.{length, drop}
-use Rattle.messages.proofs.Tails.{length-part}
-use Rattle.messages.proofs.Tails as Tails
+use Rattle.slices.proofs.Tails.{length-part}
+use Rattle.slices.proofs.Tails as Tails
 use Rattle.messages.proofs.Laws.{readOf}
 use Rattle.scripts.proofs.Steps.{lent, message-bounds, guarded-refused, guarded-law, entered-next}
 use Rattle.scripts.proofs.+read_body+read_guarded+read_part.Lts-read_guarded as lts

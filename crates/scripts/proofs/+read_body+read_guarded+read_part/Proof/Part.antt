@@ -4,8 +4,8 @@ use mathlib.Core.Path.{_≡_, refl, sym, _∙_}
 use native.Mathlib.Omega.{arith}
 use borrow.Author.Needs.{needs}
 use lib.ListN.{length, drop}
-use Rattle.messages.proofs.Tails.{length-part}
-use Rattle.messages.proofs.Tails as Tails
+use Rattle.slices.proofs.Tails.{length-part}
+use Rattle.slices.proofs.Tails as Tails
 use Rattle.messages.proofs.Laws.{readOf}
 use Rattle.scripts.proofs.Steps.{lent, entered-next, asked-nest, part-unfit, part-close, receipt-law, output-law, output-refused}
 use Rattle.scripts.specs.Script.{fits, partFrom}

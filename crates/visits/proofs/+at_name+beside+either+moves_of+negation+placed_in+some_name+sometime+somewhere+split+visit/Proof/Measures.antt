@@ -25,7 +25,7 @@ use Rattle.visits.proofs.sometime.Reads as sometime
 use Rattle.visits.proofs.somewhere.Reads as somewhere
 use Rattle.visits.proofs.split.Reads as split
 use Rattle.visits.proofs.visit.Reads as visit
-use Rattle.bindings.proofs.wide.Reads as wide-reads
+use Rattle.slices.proofs.wide.Reads as wide-reads
 use Rattle.sets.proofs.difference.Reads as difference-reads
 use Rattle.sets.proofs.first.Reads as first-reads
 use Rattle.sets.proofs.intersection.Reads as intersection-reads

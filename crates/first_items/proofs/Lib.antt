@@ -1,0 +1,2 @@
+-- The laws of `first_items`. Assumes nothing.
+mod Searching

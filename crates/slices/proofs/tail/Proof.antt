@@ -1,0 +1,40 @@
+-- `bindings::tail` meets its contract: past the end there is nothing. Assumes nothing.
+use Prim.Native.Nat.{ℕ, _<_}
+use mathlib.Core.List.{List, []}
+use mathlib.Core.Path.{_≡_, sym, _∙_}
+use native.Mathlib.Omega.{arith}
+use borrow.Author.Needs.{needs}
+use lib.ListN.{length, drop, drop-of-length-le}
+use Rattle.slices.proofs.Tails.{part, part-drop}
+use Rattle.slices.proofs.tail.Statement.{statement}
+use Rattle.slices.proofs.tail.Tie as tie
+
+past : (s : List ℕ) (at : ℕ) → length s < at → part s (length s) ≡ drop at s
+past s at h =
+    let e : drop at s ≡ [] = drop-of-length-le s {i = at} (omega arith) in
+    part-drop s (length s) ∙ drop-of-length-le s {i = length s} (omega arith) ∙ sym e
+
+returns : tie.Need-returns
+returns c =
+    let s = c .before .before in
+    part-drop (s .args .s .now) (s .args .at)
+
+returns-2 : tie.Need-returns-2
+returns-2 c =
+    let s = c .before .before in
+    past (s .args .s .now) (s .args .at) (c .before .if1 .left)
+
+pub tail-spec : {M : Type 1} → statement M
+tail-spec =
+    tie.close
+    (tie.spec
+    (λ c. search needs)
+    (λ c. search needs)
+    (λ c. search needs)
+    (λ c. search needs)
+    (λ c. search needs)
+    (λ c. search needs)
+    (λ c. search needs)
+    (λ c. search needs)
+    returns
+    returns-2)

@@ -1,0 +1,2 @@
+-- What the contracts of `slices` cite. Assumes nothing: these are definitions.
+pub mod Sums
