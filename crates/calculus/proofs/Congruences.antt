@@ -6,11 +6,12 @@ use mathlib.Core.Path.{_≡_, refl, sym, ap, ap₂, _∙_, subst}
 use native.Mathlib.Omega.{arith}
 use lib.Dec.{eqb}
 use borrow.Author.Tests.{eqb-true, ne-eqb}
-use Rattle.messages.specs.Message.{Message, name, variable, enter, exit, opens, empty, path, items}
+use Rattle.messages.specs.Message.{Message, name, variable, enter, exit, opens, empty, path, items, mentions}
 use Rattle.messages.specs.Message as message
 use Rattle.machine.proofs.Options.{byTest}
-use Rattle.calculus.specs.Calculus.{Process, 𝟎, _∣_, ambient, action, input, output, _≅_, Refl, Alpha, Symm, Trans, Par, Amb, Action, Input, ParComm, ParAssoc, ZeroPar, Null, Path, prefix, substitute, mentions, occurs}
-use Rattle.calculus.proofs.Variables.{eqb-same, eqb-flip, mentions-none, mentions-other, occurs-input, occurs-under, occurs-less}
+use Rattle.calculus.specs.Calculus.{Process, 𝟎, _∣_, ambient, action, input, output, _≅_, Refl, Alpha, Symm, Trans, Par, Amb, Action, Input, ParComm, ParAssoc, ZeroPar, Null, Path, prefix, substitute, occurs}
+use Rattle.messages.proofs.Mentioning.{mentions-none, mentions-other}
+use Rattle.calculus.proofs.Variables.{eqb-same, eqb-flip, occurs-input, occurs-under, occurs-less}
 use Rattle.calculus.proofs.Shapes.{Tag, place, can, hear, say, Shape, nil, cell, _⊕_, chain, Pick, here, there, Same, done, match, same-refl, same-trans, same-sym, same-append, same-eq, append-nil, append-assoc, append-comm, chain-append, chain-same}
 
 -- the message with its variables renamed

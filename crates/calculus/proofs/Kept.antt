@@ -7,7 +7,7 @@ use mathlib.Core.Option.{some}
 use native.Mathlib.Omega.{arith}
 use lib.Dec.{eqb, ltb}
 use borrow.Author.Tests.{eqb-true, ne-eqb}
-use Rattle.messages.specs.Message.{Message, name, variable, enter, exit, opens, empty, path, items, substituteItems}
+use Rattle.messages.specs.Message.{Message, name, variable, enter, exit, opens, empty, path, items, substituteItems, mentions}
 use Rattle.messages.specs.Message as message
 use Rattle.scripts.specs.Tree.{Head, close, part, one, isAmbient, sum, count, put, merge, settleBy, bare, PlainHead, Plain, settle}
 use Rattle.machine.specs.Moves.{Moved, spentHead}
@@ -17,7 +17,7 @@ use Rattle.machine.proofs.Inversion.{move-inv}
 use Rattle.machine.proofs.Sums.{map-sum, Shrinks, made-sum, move-sum}
 use Rattle.calculus.specs.Satisfaction.{Divided, wrapped}
 use Rattle.calculus.specs.Order.{Part}
-use Rattle.calculus.specs.Calculus.{ambient, piece, process, mentions}
+use Rattle.calculus.specs.Calculus.{ambient, piece, process}
 use Rattle.calculus.proofs.Variables.{free}
 use Rattle.calculus.proofs.Substitutions.{Closed, closed-cong, closed-both, closed-ambient, reduction-closed}
 use Rattle.calculus.proofs.Divisions.{Item, Settled, closed, settled-ambient, SettledPart, ambient-part, action-part, receipt-part, output-part, settled-part, settled-rest, settled-join, settled-inside, divided-settled, divided-congruent}

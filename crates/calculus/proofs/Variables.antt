@@ -6,24 +6,17 @@ use mathlib.Core.Path.{_≡_, refl, sym, ap, ap₂, _∙_, subst}
 use native.Mathlib.Omega.{arith}
 use lib.Dec.{eqb}
 use borrow.Author.Tests.{eqb-true, eqb-false, eq-eqb, ne-eqb}
-use Rattle.messages.specs.Message.{Message, name, variable, enter, exit, opens, empty, path}
+use Rattle.messages.specs.Message.{Message, name, variable, enter, exit, opens, empty, path, mentions}
 use Rattle.messages.specs.Message as message
+use Rattle.messages.proofs.Mentioning.{mentions-none, mentions-other}
 use Rattle.machine.proofs.Options.{byTest}
-use Rattle.calculus.specs.Calculus.{Process, 𝟎, _∣_, ambient, action, input, output, substitute, mentions, occurs}
+use Rattle.calculus.specs.Calculus.{Process, 𝟎, _∣_, ambient, action, input, output, substitute, occurs}
 
 pub eqb-same : (x : ℕ) → eqb x x ≡ true
 eqb-same x = eq-eqb x x refl
 
 pub eqb-flip : (x y : ℕ) → eqb x y ≡ false → eqb y x ≡ false
 eqb-flip x y e = ne-eqb y x (λ g. eqb-false x y e (sym g))
-
-pub mentions-none : (u v : ℕ) → mentions v (variable u) ≡ 0 → eqb u v ≡ false
-unfolding mentions
-mentions-none u v z = byTest (eqb u v) (λ t. let f : _≡_ {A = ℕ} 1 0 = rw t at z in absurd (omega arith)) (λ t. t)
-
-pub mentions-other : (u v : ℕ) → eqb u v ≡ false → mentions v (variable u) ≡ 0
-unfolding mentions
-mentions-other u v e = rw e
 
 message-absent : (y : ℕ) (r m : Message) → mentions y m ≡ 0 → message.substitute y r m ≡ m
 unfolding message.substitute mentions

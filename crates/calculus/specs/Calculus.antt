@@ -6,7 +6,7 @@ use mathlib.Core.List.{List, [], _∷_}
 use mathlib.Core.Path.{_≡_}
 use mathlib.Core.Logic.{_⊎_}
 use lib.Dec.{eqb}
-use Rattle.messages.specs.Message.{Message, name, variable, enter, exit, opens, empty, path}
+use Rattle.messages.specs.Message.{Message, name, variable, enter, exit, opens, empty, path, mentions}
 use Rattle.messages.specs.Message as message
 use Rattle.scripts.specs.Tree.{Head, close, part, PlainHead, Plain}
 use Rattle.rules.specs.Rule.{Names, termName, Rule, always, negation, either, void, at, beside, some-name, sometime, somewhere, placed}
@@ -33,17 +33,7 @@ substitute x m (action n p) = action (message.substitute x m n) (substitute x m 
 substitute x m (input y p) = cond (eqb y x) (input y p) (input y (substitute x m p))
 substitute x m (output n) = output (message.substitute x m n)
 
--- how often a variable stands in a message
-unfoldable pub mentions : ℕ → Message → ℕ
-mentions v (name n) = 0
-mentions v (variable u) = cond (eqb u v) 1 0
-mentions v (enter m) = mentions v m
-mentions v (exit m) = mentions v m
-mentions v (opens m) = mentions v m
-mentions v empty = 0
-mentions v (path m k) = mentions v m + mentions v k
-
--- how often it stands in a process, free or bound
+-- how often a variable stands in a process, free or bound
 unfoldable pub occurs : ℕ → Process → ℕ
 occurs v 𝟎 = 0
 occurs v (p ∣ q) = occurs v p + occurs v q
@@ -121,5 +111,5 @@ process (part k h b r) = piece h (process b) ∣ process r
 
 -- To unfold this is to unfold every definition of this module: for a proof by computation.
 unfoldable pub computing : Unit {0}
-unfolding substitute mentions occurs Satisfies prefix piece process
+unfolding substitute occurs Satisfies prefix piece process
 computing = tt

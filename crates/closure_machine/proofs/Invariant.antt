@@ -8,7 +8,8 @@ use mathlib.Core.Option.{some}
 use native.Mathlib.Omega.{arith}
 use lib.Dec.{eqb}
 use borrow.Author.Tests.{eqb-false, eq-eqb}
-use Rattle.messages.specs.Message.{Message, name, variable, enter, exit, opens, empty, path}
+use Rattle.messages.specs.Message.{Message, name, variable, enter, exit, opens, empty, path, mentions}
+use Rattle.messages.proofs.Mentioning.{mentions-none}
 use Rattle.messages.specs.declared.Named.the-variants.{Called}
 use Rattle.scripts.specs.Tree.{ambient, action, receipt, output, part, one}
 use Rattle.machine.specs.Moves.{Moved, headName}
@@ -16,35 +17,25 @@ use Rattle.bindings.proofs.Substitution.{Fresh, New}
 use Rattle.closure_machine.specs.Closure.{Action, ClosureHead, Closure, Bindings, under, settleUnder, closureMove}
 use Rattle.closure_machine.proofs.Tallies.{Tally, of, of-part, named-open, of-settle, Takes, Step, spends, takes, move-step}
 
--- how often a variable stands in a message
-unfoldable pub uses : ℕ → Message → ℕ
-uses v (name n) = 0
-uses v (variable u) = one (eqb u v)
-uses v (enter m) = uses v m
-uses v (exit m) = uses v m
-uses v (opens m) = uses v m
-uses v empty = 0
-uses v (path m k) = uses v m + uses v k
-
 one-none : (t : Bool) → one t ≡ 0 → t ≡ false
 one-none true e = absurd (omega arith)
 one-none false e = refl
 
-pub uses-none : (v : ℕ) (m : Message) → uses v m ≡ 0 → Fresh v m
-unfolding uses Fresh
-uses-none v (name n) z = tt
-uses-none v (variable u) z = eqb-false u v (one-none (eqb u v) z)
-uses-none v (enter m) z = uses-none v m z
-uses-none v (exit m) z = uses-none v m z
-uses-none v (opens m) z = uses-none v m z
-uses-none v empty z = tt
-uses-none v (path m k) z = (uses-none v m (omega arith), uses-none v k (omega arith))
+pub mentions-fresh : (v : ℕ) (m : Message) → mentions v m ≡ 0 → Fresh v m
+unfolding mentions Fresh
+mentions-fresh v (name n) z = tt
+mentions-fresh v (variable u) z = eqb-false u v (mentions-none u v z)
+mentions-fresh v (enter m) z = mentions-fresh v m z
+mentions-fresh v (exit m) z = mentions-fresh v m z
+mentions-fresh v (opens m) z = mentions-fresh v m z
+mentions-fresh v empty z = tt
+mentions-fresh v (path m k) z = (mentions-fresh v m (omega arith), mentions-fresh v k (omega arith))
 
-abbrev pub usesIn : ℕ → ClosureHead → ℕ
-usesIn v (ambient m) = uses v m
-usesIn v (action a) = uses v (a .message)
-usesIn v (receipt u) = 0
-usesIn v (output m) = uses v m
+abbrev pub mentionsIn : ℕ → ClosureHead → ℕ
+mentionsIn v (ambient m) = mentions v m
+mentionsIn v (action a) = mentions v (a .message)
+mentionsIn v (receipt u) = 0
+mentionsIn v (output m) = mentions v m
 
 -- a receipt of that variable
 abbrev pub receives : ℕ → ClosureHead → Bool
@@ -74,7 +65,7 @@ receipts v = record {
 -- how often it is used outside its receipts, with the items that are spent inside them
 abbrev pub loose : ℕ → Tally
 loose v = record {
-  own = λ k h. usesIn v h;
+  own = λ k h. mentionsIn v h;
   shut = receives v;
   guarded = λ k h. spentIn h;
   ambients = λ m. refl;
@@ -119,7 +110,7 @@ module _ (b c : Closure) (news : Bindings) (x : Takes b c news) where
   pub bound-received : 1 ≤ of (receipts (x .bound)) b
   bound-received = omega (arith, ap one (received-self (x .bound)), receipts-taken (x .bound))
 
-  loose-taken : (u : ℕ) → eqb u (x .bound) ≡ false → of (loose u) c + uses u (x .sent) ≤ of (loose u) b
+  loose-taken : (u : ℕ) → eqb u (x .bound) ≡ false → of (loose u) c + mentions u (x .sent) ≤ of (loose u) b
   loose-taken u t = omega (arith, rw t at (x .law (loose u)))
 
   good-takes : (σ : Bindings) → Good σ b → Good ((x .bound, x .sent) ∷ σ) c
@@ -127,7 +118,7 @@ module _ (b c : Closure) (news : Bindings) (x : Takes b c news) where
   good-takes σ G = record {
     once = λ v. omega (arith, receipts-taken v, G .once v);
     apart = λ v n. omega (arith, loose-taken v (other v n), G .apart v (before v n));
-    new = λ v n. (λ e. eqb-false v (x .bound) (other v n) (sym e), uses-none v (x .sent) (omega (arith, loose-taken v (other v n), G .apart v (before v n))), G .new v (before v n));
+    new = λ v n. (λ e. eqb-false v (x .bound) (other v n) (sym e), mentions-fresh v (x .sent) (omega (arith, loose-taken v (other v n), G .apart v (before v n))), G .new v (before v n));
   }
     where
       before : (v : ℕ) → 1 ≤ of (receipts v) c → 1 ≤ of (receipts v) b

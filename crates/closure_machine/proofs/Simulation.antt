@@ -9,7 +9,7 @@ use native.Mathlib.Omega.{arith}
 use lib.Dec.{eqb, leb}
 use lib.ListN.{length, drop as skip}
 use borrow.Author.Tests.{le-leb, lt-leb}
-use Rattle.messages.specs.Message.{Message, items, nameOf, firstItem, substitute}
+use Rattle.messages.specs.Message.{Message, items, nameOf, firstItem, substitute, mentions}
 use Rattle.messages.specs.declared.Named.{Named}
 use Rattle.messages.specs.declared.Named.the-variants.{Called, Nameless}
 use Rattle.messages.specs.declared.First.{First}
@@ -23,7 +23,7 @@ use Rattle.machine.specs.PlainMachine.{rest, substituteHead, substituteBody, pl
 use Rattle.machine.proofs.Naturality.{renamed, asked, mapHead, isAmbient-map, Translates, named-map, merge-map, settle-map, receive-map, here-map, anywhere-map}
 use Rattle.closure_machine.specs.Closure.{Action, ClosureHead, Closure, Bindings, itemsLeft, under, allSpent, settleUnder, settledUnder, closureMove, unfoldHead, unfolded, plainNews, unfoldedMove}
 use Rattle.closure_machine.proofs.Tallies.{of, of-drop, of-find, of-part, named-open, Step, spends, takes, makes-step}
-use Rattle.closure_machine.proofs.Invariant.{uses, uses-none, usesIn, receives, spentIn, receipts, loose, Good, not-received, received-self, good-inside, good-rest, bound-received}
+use Rattle.closure_machine.proofs.Invariant.{mentions-fresh, mentionsIn, receives, spentIn, receipts, loose, Good, not-received, received-self, good-inside, good-rest, bound-received}
 
 -- Unfolding is a change of heads as Naturality has them.
 abbrev U : Bindings → ClosureHead → PlainHead
@@ -78,11 +78,11 @@ translates σ = record {
 -- WHAT A NEW BINDING DOES.
 module _ (v : ℕ) (r : Message) (σ : Bindings) where
   -- where its variable is not used: nothing
-  still : (m : Message) → uses v m ≡ 0 → resolve ((v, r) ∷ σ) m ≡ resolve σ m
+  still : (m : Message) → mentions v m ≡ 0 → resolve ((v, r) ∷ σ) m ≡ resolve σ m
   unfolding resolve
-  still m z = ap (resolve σ) (substitute-fresh v r m (uses-none v m z))
+  still m z = ap (resolve σ) (substitute-fresh v r m (mentions-fresh v m z))
 
-  still-head : (h : ClosureHead) → usesIn v h ≡ 0 → U ((v, r) ∷ σ) h ≡ U σ h
+  still-head : (h : ClosureHead) → mentionsIn v h ≡ 0 → U ((v, r) ∷ σ) h ≡ U σ h
   unfolding mapHead itemsLeft
   still-head (ambient m) z = ap ambient (still m z)
   still-head (action a) z = ap (λ (m : Message). action (skip (a .offset) (items m))) (still (a .message) z)
@@ -94,7 +94,7 @@ module _ (v : ℕ) (r : Message) (σ : Bindings) where
   still-body close c z = refl
   still-body (part i h b s) c z =
       let o : receives v h ≡ false = not-received v h (omega arith) in
-      let w : usesIn v h + (of (loose v) b + of (loose v) s) ≡ 0 = rw o at z in
+      let w : mentionsIn v h + (of (loose v) b + of (loose v) s) ≡ 0 = rw o at z in
       rw (still-head h (omega arith), still-body b (omega arith) (omega arith), still-body s (omega arith) (omega arith))
 
   -- inside its receipt: it substitutes
@@ -162,7 +162,7 @@ module _ (σ : Bindings) where
       let z = G .once v in
       let w = G .apart v (omega arith) in
       let o : receives v h ≡ false = not-received v h (omega arith) in
-      let u : usesIn v h + (of (loose v) b + of (loose v) r) ≡ 0 = rw o at w in
+      let u : mentionsIn v h + (of (loose v) b + of (loose v) r) ≡ 0 = rw o at w in
       rw (x .told) (sym (still-head v (x .sent) σ h (omega arith)), sym (still-body v (x .sent) σ b (omega arith) (omega arith)))
 
   unfold-anywhere : (a t : ℕ) (b : Closure) → Good σ b → anywhere plain (moveHere plain a t) (mapHeads (U σ) b) ≡ Option·map (K σ) (anywhere (under σ) (moveHere (under σ) a t) b)

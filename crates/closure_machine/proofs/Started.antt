@@ -9,7 +9,8 @@ use lib.Dec.{eqb}
 use borrow.Author.Tests.{ne-eqb}
 use Rattle.messages.specs.Words.{member}
 use Rattle.messages.specs.Reading.{Cursor, got, nextPart}
-use Rattle.messages.specs.Message.{Message}
+use Rattle.messages.specs.Message.{Message, mentions}
+use Rattle.messages.proofs.Mentioning.{mentions-other}
 use Rattle.messages.proofs.Readings.{Next}
 use Rattle.messages.proofs.Cases as message
 use Rattle.scripts.specs.Tree.{Head, ambient, action, receipt, output, close, part, one, sum, count, mapHeads, settle}
@@ -23,7 +24,7 @@ use Rattle.machine.proofs.Options.{byTest}
 use Rattle.machine.proofs.Sums.{map-sum}
 use Rattle.closure_machine.specs.Closure.{itemsLeft, settleUnder, unfoldHead, unfolded, wholeHead, closureOf}
 use Rattle.closure_machine.proofs.Tallies.{of}
-use Rattle.closure_machine.proofs.Invariant.{uses, usesIn, receives, spentIn, receipts, loose, Good, good-settled}
+use Rattle.closure_machine.proofs.Invariant.{mentionsIn, receives, spentIn, receipts, loose, Good, good-settled}
 use Rattle.closure_machine.proofs.Simulation.{settle-unfolded}
 
 -- ---- what it unfolds to
@@ -50,18 +51,18 @@ closure-started b = sym (settle-unfolded [] (closureOf b)) ∙ ap settle (closur
 -- a message that is read uses only the variables around it
 record Known (around : List ℕ) (c : Cursor) (p : Message × Cursor) : Type 0 where
   rises : c .index ≤ p .1 .index
-  bound : (v : ℕ) → member v around ≡ false → uses v (p .0) ≡ 0
+  bound : (v : ℕ) → member v around ≡ false → mentions v (p .0) ≡ 0
 
 true≢false : {B : Type 0} → true ≡ false → B
 true≢false e = let z : _≡_ {A = ℕ} 0 1 = cc in absurd (let w : ⊥ = omega arith in w)
 
 message-known : message.Cases Known
-unfolding uses
+unfolding mentions
 message-known = record {
   names = λ around c q n x e. record { rises = omega (arith, x .index); bound = λ v d. refl };
   variables = λ around c q v x e. record {
     rises = omega (arith, x .index);
-    bound = λ u d. ap one (ne-eqb v u (λ y. true≢false (sym e ∙ ap (λ (z : ℕ). member z around) y ∙ d)));
+    bound = λ u d. mentions-other v u (ne-eqb v u (λ y. true≢false (sym e ∙ ap (λ (z : ℕ). member z around) y ∙ d)));
   };
   wraps = λ around c q p x h.
       let k : c .index ≤ p .1 .index = omega (arith, x .index, h .rises) in (
@@ -92,7 +93,7 @@ none-bound around c d l = record {
 -- a part that is no receipt
 module _ (around : List ℕ) (c : Cursor) (q : ℕ × Cursor) (x : Next c q) (m : Message × Cursor) (k : Known around (nextPart (q .1)) m) where
   with-message : (h : Head Message) (b r : Script × Cursor) → Bound around (m .1) b → Bound around (b .1) r →
-      ((v : ℕ) → receives v (wholeHead h) ≡ false) → spentIn (wholeHead h) ≡ 0 → ((v : ℕ) → usesIn v (wholeHead h) ≡ uses v (m .0)) →
+      ((v : ℕ) → receives v (wholeHead h) ≡ false) → spentIn (wholeHead h) ≡ 0 → ((v : ℕ) → mentionsIn v (wholeHead h) ≡ mentions v (m .0)) →
       Bound around c (part (c .number) (body.at (c .index) h) (b .0) (r .0), r .1)
   unfolding closureOf mapHeads sum of
   with-message h b r B R n z u = record {

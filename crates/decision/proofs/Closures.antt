@@ -5,7 +5,7 @@ use mathlib.Core.List.{List, [], _++_}
 use mathlib.Core.Path.{_≡_, refl, ap, _∙_, subst}
 use mathlib.Core.Option.{Option, none, some, Option·map}
 use native.Mathlib.Omega.{arith}
-use Rattle.messages.specs.Message.{Message, name}
+use Rattle.messages.specs.Message.{Message, name, mentions}
 use Rattle.messages.specs.declared.Named.the-variants.{Called}
 use Rattle.scripts.specs.Tree.{ambient, action, receipt, output, close, part, mapHeads, Plain}
 use Rattle.bindings.proofs.Resolving.{resolve-name}
@@ -17,7 +17,7 @@ use Rattle.rules.specs.Rule.{Rule}
 use Rattle.calculus.specs.Satisfaction.{wrapped}
 use Rattle.closure_machine.specs.Closure.{Action, ClosureHead, Closure, Bindings, under, closureMove, unfoldHead, unfolded, unfoldedMove, ClosureMachine}
 use Rattle.closure_machine.proofs.Tallies.{Tally, of}
-use Rattle.closure_machine.proofs.Invariant.{uses, Good, good-less, good-inside, good-rest, move-good}
+use Rattle.closure_machine.proofs.Invariant.{Good, good-less, good-inside, good-rest, move-good}
 use Rattle.closure_machine.proofs.Simulation.{unfold-move}
 use Rattle.decision.specs.Walk.{Setting, walkFrom}
 use Rattle.decision.specs.PlainWalk.{bodyAfter, plainSpace}
@@ -100,7 +100,7 @@ nexts-unfolded limit σ b G = order-pairwise Unfolds limit _ _
 
 -- PLACED
 good-wrapped : (σ : Bindings) (k n : ℕ) (b : Closure) → Good σ b → Good σ (part k (ambient (name n)) b close)
-unfolding of uses
+unfolding of mentions
 good-wrapped σ k n b G = record {
   once = λ v. omega (arith, G .once v);
   apart = λ v i. omega (arith, G .apart v (omega arith));

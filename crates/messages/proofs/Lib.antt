@@ -4,3 +4,4 @@ pub mod Laws
 pub mod Cases
 pub mod Spells
 pub mod Places
+pub mod Mentioning

@@ -1,6 +1,6 @@
 -- Messages (document 01, "The script and its messages"): what they are, their items, what a name is, and substitution.
 -- Assumes nothing: these are definitions.
-use Prim.Native.Nat.{ℕ}
+use Prim.Native.Nat.{ℕ, _+_}
 use mathlib.Core.Bool.{cond}
 use mathlib.Core.List.{List, [], _∷_, _++_}
 use lib.Dec.{eqb}
@@ -68,7 +68,17 @@ unfoldable pub substituteItems : (v : ℕ) → Message → List Message → List
 substituteItems v r [] = []
 substituteItems v r (m ∷ ms) = items (substitute v r m) ++ substituteItems v r ms
 
+-- how often a variable stands in a message
+unfoldable pub mentions : ℕ → Message → ℕ
+mentions v (name n) = 0
+mentions v (variable u) = cond (eqb u v) 1 0
+mentions v (enter m) = mentions v m
+mentions v (exit m) = mentions v m
+mentions v (opens m) = mentions v m
+mentions v empty = 0
+mentions v (path m k) = mentions v m + mentions v k
+
 -- To unfold this is to unfold every definition of this module: for a proof by computation.
 unfoldable pub computing : Unit {0}
-unfolding items nameOf asks firstItem substitute substituteItems
+unfolding items nameOf asks firstItem substitute substituteItems mentions
 computing = tt

@@ -9,7 +9,7 @@ use lib.Dec.{eqb}
 use borrow.Author.Tests.{eqb-false, ne-eqb}
 use Rattle.messages.specs.Words.{member}
 use Rattle.messages.specs.Reading.{Cursor, got, nextPart}
-use Rattle.messages.specs.Message.{Message, items}
+use Rattle.messages.specs.Message.{Message, items, mentions}
 use Rattle.messages.proofs.Readings.{Next}
 use Rattle.messages.proofs.Cases as message
 use Rattle.scripts.specs.Tree.{Head, close, part, one, sum, parts, count, mapHeads, bare, settle}
@@ -19,8 +19,9 @@ use Rattle.scripts.proofs.Cases as body
 use Rattle.scripts.proofs.Tabled.{script-tabled, script-number}
 use Rattle.machine.proofs.Options.{byTest}
 use Rattle.machine.proofs.Sums.{map-sum, settle-sum}
-use Rattle.calculus.specs.Calculus.{Process, _∣_, action, input, piece, process, prefix, mentions}
-use Rattle.calculus.proofs.Variables.{free, free-same, free-other, mentions-other}
+use Rattle.calculus.specs.Calculus.{Process, _∣_, action, input, piece, process, prefix}
+use Rattle.messages.proofs.Mentioning.{mentions-other}
+use Rattle.calculus.proofs.Variables.{free, free-same, free-other}
 use Rattle.calculus.proofs.Congruences.{action-items}
 use Rattle.calculus.proofs.Substitutions.{free-cong, closed-cong}
 use Rattle.calculus.proofs.Processes.{binds, bindings, settle-process}
