@@ -26,7 +26,7 @@ use Rattle.closures.specs.Represents.{heads, boundIn, Represents}
 use Rattle.lent_states.specs.Lent.{stretch, kindsIn, startsIn, stateIn}
 use Rattle.lent_states.proofs.Copying.{length-stretch}
 use Rattle.stages.specs.Pieces.{Piece}
-use Rattle.stages.specs.Visits.{indices, Chosen, Stage, nameSaid, Lendable, Scene}
+use Rattle.stages.specs.Visits.{indices, Chosen, Stage, nameSaid, Lendable, Visitable, Scene}
 use Rattle.stages.specs.declared.Limits.{Limits}
 use Rattle.stages.proofs.Focused.{ready-top, stage-piece}
 use Rattle.stages.proofs.Targeted.{move-low}
@@ -300,3 +300,15 @@ lendable-top script sets numbers top m L = record {
   small = L .small;
   ready = ready-top script (kindsIn numbers) (startsIn numbers) (stateIn sets numbers top) (stretch 0 65 sets) m (L .ready);
 }
+
+-- what a visit asks still holds with other top parts, on another state, and inside a SOME more
+
+module _ {script sets numbers : List ℕ} {top somes : ℕ} {limits : Limits} (ok : Visitable script sets numbers top somes limits) where
+  pub visitable-top : (m : ℕ) → Visitable script sets numbers m somes limits
+  visitable-top m = record { few-somes = ok .few-somes; few-numbers = ok .few-numbers; few-parts = ok .few-parts; small-names = ok .small-names; state = lendable-top script sets numbers top m (ok .state) }
+
+  pub visitable-state : {sets′ numbers′ : List ℕ} {top′ : ℕ} → Lendable script sets′ numbers′ top′ → Visitable script sets′ numbers′ top′ somes limits
+  visitable-state L = record { few-somes = ok .few-somes; few-numbers = ok .few-numbers; few-parts = ok .few-parts; small-names = ok .small-names; state = L }
+
+  pub visitable-some : somes < 8 → Visitable script sets numbers top (somes + 1) limits
+  visitable-some h = record { few-somes = omega arith; few-numbers = ok .few-numbers; few-parts = ok .few-parts; small-names = ok .small-names; state = ok .state }

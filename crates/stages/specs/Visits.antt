@@ -86,6 +86,15 @@ pub record Lendable (script sets numbers : List ℕ) (top : ℕ) : Type 0 where
   pub small : Small numbers
   pub ready : Ready script (kindsIn numbers) (startsIn numbers) (stateIn sets numbers top)
 
+-- What a visit asks of what it is lent: no more SOMEs around than question 10 lets in, no more parts and no greater names than
+-- those of a call, and a state.
+pub record Visitable (script sets numbers : List ℕ) (top somes : ℕ) (limits : Limits) : Type 0 where
+  pub few-somes : somes ≤ 8
+  pub few-numbers : limits .limit ≤ 64
+  pub few-parts : limits .parts ≤ 64
+  pub small-names : limits .greatest < 268435456
+  pub state : Lendable script sets numbers top
+
 -- `program` has the rule's words, from 256 on the starts of right rules, and from 512 on the places among the PLACED words
 pub record Loaded (program words : List ℕ) (table : RuleTable) : Type 0 where
   pub word : (i : ℕ) → i < length words → getD program i 0 ≡ getD words i 0

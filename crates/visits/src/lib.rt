@@ -21,7 +21,7 @@ use walk::void_rule;
 use walk::with_name;
 ghost use Prim.Native.Nat.{_+_, _-_, _≤_, _<_};
 ghost use Rattle.closures.specs.Represents.{Ready};
-ghost use Rattle.stages.specs.Visits.{Lendable, Visits as Answers, Looks as Finds, Splits, Tries, Walks};
+ghost use Rattle.stages.specs.Visits.{Visitable, Visits as Answers, Looks as Finds, Splits, Tries, Walks};
 
 // A visit at the word of the spot, whose depth is among the depths left.
 fn visit<'a>(
@@ -34,7 +34,7 @@ fn visit<'a>(
     limits: Limits,
     c: Counts,
 ) -> Walked
-    requires { ⌜ (spot .left ≤ 256) × (spot .somes ≤ 8) × (limits .limit ≤ 64) × (limits .parts ≤ 64) × (limits .greatest < 268435456) × Lendable (now script) (now sets) (now numbers) (spot .top) ⌝ }
+    requires { ⌜ (spot .left ≤ 256) × Visitable (now script) (now sets) (now numbers) (spot .top) (spot .somes) limits ⌝ }
     ensures { λ r. ⌜ Answers (now (program .entry)) (now (script .entry)) (now (sets .entry)) (now (numbers .entry)) (now (chosen .entry)) (spot .top) (spot .somes) (spot .left) (spot .at) limits c r ⌝ }
 {
     let visits = c.visits;
@@ -79,7 +79,7 @@ fn negation<'a>(
     limits: Limits,
     c: Counts,
 ) -> Walked
-    requires { ⌜ (spot .at < 256) × (spot .left ≤ 255) × (spot .somes ≤ 8) × (limits .limit ≤ 64) × (limits .parts ≤ 64) × (limits .greatest < 268435456) × Lendable (now script) (now sets) (now numbers) (spot .top) ⌝ }
+    requires { ⌜ (spot .at < 256) × (spot .left ≤ 255) × Visitable (now script) (now sets) (now numbers) (spot .top) (spot .somes) limits ⌝ }
     ensures { λ r. ⌜ Finds (now (program .entry)) (now (script .entry)) (now (sets .entry)) (now (numbers .entry)) (now (chosen .entry)) (spot .top) (spot .somes) (spot .left) (spot .at) limits c r 1 ⌝ }
 {
     let mut inner = spot;
@@ -99,7 +99,7 @@ fn either<'a>(
     limits: Limits,
     c: Counts,
 ) -> Walked
-    requires { ⌜ (spot .at < 256) × (spot .left ≤ 255) × (spot .somes ≤ 8) × (limits .limit ≤ 64) × (limits .parts ≤ 64) × (limits .greatest < 268435456) × Lendable (now script) (now sets) (now numbers) (spot .top) ⌝ }
+    requires { ⌜ (spot .at < 256) × (spot .left ≤ 255) × Visitable (now script) (now sets) (now numbers) (spot .top) (spot .somes) limits ⌝ }
     ensures { λ r. ⌜ Finds (now (program .entry)) (now (script .entry)) (now (sets .entry)) (now (numbers .entry)) (now (chosen .entry)) (spot .top) (spot .somes) (spot .left) (spot .at) limits c r 2 ⌝ }
 {
     let mut inner = spot;
@@ -124,7 +124,7 @@ fn at_name<'a>(
     limits: Limits,
     c: Counts,
 ) -> Walked
-    requires { ⌜ (spot .at < 256) × (spot .left ≤ 255) × (spot .somes ≤ 8) × (limits .limit ≤ 64) × (limits .parts ≤ 64) × (limits .greatest < 268435456) × Lendable (now script) (now sets) (now numbers) (spot .top) ⌝ }
+    requires { ⌜ (spot .at < 256) × (spot .left ≤ 255) × Visitable (now script) (now sets) (now numbers) (spot .top) (spot .somes) limits ⌝ }
     ensures { λ r. ⌜ Finds (now (program .entry)) (now (script .entry)) (now (sets .entry)) (now (numbers .entry)) (now (chosen .entry)) (spot .top) (spot .somes) (spot .left) (spot .at) limits c r 4 ⌝ }
 {
     let at = spot.at;
@@ -154,7 +154,7 @@ fn split<'a>(
     c: Counts,
     share: u64,
 ) -> Walked
-    requires { ⌜ (spot .at < 256) × (spot .left ≤ 255) × (spot .somes ≤ 8) × (limits .limit ≤ 64) × (limits .parts ≤ 64) × (limits .greatest < 268435456) × Lendable (now script) (now sets) (now numbers) (spot .top) ⌝ }
+    requires { ⌜ (spot .at < 256) × (spot .left ≤ 255) × Visitable (now script) (now sets) (now numbers) (spot .top) (spot .somes) limits ⌝ }
     ensures { λ r. ⌜ Splits (now (program .entry)) (now (script .entry)) (now (sets .entry)) (now (numbers .entry)) (now (chosen .entry)) (spot .top) (spot .somes) (spot .left) (spot .at) limits c r share ⌝ }
 {
     let mut here = spot;
@@ -181,7 +181,7 @@ fn beside<'a>(
     limits: Limits,
     c: Counts,
 ) -> Walked
-    requires { ⌜ (spot .at < 256) × (spot .left ≤ 255) × (spot .somes ≤ 8) × (limits .limit ≤ 64) × (limits .parts ≤ 64) × (limits .greatest < 268435456) × Lendable (now script) (now sets) (now numbers) (spot .top) ⌝ }
+    requires { ⌜ (spot .at < 256) × (spot .left ≤ 255) × Visitable (now script) (now sets) (now numbers) (spot .top) (spot .somes) limits ⌝ }
     ensures { λ r. ⌜ Finds (now (program .entry)) (now (script .entry)) (now (sets .entry)) (now (numbers .entry)) (now (chosen .entry)) (spot .top) (spot .somes) (spot .left) (spot .at) limits c r 5 ⌝ }
 {
     let mut now = c;
@@ -228,7 +228,7 @@ fn some_name<'a>(
     limits: Limits,
     c: Counts,
 ) -> Walked
-    requires { ⌜ (spot .at < 256) × (spot .left ≤ 255) × (spot .somes ≤ 8) × (limits .limit ≤ 64) × (limits .parts ≤ 64) × (limits .greatest < 268435456) × Lendable (now script) (now sets) (now numbers) (spot .top) ⌝ }
+    requires { ⌜ (spot .at < 256) × (spot .left ≤ 255) × Visitable (now script) (now sets) (now numbers) (spot .top) (spot .somes) limits ⌝ }
     ensures { λ r. ⌜ Finds (now (program .entry)) (now (script .entry)) (now (sets .entry)) (now (numbers .entry)) (now (chosen .entry)) (spot .top) (spot .somes) (spot .left) (spot .at) limits c r 6 ⌝ }
 {
     let somes = spot.somes;
@@ -267,7 +267,7 @@ fn moves_of<'a>(
     a: usize,
     aim: u64,
 ) -> Walked
-    requires { ⌜ (a < 64) × (spot .at < 256) × (spot .left ≤ 255) × (spot .somes ≤ 8) × (limits .limit ≤ 64) × (limits .parts ≤ 64) × (limits .greatest < 268435456) × Lendable (now script) (now sets) (now numbers) (spot .top) ⌝ }
+    requires { ⌜ (a < 64) × (spot .at < 256) × (spot .left ≤ 255) × Visitable (now script) (now sets) (now numbers) (spot .top) (spot .somes) limits ⌝ }
     ensures { λ r. ⌜ Tries (now (program .entry)) (now (script .entry)) (now (sets .entry)) (now (numbers .entry)) (now (chosen .entry)) (spot .top) (spot .somes) (spot .left) (spot .at) limits c r (now (places .entry)) a aim ⌝ }
 {
     let mut now = c;
@@ -309,7 +309,7 @@ fn sometime<'a>(
     limits: Limits,
     c: Counts,
 ) -> Walked
-    requires { ⌜ (spot .at < 256) × (spot .left ≤ 255) × (spot .somes ≤ 8) × (limits .limit ≤ 64) × (limits .parts ≤ 64) × (limits .greatest < 268435456) × Lendable (now script) (now sets) (now numbers) (spot .top) ⌝ }
+    requires { ⌜ (spot .at < 256) × (spot .left ≤ 255) × Visitable (now script) (now sets) (now numbers) (spot .top) (spot .somes) limits ⌝ }
     ensures { λ r. ⌜ Finds (now (program .entry)) (now (script .entry)) (now (sets .entry)) (now (numbers .entry)) (now (chosen .entry)) (spot .top) (spot .somes) (spot .left) (spot .at) limits c r 7 ⌝ }
 {
     let mut unmoved = spot;
@@ -357,7 +357,7 @@ fn somewhere<'a>(
     limits: Limits,
     c: Counts,
 ) -> Walked
-    requires { ⌜ (spot .at < 256) × (spot .left ≤ 255) × (spot .somes ≤ 8) × (limits .limit ≤ 64) × (limits .parts ≤ 64) × (limits .greatest < 268435456) × Lendable (now script) (now sets) (now numbers) (spot .top) ⌝ }
+    requires { ⌜ (spot .at < 256) × (spot .left ≤ 255) × Visitable (now script) (now sets) (now numbers) (spot .top) (spot .somes) limits ⌝ }
     ensures { λ r. ⌜ Finds (now (program .entry)) (now (script .entry)) (now (sets .entry)) (now (numbers .entry)) (now (chosen .entry)) (spot .top) (spot .somes) (spot .left) (spot .at) limits c r 8 ⌝ }
 {
     let mut inner = spot;
@@ -394,7 +394,7 @@ fn placed_in<'a>(
     limits: Limits,
     c: Counts,
 ) -> Walked
-    requires { ⌜ (spot .at < 256) × (spot .left ≤ 255) × (spot .somes ≤ 8) × (limits .limit ≤ 64) × (limits .parts ≤ 64) × (limits .greatest < 268435456) × Lendable (now script) (now sets) (now numbers) (spot .top) ⌝ }
+    requires { ⌜ (spot .at < 256) × (spot .left ≤ 255) × Visitable (now script) (now sets) (now numbers) (spot .top) (spot .somes) limits ⌝ }
     ensures { λ r. ⌜ Finds (now (program .entry)) (now (script .entry)) (now (sets .entry)) (now (numbers .entry)) (now (chosen .entry)) (spot .top) (spot .somes) (spot .left) (spot .at) limits c r 9 ⌝ }
 {
     let at = spot.at;

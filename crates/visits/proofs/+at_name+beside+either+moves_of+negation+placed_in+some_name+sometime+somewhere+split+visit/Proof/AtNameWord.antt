@@ -4,7 +4,7 @@ use mathlib.Core.Path.{sym, _∙_}
 use native.Mathlib.Omega.{arith}
 use borrow.Author.Needs.{needs}
 use Rattle.stages.proofs.Members.{single-low, at-several, at-other, at-goes}
-use Rattle.stages.proofs.Scenes.{lendable-top}
+use Rattle.stages.proofs.Scenes.{visitable-top}
 use Rattle.visits.proofs.+at_name+beside+either+moves_of+negation+placed_in+some_name+sometime+somewhere+split+visit.Lts-at_name as lts
 use Rattle.visits.proofs.at_name.Reads as reads
 use Rattle.visits.proofs.+at_name+beside+either+moves_of+negation+placed_in+some_name+sometime+somewhere+split+visit.Proof.Measures.{at-name-at, at-name-claims}
@@ -38,13 +38,13 @@ module _ (t : ℕ) where
   add-inside c = search needs
 
   pub visit-requires : lts.Need-visit-requires (at-name-claims t) (at-name-at t) reads.Post
-  visit-requires c κs = (omega (arith, c .before .before .before .before .before .before .before .before .before .pre .0), (omega (arith, c .before .before .before .before .before .before .before .before .before .pre .1 .1), c .before .before .before .before .before .before .before .before .before .pre .1 .2, c .before .before .before .before .before .before .before .before .before .pre .1 .3, c .before .before .before .before .before .before .before .before .before .pre .1 .4, c .before .before .before .before .before .before .before .before .before .pre .1 .5, lendable-top (c .before .before .before .before .before .before .before .before .before .args .script .now) (c .before .before .before .before .before .before .before .before .before .args .sets .now) (c .before .before .before .before .before .before .before .before .before .args .numbers .now) (c .before .before .before .before .before .before .before .before .before .args .spot .top) _ (c .before .before .before .before .before .before .before .before .before .pre .1 .6)))
+  visit-requires c κs = (omega (arith, c .before .before .before .before .before .before .before .before .before .pre .0), (omega (arith, c .before .before .before .before .before .before .before .before .before .pre .1 .1), visitable-top (c .before .before .before .before .before .before .before .before .before .pre .1 .2) _))
 
   pub returns : lts.Need-returns (at-name-claims t) (at-name-at t) reads.Post
-  returns c = let x = c .before .before .before .before .before .before .before .before .before .before .args in at-goes (x .program .now) (x .script .now) (x .sets .now) (x .numbers .now) (x .chosen .now) (x .spot .top) (x .spot .somes) (x .spot .left) (x .spot .at) (x .limits) (x .c) (sym (c .before .before .before .before .before .before .before .before .is-single .ensures) ∙ c .before .before .before .before .before .before .before .if1 .taken) _ (c .before .before .before .before .before .before .first .ensures) (c .before .before .before .before .before .before .before .before .before .before .pre .1 .2) _ (c .before .before .before .before .name-said .ensures) _ (c .before .before .before .is-called .ensures) (c .before .before .if2 .taken) _ (c .visit .ensures)
+  returns c = let x = c .before .before .before .before .before .before .before .before .before .before .args in at-goes (x .program .now) (x .script .now) (x .sets .now) (x .numbers .now) (x .chosen .now) (x .spot .top) (x .spot .somes) (x .spot .left) (x .spot .at) (x .limits) (x .c) (sym (c .before .before .before .before .before .before .before .before .is-single .ensures) ∙ c .before .before .before .before .before .before .before .if1 .taken) _ (c .before .before .before .before .before .before .first .ensures) (c .before .before .before .before .before .before .before .before .before .before .pre .1 .2 .few-somes) _ (c .before .before .before .before .name-said .ensures) _ (c .before .before .before .is-called .ensures) (c .before .before .if2 .taken) _ (c .visit .ensures)
 
   pub returns-2 : lts.Need-returns-2 (at-name-claims t) (at-name-at t) reads.Post
-  returns-2 c = let x = c .before .before .before .before .before .before .before .before .args in at-other (x .program .now) (x .script .now) (x .sets .now) (x .numbers .now) (x .chosen .now) (x .spot .top) (x .spot .somes) (x .spot .left) (x .spot .at) (x .limits) (x .c) (sym (c .before .before .before .before .before .before .is-single .ensures) ∙ c .before .before .before .before .before .if1 .taken) _ (c .before .before .before .before .first .ensures) (c .before .before .before .before .before .before .before .before .pre .1 .2) _ (c .before .before .name-said .ensures) _ (c .before .is-called .ensures) (c .if2 .left)
+  returns-2 c = let x = c .before .before .before .before .before .before .before .before .args in at-other (x .program .now) (x .script .now) (x .sets .now) (x .numbers .now) (x .chosen .now) (x .spot .top) (x .spot .somes) (x .spot .left) (x .spot .at) (x .limits) (x .c) (sym (c .before .before .before .before .before .before .is-single .ensures) ∙ c .before .before .before .before .before .if1 .taken) _ (c .before .before .before .before .first .ensures) (c .before .before .before .before .before .before .before .before .pre .1 .2 .few-somes) _ (c .before .before .name-said .ensures) _ (c .before .is-called .ensures) (c .if2 .left)
 
   pub returns-3 : lts.Need-returns-3 (at-name-claims t) (at-name-at t) reads.Post
   returns-3 c = let x = c .before .before .before .args in at-several (x .program .now) (x .script .now) (x .sets .now) (x .numbers .now) (x .chosen .now) (x .spot .top) (x .spot .somes) (x .spot .left) (x .spot .at) (x .limits) (x .c) (sym (c .before .is-single .ensures) ∙ c .if1 .left)

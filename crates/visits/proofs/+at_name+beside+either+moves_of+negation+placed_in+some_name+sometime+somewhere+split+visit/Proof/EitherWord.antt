@@ -12,7 +12,7 @@ module _ (t : ℕ) where
   add-inner c = search needs
 
   pub visit-requires : lts.Need-visit-requires (either-claims t) (either-at t) reads.Post
-  visit-requires c κs = (omega (arith, c .before .before .pre .0), (omega (arith, c .before .before .pre .1 .1), c .before .before .pre .1 .2, c .before .before .pre .1 .3, c .before .before .pre .1 .4, c .before .before .pre .1 .5, c .before .before .pre .1 .6))
+  visit-requires c κs = (omega (arith, c .before .before .pre .0), (omega (arith, c .before .before .pre .1 .1), c .before .before .pre .1 .2))
 
   pub enum-known-on-left : lts.Need-enum-known-on-left (either-claims t) (either-at t) reads.Post
   enum-known-on-left c = search needs
@@ -33,7 +33,7 @@ module _ (t : ℕ) where
   wide-requires c κs = search needs
 
   pub visit-requires-2 : lts.Need-visit-requires-2 (either-claims t) (either-at t) reads.Post
-  visit-requires-2 c κs = (omega (arith, c .before .before .before .before .before .before .before .before .before .pre .0), (omega (arith, c .before .before .before .before .before .before .before .before .before .pre .1 .1), c .before .before .before .before .before .before .before .before .before .pre .1 .2, c .before .before .before .before .before .before .before .before .before .pre .1 .3, c .before .before .before .before .before .before .before .before .before .pre .1 .4, c .before .before .before .before .before .before .before .before .before .pre .1 .5, c .before .before .before .before .before .before .before .before .before .pre .1 .6))
+  visit-requires-2 c κs = (omega (arith, c .before .before .before .before .before .before .before .before .before .pre .0), (omega (arith, c .before .before .before .before .before .before .before .before .before .pre .1 .1), c .before .before .before .before .before .before .before .before .before .pre .1 .2))
 
   pub returns-2 : lts.Need-returns-2 (either-claims t) (either-at t) reads.Post
   returns-2 c = let x = c .before .before .before .before .before .before .before .before .before .before .args in either-goes (x .program .now) (x .script .now) (x .sets .now) (x .numbers .now) (x .chosen .now) (x .spot .top) (x .spot .somes) (x .spot .left) (x .spot .at) (x .limits) (x .c) _ _ _ _ (c .before .before .before .before .before .before .before .visit .ensures) (c .before .before .before .before .before .on-left .given .1) (c .before .wide .ensures) (c .visit2 .ensures)

@@ -6,6 +6,7 @@ use borrow.Author.Needs.{needs}
 use lib.ListN.{length}
 use Rattle.sets.specs.Sets.{members}
 use Rattle.sets.proofs.Members.{not-none}
+use Rattle.stages.proofs.Scenes.{visitable-state}
 use Rattle.stages.proofs.Turns.{first-low, rest-shorter, Trying, trying-holds, trying-again, trying-stops, trying-ends}
 use Rattle.walk.proofs.Lendings.{step-moves, step-apart}
 use Rattle.visits.proofs.+at_name+beside+either+moves_of+negation+placed_in+some_name+sometime+somewhere+split+visit.Lts-moves_of as lts
@@ -32,10 +33,10 @@ module _ (t : ℕ) where
   next-state-requires c κs =
       let a = c .before .before .before .before .before .pre .1 .0 in
       let f = first-low _ _ _ (c .before .before .before .loop .inv .0) (c .before .before .loop-test .taken) (c .before .first .ensures) (c .rest .ensures) in
-      (λ b u e. step-moves (λ (y : ℕ) (z : ℕ). (y < 64) × (z < 64)) _ _ b u e (omega (arith, a, f), omega (arith, a, f)), λ i n e. absurd (step-apart _ _ i n e), c .before .before .before .before .before .pre .1 .7)
+      (λ b u e. step-moves (λ (y : ℕ) (z : ℕ). (y < 64) × (z < 64)) _ _ b u e (omega (arith, a, f), omega (arith, a, f)), λ i n e. absurd (step-apart _ _ i n e), c .before .before .before .before .before .pre .1 .3 .state)
 
   pub visit-requires : lts.Need-visit-requires (moves-of-claims t) (moves-of-at t) reads.Post Inv-loop μ-loop
-  visit-requires c κs = (omega (arith, c .before .before .before .before .before .before .before .before .before .pre .0), (omega (arith, c .before .before .before .before .before .before .before .before .before .pre .1 .2), c .before .before .before .before .before .before .before .before .before .pre .1 .3, c .before .before .before .before .before .before .before .before .before .pre .1 .4, c .before .before .before .before .before .before .before .before .before .pre .1 .5, c .before .before .before .before .before .before .before .before .before .pre .1 .6, c .before .before .before .next-state .ensures .0))
+  visit-requires c κs = (omega (arith, c .before .before .before .before .before .before .before .before .before .pre .0), (omega (arith, c .before .before .before .before .before .before .before .before .before .pre .1 .2), visitable-state (c .before .before .before .before .before .before .before .before .before .pre .1 .3) (c .before .before .before .next-state .ensures .0)))
 
   pub enum-known-w : lts.Need-enum-known-w (moves-of-claims t) (moves-of-at t) reads.Post Inv-loop μ-loop
   enum-known-w c = search needs

@@ -12,7 +12,7 @@ module _ (t : ℕ) where
   add-inner c = search needs
 
   pub visit-requires : lts.Need-visit-requires (negation-claims t) (negation-at t) reads.Post
-  visit-requires c κs = (omega (arith, c .before .before .pre .0), (omega (arith, c .before .before .pre .1 .1), c .before .before .pre .1 .2, c .before .before .pre .1 .3, c .before .before .pre .1 .4, c .before .before .pre .1 .5, c .before .before .pre .1 .6))
+  visit-requires c κs = (omega (arith, c .before .before .pre .0), (omega (arith, c .before .before .pre .1 .1), c .before .before .pre .1 .2))
 
   pub turned-requires : lts.Need-turned-requires (negation-claims t) (negation-at t) reads.Post
   turned-requires c κs = search needs

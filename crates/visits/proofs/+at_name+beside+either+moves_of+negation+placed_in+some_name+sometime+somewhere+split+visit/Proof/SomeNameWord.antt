@@ -3,6 +3,7 @@ use Prim.Native.Nat.{ℕ, _+_, _-_, _≤_}
 use mathlib.Core.Path.{_≡_, refl}
 use native.Mathlib.Omega.{arith}
 use borrow.Author.Needs.{needs}
+use Rattle.stages.proofs.Scenes.{visitable-some}
 use Rattle.stages.proofs.Turns.{Naming, naming-none, naming-holds, naming-again, naming-stops, naming-ends}
 use Rattle.visits.proofs.+at_name+beside+either+moves_of+negation+placed_in+some_name+sometime+somewhere+split+visit.Lts-some_name as lts
 use Rattle.visits.proofs.some_name.Reads as reads
@@ -40,7 +41,7 @@ module _ (t : ℕ) where
   add-inner-2 c = search needs
 
   pub visit-requires : lts.Need-visit-requires (some-name-claims t) (some-name-at t) reads.Post Inv-loop μ-loop
-  visit-requires c κs = (omega (arith, c .before .before .before .before .before .before .before .before .before .pre .0), (omega (arith, c .before .before .before .before .before .before .before .before .before .pre .1 .1), omega (arith, c .before .before .before .before .before .before .before .if1 .left), c .before .before .before .before .before .before .before .before .before .pre .1 .3, c .before .before .before .before .before .before .before .before .before .pre .1 .4, c .before .before .before .before .before .before .before .before .before .pre .1 .5, c .before .before .before .before .before .before .before .before .before .pre .1 .6))
+  visit-requires c κs = (omega (arith, c .before .before .before .before .before .before .before .before .before .pre .0), (omega (arith, c .before .before .before .before .before .before .before .before .before .pre .1 .1), visitable-some (c .before .before .before .before .before .before .before .before .before .pre .1 .2) (omega (arith, c .before .before .before .before .before .before .before .if1 .left))))
 
   pub enum-known-w : lts.Need-enum-known-w (some-name-claims t) (some-name-at t) reads.Post Inv-loop μ-loop
   enum-known-w c = search needs

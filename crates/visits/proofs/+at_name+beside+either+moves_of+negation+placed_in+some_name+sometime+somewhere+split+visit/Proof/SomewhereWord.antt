@@ -5,7 +5,7 @@ use borrow.Author.Needs.{needs}
 use lib.ListN.{length}
 use Rattle.sets.specs.Sets.{members}
 use Rattle.sets.proofs.Members.{not-none}
-use Rattle.stages.proofs.Scenes.{lendable-top}
+use Rattle.stages.proofs.Scenes.{visitable-top}
 use Rattle.stages.proofs.Turns.{first-low, rest-shorter, somewhere-first, somewhere-then, Seeking, seeking-holds, seeking-again, seeking-stops, seeking-ends}
 use Rattle.visits.proofs.+at_name+beside+either+moves_of+negation+placed_in+some_name+sometime+somewhere+split+visit.Lts-somewhere as lts
 use Rattle.visits.proofs.somewhere.Reads as reads
@@ -22,7 +22,7 @@ module _ (t : ℕ) where
   add-inner c = search needs
 
   pub visit-requires : lts.Need-visit-requires (somewhere-claims t) (somewhere-at t) reads.Post Inv-loop μ-loop
-  visit-requires c κs = (omega (arith, c .before .before .pre .0), (omega (arith, c .before .before .pre .1 .1), c .before .before .pre .1 .2, c .before .before .pre .1 .3, c .before .before .pre .1 .4, c .before .before .pre .1 .5, c .before .before .pre .1 .6))
+  visit-requires c κs = (omega (arith, c .before .before .pre .0), (omega (arith, c .before .before .pre .1 .1), c .before .before .pre .1 .2))
 
   pub enum-known-w : lts.Need-enum-known-w (somewhere-claims t) (somewhere-at t) reads.Post Inv-loop μ-loop
   enum-known-w c = search needs
@@ -52,7 +52,7 @@ module _ (t : ℕ) where
   element-copy-out-inside c = omega (arith, first-low _ _ _ (c .before .before .before .loop .inv .0) (c .before .before .loop-test .taken) (c .before .first .ensures) (c .rest .ensures))
 
   pub visit-requires-2 : lts.Need-visit-requires-2 (somewhere-claims t) (somewhere-at t) reads.Post Inv-loop μ-loop
-  visit-requires-2 c κs = (omega (arith, c .before .before .before .before .before .before .before .before .before .before .before .before .before .pre .0), (omega (arith, c .before .before .before .before .before .before .before .before .before .before .before .before .before .pre .1 .1), c .before .before .before .before .before .before .before .before .before .before .before .before .before .pre .1 .2, c .before .before .before .before .before .before .before .before .before .before .before .before .before .pre .1 .3, c .before .before .before .before .before .before .before .before .before .before .before .before .before .pre .1 .4, c .before .before .before .before .before .before .before .before .before .before .before .before .before .pre .1 .5, lendable-top (c .before .before .before .before .before .before .before .before .before .before .before .before .before .args .script .now) (c .before .before .before .before .before .before .before .before .before .before .before .before .before .args .sets .now) (c .before .before .before .before .before .before .before .before .before .before .before .before .before .args .numbers .now) (c .before .before .before .before .before .before .before .before .before .before .before .before .before .args .spot .top) _ (c .before .before .before .before .before .before .before .before .before .before .before .before .before .pre .1 .6)))
+  visit-requires-2 c κs = (omega (arith, c .before .before .before .before .before .before .before .before .before .before .before .before .before .pre .0), (omega (arith, c .before .before .before .before .before .before .before .before .before .before .before .before .before .pre .1 .1), visitable-top (c .before .before .before .before .before .before .before .before .before .before .before .before .before .pre .1 .2) _))
 
   pub enum-known-w2 : lts.Need-enum-known-w2 (somewhere-claims t) (somewhere-at t) reads.Post Inv-loop μ-loop
   enum-known-w2 c = search needs

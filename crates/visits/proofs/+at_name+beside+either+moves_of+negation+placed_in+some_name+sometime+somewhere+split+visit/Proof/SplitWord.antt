@@ -3,7 +3,7 @@ use Prim.Native.Nat.{ℕ, _-_}
 use native.Mathlib.Omega.{arith}
 use borrow.Author.Needs.{needs}
 use Rattle.stages.proofs.Members.{split-stops, split-goes}
-use Rattle.stages.proofs.Scenes.{lendable-top}
+use Rattle.stages.proofs.Scenes.{visitable-top}
 use Rattle.visits.proofs.+at_name+beside+either+moves_of+negation+placed_in+some_name+sometime+somewhere+split+visit.Lts-split as lts
 use Rattle.visits.proofs.split.Reads as reads
 use Rattle.visits.proofs.+at_name+beside+either+moves_of+negation+placed_in+some_name+sometime+somewhere+split+visit.Proof.Measures.{split-at, split-claims}
@@ -13,7 +13,7 @@ module _ (t : ℕ) where
   add-here c = search needs
 
   pub visit-requires : lts.Need-visit-requires (split-claims t) (split-at t) reads.Post
-  visit-requires c κs = (omega (arith, c .before .before .pre .0), (omega (arith, c .before .before .pre .1 .1), c .before .before .pre .1 .2, c .before .before .pre .1 .3, c .before .before .pre .1 .4, c .before .before .pre .1 .5, lendable-top (c .before .before .args .script .now) (c .before .before .args .sets .now) (c .before .before .args .numbers .now) (c .before .before .args .spot .top) _ (c .before .before .pre .1 .6)))
+  visit-requires c κs = (omega (arith, c .before .before .pre .0), (omega (arith, c .before .before .pre .1 .1), visitable-top (c .before .before .pre .1 .2) _))
 
   pub enum-known-w : lts.Need-enum-known-w (split-claims t) (split-at t) reads.Post
   enum-known-w c = search needs
@@ -37,7 +37,7 @@ module _ (t : ℕ) where
   difference-requires c κs = search needs
 
   pub visit-requires-2 : lts.Need-visit-requires-2 (split-claims t) (split-at t) reads.Post
-  visit-requires-2 c κs = (omega (arith, c .before .before .before .before .before .before .before .before .before .before .pre .0), (omega (arith, c .before .before .before .before .before .before .before .before .before .before .pre .1 .1), c .before .before .before .before .before .before .before .before .before .before .pre .1 .2, c .before .before .before .before .before .before .before .before .before .before .pre .1 .3, c .before .before .before .before .before .before .before .before .before .before .pre .1 .4, c .before .before .before .before .before .before .before .before .before .before .pre .1 .5, lendable-top (c .before .before .before .before .before .before .before .before .before .before .args .script .now) (c .before .before .before .before .before .before .before .before .before .before .args .sets .now) (c .before .before .before .before .before .before .before .before .before .before .args .numbers .now) (c .before .before .before .before .before .before .before .before .before .before .args .spot .top) _ (c .before .before .before .before .before .before .before .before .before .before .pre .1 .6)))
+  visit-requires-2 c κs = (omega (arith, c .before .before .before .before .before .before .before .before .before .before .pre .0), (omega (arith, c .before .before .before .before .before .before .before .before .before .before .pre .1 .1), visitable-top (c .before .before .before .before .before .before .before .before .before .before .pre .1 .2) _))
 
   pub returns-2 : lts.Need-returns-2 (split-claims t) (split-at t) reads.Post
   returns-2 c = let x = c .before .before .before .before .before .before .before .before .before .before .before .args in split-goes (x .program .now) (x .script .now) (x .sets .now) (x .numbers .now) (x .chosen .now) (x .spot .top) (x .spot .somes) (x .spot .left) (x .spot .at) (x .limits) (x .c) _ (x .share) (c .before .before .before .before .before .before .before .before .visit .ensures) _ _ _ _ (c .before .before .before .before .before .before .w .given .1) (c .before .before .wide .ensures) (c .before .difference .ensures) (c .visit2 .ensures)

@@ -38,31 +38,31 @@ module _ (t : ℕ) where
   next-count-requires c κs = search needs
 
   pub negation-requires : lts.Need-negation-requires (visit-claims t) (visit-at t) reads.Post
-  negation-requires c κs = (omega (arith, c .before .before .before .before .before .before .before .before .pre .0, c .before .before .before .before .before .before .if1 .left), (omega (arith, c .before .before .before .if3 .left), omega (arith, c .before .before .before .before .before .before .before .before .pre .1 .0, c .before .before .before .before .before .before .if1 .left), c .before .before .before .before .before .before .before .before .pre .1 .1, c .before .before .before .before .before .before .before .before .pre .1 .2, c .before .before .before .before .before .before .before .before .pre .1 .3, c .before .before .before .before .before .before .before .before .pre .1 .4, c .before .before .before .before .before .before .before .before .pre .1 .5))
+  negation-requires c κs = (omega (arith, c .before .before .before .before .before .before .before .before .pre .0, c .before .before .before .before .before .before .if1 .left), (omega (arith, c .before .before .before .if3 .left), omega (arith, c .before .before .before .before .before .before .before .before .pre .1 .0, c .before .before .before .before .before .before .if1 .left), c .before .before .before .before .before .before .before .before .pre .1 .1))
 
   pub either-requires : lts.Need-either-requires (visit-claims t) (visit-at t) reads.Post
-  either-requires c κs = (omega (arith, c .before .before .before .before .before .before .before .before .pre .0, c .before .before .before .before .before .before .if1 .left), (omega (arith, c .before .before .before .if3 .left), omega (arith, c .before .before .before .before .before .before .before .before .pre .1 .0, c .before .before .before .before .before .before .if1 .left), c .before .before .before .before .before .before .before .before .pre .1 .1, c .before .before .before .before .before .before .before .before .pre .1 .2, c .before .before .before .before .before .before .before .before .pre .1 .3, c .before .before .before .before .before .before .before .before .pre .1 .4, c .before .before .before .before .before .before .before .before .pre .1 .5))
+  either-requires c κs = (omega (arith, c .before .before .before .before .before .before .before .before .pre .0, c .before .before .before .before .before .before .if1 .left), (omega (arith, c .before .before .before .if3 .left), omega (arith, c .before .before .before .before .before .before .before .before .pre .1 .0, c .before .before .before .before .before .before .if1 .left), c .before .before .before .before .before .before .before .before .pre .1 .1))
 
   pub void-rule-requires : lts.Need-void-rule-requires (visit-claims t) (visit-at t) reads.Post
   void-rule-requires c κs = search needs
 
   pub at-name-requires : lts.Need-at-name-requires (visit-claims t) (visit-at t) reads.Post
-  at-name-requires c κs = (omega (arith, c .before .before .before .before .before .before .before .before .pre .0, c .before .before .before .before .before .before .if1 .left), (omega (arith, c .before .before .before .if3 .left), omega (arith, c .before .before .before .before .before .before .before .before .pre .1 .0, c .before .before .before .before .before .before .if1 .left), c .before .before .before .before .before .before .before .before .pre .1 .1, c .before .before .before .before .before .before .before .before .pre .1 .2, c .before .before .before .before .before .before .before .before .pre .1 .3, c .before .before .before .before .before .before .before .before .pre .1 .4, c .before .before .before .before .before .before .before .before .pre .1 .5))
+  at-name-requires c κs = (omega (arith, c .before .before .before .before .before .before .before .before .pre .0, c .before .before .before .before .before .before .if1 .left), (omega (arith, c .before .before .before .if3 .left), omega (arith, c .before .before .before .before .before .before .before .before .pre .1 .0, c .before .before .before .before .before .before .if1 .left), c .before .before .before .before .before .before .before .before .pre .1 .1))
 
   pub beside-requires : lts.Need-beside-requires (visit-claims t) (visit-at t) reads.Post
-  beside-requires c κs = (omega (arith, c .before .before .before .before .before .before .before .before .pre .0, c .before .before .before .before .before .before .if1 .left), (omega (arith, c .before .before .before .if3 .left), omega (arith, c .before .before .before .before .before .before .before .before .pre .1 .0, c .before .before .before .before .before .before .if1 .left), c .before .before .before .before .before .before .before .before .pre .1 .1, c .before .before .before .before .before .before .before .before .pre .1 .2, c .before .before .before .before .before .before .before .before .pre .1 .3, c .before .before .before .before .before .before .before .before .pre .1 .4, c .before .before .before .before .before .before .before .before .pre .1 .5))
+  beside-requires c κs = (omega (arith, c .before .before .before .before .before .before .before .before .pre .0, c .before .before .before .before .before .before .if1 .left), (omega (arith, c .before .before .before .if3 .left), omega (arith, c .before .before .before .before .before .before .before .before .pre .1 .0, c .before .before .before .before .before .before .if1 .left), c .before .before .before .before .before .before .before .before .pre .1 .1))
 
   pub some-name-requires : lts.Need-some-name-requires (visit-claims t) (visit-at t) reads.Post
-  some-name-requires c κs = (omega (arith, c .before .before .before .before .before .before .before .before .pre .0, c .before .before .before .before .before .before .if1 .left), (omega (arith, c .before .before .before .if3 .left), omega (arith, c .before .before .before .before .before .before .before .before .pre .1 .0, c .before .before .before .before .before .before .if1 .left), c .before .before .before .before .before .before .before .before .pre .1 .1, c .before .before .before .before .before .before .before .before .pre .1 .2, c .before .before .before .before .before .before .before .before .pre .1 .3, c .before .before .before .before .before .before .before .before .pre .1 .4, c .before .before .before .before .before .before .before .before .pre .1 .5))
+  some-name-requires c κs = (omega (arith, c .before .before .before .before .before .before .before .before .pre .0, c .before .before .before .before .before .before .if1 .left), (omega (arith, c .before .before .before .if3 .left), omega (arith, c .before .before .before .before .before .before .before .before .pre .1 .0, c .before .before .before .before .before .before .if1 .left), c .before .before .before .before .before .before .before .before .pre .1 .1))
 
   pub sometime-requires : lts.Need-sometime-requires (visit-claims t) (visit-at t) reads.Post
-  sometime-requires c κs = (omega (arith, c .before .before .before .before .before .before .before .before .pre .0, c .before .before .before .before .before .before .if1 .left), (omega (arith, c .before .before .before .if3 .left), omega (arith, c .before .before .before .before .before .before .before .before .pre .1 .0, c .before .before .before .before .before .before .if1 .left), c .before .before .before .before .before .before .before .before .pre .1 .1, c .before .before .before .before .before .before .before .before .pre .1 .2, c .before .before .before .before .before .before .before .before .pre .1 .3, c .before .before .before .before .before .before .before .before .pre .1 .4, c .before .before .before .before .before .before .before .before .pre .1 .5))
+  sometime-requires c κs = (omega (arith, c .before .before .before .before .before .before .before .before .pre .0, c .before .before .before .before .before .before .if1 .left), (omega (arith, c .before .before .before .if3 .left), omega (arith, c .before .before .before .before .before .before .before .before .pre .1 .0, c .before .before .before .before .before .before .if1 .left), c .before .before .before .before .before .before .before .before .pre .1 .1))
 
   pub somewhere-requires : lts.Need-somewhere-requires (visit-claims t) (visit-at t) reads.Post
-  somewhere-requires c κs = (omega (arith, c .before .before .before .before .before .before .before .before .pre .0, c .before .before .before .before .before .before .if1 .left), (omega (arith, c .before .before .before .if3 .left), omega (arith, c .before .before .before .before .before .before .before .before .pre .1 .0, c .before .before .before .before .before .before .if1 .left), c .before .before .before .before .before .before .before .before .pre .1 .1, c .before .before .before .before .before .before .before .before .pre .1 .2, c .before .before .before .before .before .before .before .before .pre .1 .3, c .before .before .before .before .before .before .before .before .pre .1 .4, c .before .before .before .before .before .before .before .before .pre .1 .5))
+  somewhere-requires c κs = (omega (arith, c .before .before .before .before .before .before .before .before .pre .0, c .before .before .before .before .before .before .if1 .left), (omega (arith, c .before .before .before .if3 .left), omega (arith, c .before .before .before .before .before .before .before .before .pre .1 .0, c .before .before .before .before .before .before .if1 .left), c .before .before .before .before .before .before .before .before .pre .1 .1))
 
   pub placed-in-requires : lts.Need-placed-in-requires (visit-claims t) (visit-at t) reads.Post
-  placed-in-requires c κs = (omega (arith, c .before .before .before .before .before .before .before .before .pre .0, c .before .before .before .before .before .before .if1 .left), (omega (arith, c .before .before .before .if3 .left), omega (arith, c .before .before .before .before .before .before .before .before .pre .1 .0, c .before .before .before .before .before .before .if1 .left), c .before .before .before .before .before .before .before .before .pre .1 .1, c .before .before .before .before .before .before .before .before .pre .1 .2, c .before .before .before .before .before .before .before .before .pre .1 .3, c .before .before .before .before .before .before .before .before .pre .1 .4, c .before .before .before .before .before .before .before .before .pre .1 .5))
+  placed-in-requires c κs = (omega (arith, c .before .before .before .before .before .before .before .before .pre .0, c .before .before .before .before .before .before .if1 .left), (omega (arith, c .before .before .before .if3 .left), omega (arith, c .before .before .before .before .before .before .before .before .pre .1 .0, c .before .before .before .before .before .before .if1 .left), c .before .before .before .before .before .before .before .before .pre .1 .1))
 
   pub returns-4 : lts.Need-returns-4 (visit-claims t) (visit-at t) reads.Post
   returns-4 c = let x = c .before .before .before .before .before .before .before .before .args in counted-visits (x .program .now) (x .script .now) (x .sets .now) (x .numbers .now) (x .chosen .now) (x .spot .top) (x .spot .somes) (x .spot .left) (x .spot .at) (x .limits) (x .c) (c .before .before .before .before .before .before .if1 .left) (c .before .before .before .before .before .before .before .before .pre .1 .0) (c .before .before .before .before .if2 .left) _ (c .before .next-count .ensures .0) (c .before .next-count .ensures .1) 0 (c .match .keys1) _ (always-finds (x .program .now) (x .script .now) (x .sets .now) (x .numbers .now) (x .chosen .now) (x .spot .top) (x .spot .somes) (x .spot .left - 1) (x .spot .at) (x .limits) _)
