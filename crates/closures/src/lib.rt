@@ -13,7 +13,7 @@ ghost use mathlib.Core.List.{List};
 ghost use Prim.Native.Nat.{ℕ, _+_, _*_, _-_, _≤_, _<_};
 ghost use lib.Dec.{eqb};
 ghost use lib.ListN.{length, getD};
-ghost use Rattle.sets.specs.Sets.{members, elem, insert};
+ghost use Rattle.sets.specs.Sets.{members, elem};
 ghost use Rattle.scripts.specs.Tree.{parts};
 ghost use Rattle.scripts.specs.Represents.{bodyIn};
 ghost use Rattle.bindings.specs.Resolve.{bindingsIn};
@@ -133,17 +133,6 @@ fn name_parts<'a>(
     t
 }
 
-// m, and i where that is so.
-pub fn with_if(m: u64, i: usize, so: bool) -> u64
-    requires { ⌜ i < 64 ⌝ }
-    ensures { λ r. ⌜ members r ≡ cond so (insert i (members m)) (members m) ⌝ }
-{
-    if so {
-        return sets::with(m, i);
-    }
-    m
-}
-
 // The parts whose name is n.
 fn parts_called(named: u64, names: &[u32; 64], n: u32) -> u64
     ensures { λ r. ⌜ ((i : ℕ) → i < 64 → elem i (members r) ≡ isThat n (nameIn named (now (names .entry)) i)) ⌝ }
@@ -152,7 +141,7 @@ fn parts_called(named: u64, names: &[u32; 64], n: u32) -> u64
     let mut i: usize = 0;
     while i < 64 {
         let name = names[i];
-        found = with_if(found, i, name == n);
+        found = sets::with_if(found, i, name == n);
         i += 1;
     }
     sets::intersection(found, named)
@@ -186,7 +175,7 @@ fn outputs(kinds: &[u8; 64]) -> u64
     let mut i: usize = 0;
     while i < 64 {
         let kind = kinds[i];
-        found = with_if(found, i, is_output(kind));
+        found = sets::with_if(found, i, is_output(kind));
         i += 1;
     }
     found
@@ -278,7 +267,7 @@ fn with_deed(l: Looks, i: usize, d: Deed) -> Looks
     let mut next = l;
     next.acts[i] = d.act;
     next.aims[i] = d.aim;
-    next.busy = with_if(sets::without(busy, i), i, so);
+    next.busy = sets::with_if(sets::without(busy, i), i, so);
     next
 }
 

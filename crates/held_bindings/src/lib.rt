@@ -56,7 +56,7 @@ fn own_size(m: MessageWord, variables: &[u32], sizes: &[u32]) -> u32
 }
 
 // The number of words that the first `pending` messages of the words are written with, after the bindings.
-pub fn size_from(words: &[u32], pending: usize, variables: &[u32], sizes: &[u32]) -> u32
+fn size_from(words: &[u32], pending: usize, variables: &[u32], sizes: &[u32]) -> u32
     requires { ⌜ (pending + length (now words) < 2 ^ 64) × (length (now sizes) ≡ length (now variables)) ⌝ }
     ensures { λ r. ⌜ ((script places : List ℕ) → Kept size script (now (variables .entry)) places (now (sizes .entry)) → r ≡ capped (allSizes (bindingsIn script (now (variables .entry)) places) (firsts pending (spelled (now (words .entry)))))) ⌝ }
 {
@@ -177,7 +177,7 @@ fn bulk_from(
 }
 
 // The bulk of the items of the message at a word of the script, after the bindings.
-pub fn bulk_of(
+fn bulk_of(
     script: &[u32],
     at: usize,
     variables: &[u32],

@@ -5,7 +5,6 @@ use closures::State;
 use closures::item_deed;
 use closures::looked;
 use closures::part_item;
-use closures::with_if;
 use held_bindings::bind;
 use held_bindings::none;
 use lent_states::Placed;
@@ -132,7 +131,7 @@ pub fn spend<'a, 'b>(
     numbers[128 + a] = offset + 1;
     numbers[256 + a] = act as u32;
     sets[65 + a] = d.aim;
-    sets[130] = with_if(sets::without(busy, a), a, d.busy);
+    sets[130] = sets::with_if(sets::without(busy, a), a, d.busy);
 }
 
 // The state before it is settled: the receipt a and the output t are gone from the body of p, the receipt's body stands

@@ -1,7 +1,12 @@
 // The walk of a rule over the process that a state stands for (document 01, "The rule and its walk"): a visit at each word
 // met. A state is lent as two arrays, and made only where a move or PLACED changes it. It rests on the promises of walk,
-// closures, rules and sets.
+// rule_answers, closures, rules and sets.
 use closures::State;
+use rule_answers::name_said;
+use rule_answers::next_count;
+use rule_answers::turned;
+use rule_answers::void_rule;
+use rule_answers::with_name;
 use rule_reader::RuleTable;
 use slices::wide;
 use stages::Counts;
@@ -13,12 +18,7 @@ use walk::all_targets;
 use walk::is_called;
 use walk::lend_state;
 use walk::loaded;
-use walk::name_said;
-use walk::next_count;
 use walk::next_state;
-use walk::turned;
-use walk::void_rule;
-use walk::with_name;
 ghost use Prim.Native.Nat.{_+_, _-_, _≤_, _<_};
 ghost use Rattle.closures.specs.Represents.{Ready};
 ghost use Rattle.stages.specs.Visits.{Visitable, Visits as Answers, Looks as Finds, Splits, Tries, Walks};

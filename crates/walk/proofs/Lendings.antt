@@ -1,6 +1,6 @@
--- What the walk's small functions answer: the name that a word says, whether a part is called so, and states that are lent
--- and borrowed again. Assumes nothing.
-use Prim.Native.Nat.{ℕ, _+_, _≤_, _<_}
+-- What the walk's small functions answer: whether a part is called so, and states that are lent and borrowed again. Assumes
+-- nothing.
+use Prim.Native.Nat.{ℕ, _+_, _<_}
 use mathlib.Core.Bool.{true, false}
 use mathlib.Core.List.{List}
 use mathlib.Core.Path.{_≡_, sym, ap, _∙_, subst}
@@ -8,35 +8,16 @@ use native.Mathlib.Omega.{arith}
 use lib.Dec.{eqb}
 use lib.ListN.{getD, set, length, length-set}
 use lib.Seq.{getD-set-same, getD-set-other}
-use borrow.Author.Tests.{lt-ltb, le-ltb, eqb-true, eqb-false}
+use borrow.Author.Tests.{eqb-true, eqb-false}
 use Rattle.messages.specs.declared.Named.the-variants.{Called}
 use Rattle.sets.specs.Sets.{members, elem}
 use Rattle.machine.specs.Moves.{sameName}
 use Rattle.machine.proofs.Options.{byTest}
-use Rattle.rules.specs.Rule.{Term}
-use Rattle.rules.specs.RuleWords.{termWord}
-use Rattle.rules.specs.declared.RuleTerm.the-variants as terms
-use Rattle.rules.proofs.Words.{constant-told, chosen-told}
 use Rattle.closures.specs.Seen.{nameIn}
 use Rattle.closures.specs.declared.State.{State}
 use Rattle.lent_states.specs.Lent.{stretch}
 use Rattle.lent_states.proofs.Copying.{getD-stretch}
-use Rattle.stages.specs.Visits.{nameSaid}
 use Rattle.walk.specs.declared.Step.the-variants.{Move, Place}
-
--- the name that a term says
-module _ (choices : List ℕ) (t : Term) where
-  pub said-constant : (n : ℕ) → terms.Constant n ≡ termWord t → n ≡ nameSaid choices t
-  unfolding nameSaid
-  said-constant n e = sym (ap (nameSaid choices) (constant-told t n e))
-
-  pub said-chosen : (i : ℕ) → terms.Chosen i ≡ termWord t → i < 256 → getD choices i 0 ≡ nameSaid choices t
-  unfolding nameSaid
-  said-chosen i e h = sym (ap (nameSaid choices) (chosen-told t i e) ∙ rw (lt-ltb i 256 h))
-
-  pub said-none : (i : ℕ) → terms.Chosen i ≡ termWord t → 256 ≤ i → 0 ≡ nameSaid choices t
-  unfolding nameSaid
-  said-none i e h = sym (ap (nameSaid choices) (chosen-told t i e) ∙ rw (le-ltb i 256 h))
 
 -- a part's name, by the lent numbers
 module _ (named : ℕ) (numbers : List ℕ) (i n : ℕ) where

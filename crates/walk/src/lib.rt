@@ -1,31 +1,23 @@
 // What the words of a rule ask of the process that a state stands for (document 01, "The rule and its walk"), a state being
 // lent as two arrays and made only where a move or PLACED changes it. It rests on stages and on the promises of moves,
-// settling, lent_states, targets, closures, rules and sets.
+// settling, lent_states, targets, closures and sets.
 use closures::State;
 use lent_states::bodies;
 use lent_states::borrowed;
 use lent_states::lend;
 use moves::make_move;
-use rules::RuleTerm;
-use rules::term_of;
 use settling::place_part;
-use stages::Counts;
-use stages::Walked;
 use targets::locate;
 use targets::targets;
 ghost use mathlib.Core.Path.{_≡_};
-ghost use mathlib.Core.Bool.{false};
-ghost use Prim.Native.Nat.{ℕ, _+_, _-_, _≤_, _<_, max};
-ghost use lib.Dec.{eqb};
+ghost use Prim.Native.Nat.{ℕ, _+_, _≤_, _<_};
 ghost use lib.ListN.{length, getD};
-ghost use Rattle.messages.specs.Words.{operand};
 ghost use Rattle.messages.specs.Message.{name as called};
 ghost use Rattle.messages.specs.declared.Named.the-variants.{Called};
 ghost use Rattle.sets.specs.Sets.{members};
 ghost use Rattle.scripts.specs.Tree.{ambient, close, part, count};
 ghost use Rattle.scripts.specs.Represents.{bodyIn};
 ghost use Rattle.machine.specs.Moves.{sameName};
-ghost use Rattle.rules.specs.ReadRule.{termOf};
 ghost use Rattle.closure_machine.specs.Closure.{Closure};
 ghost use Rattle.closures.specs.Seen.{nameIn};
 ghost use Rattle.closures.specs.Searches.{Located};
@@ -34,8 +26,7 @@ ghost use Rattle.targets.specs.Targets.{TargetsOf};
 ghost use Rattle.targets.specs.Makes.{Moves};
 ghost use Rattle.lent_states.specs.Lent.{Small, stretch, kindsIn, startsIn, stateIn};
 ghost use Rattle.walk.specs.declared.Step.the-variants.{Move, Place};
-ghost use Rattle.decision.specs.Walk.{turned as reversed, says};
-ghost use Rattle.stages.specs.Visits.{countOf, walkedOf, nameSaid, Lendable};
+ghost use Rattle.stages.specs.Visits.{Lendable};
 
 // Where a visit is made: the word's index, the set of the top parts, the SOMEs around, and the depths left.
 pub struct Spot {
@@ -62,81 +53,6 @@ pub struct Standing {
 pub enum Step {
     Move(usize, usize),
     Place(usize, u32),
-}
-
-// The counts after one more visit, at that depth.
-pub fn next_count(c: Counts, depth: usize) -> Counts
-    requires { ⌜ (c .visits < 4294967295) × (depth ≤ 257) ⌝ }
-    ensures { λ r. ⌜ (r .visits ≡ c .visits + 1) × (r .deepest ≡ max depth (c .deepest)) ⌝ }
-{
-    let deepest = c.deepest;
-    let d = depth as u32;
-    if deepest < d {
-        return Counts {
-            visits: c.visits + 1,
-            deepest: d,
-        };
-    }
-    Counts {
-        visits: c.visits + 1,
-        deepest,
-    }
-}
-
-// Yes for no, and no for yes.
-pub fn turned(w: Walked) -> Walked
-    ensures { λ r. ⌜ walkedOf r ≡ reversed (walkedOf w) ⌝ }
-{
-    match w {
-        Walked::Yes(c) => Walked::No(c),
-        Walked::No(c) => Walked::Yes(c),
-        Walked::Stopped(q, p, v) => Walked::Stopped(q, p, v),
-    }
-}
-
-// VOID: no parts.
-pub fn void_rule(top: u64, c: Counts) -> Walked
-    ensures { λ r. ⌜ walkedOf r ≡ says (eqb top 0) (countOf c) ⌝ }
-{
-    if top == 0 {
-        return Walked::Yes(c);
-    }
-    Walked::No(c)
-}
-
-// The name that a word of AT or PLACED says.
-pub fn name_said(w: u32, chosen: &[u32; 256]) -> u32
-    ensures { λ r. ⌜ r ≡ nameSaid (now (chosen .entry)) (termOf (operand w)) ⌝ }
-{
-    let t = term_of(w);
-    match t {
-        RuleTerm::Constant(n) => n,
-        RuleTerm::Chosen(i) => {
-            if 256 <= i {
-                return 0;
-            }
-            chosen[i as usize]
-        }
-    }
-}
-
-// The names with n at that index.
-fn replaced(names: [u32; 256], at: usize, n: u32) -> [u32; 256]
-    requires { ⌜ at < 256 ⌝ }
-    ensures { λ r. ⌜ (getD r at 0 ≡ n) × ((i : ℕ) → (i ≡ at → ⊥) → getD r i 0 ≡ getD names i 0) ⌝ }
-{
-    let mut next = names;
-    next[at] = n;
-    next
-}
-
-// The chosen names with n for the SOME at that index.
-pub fn with_name(chosen: &[u32; 256], at: usize, n: u32) -> [u32; 256]
-    requires { ⌜ at < 256 ⌝ }
-    ensures { λ r. ⌜ (getD r at 0 ≡ n) × ((i : ℕ) → (i ≡ at → ⊥) → getD r i 0 ≡ getD (now (chosen .entry)) i 0) ⌝ }
-{
-    let old = *chosen;
-    replaced(old, at, n)
 }
 
 // Whether the part i is an ambient of that name.

@@ -26,6 +26,11 @@ use Rattle.visits.proofs.somewhere.Reads as somewhere
 use Rattle.visits.proofs.split.Reads as split
 use Rattle.visits.proofs.visit.Reads as visit
 use Rattle.slices.proofs.wide.Reads as wide-reads
+use Rattle.rule_answers.proofs.name_said.Reads as name-said-reads
+use Rattle.rule_answers.proofs.next_count.Reads as next-count-reads
+use Rattle.rule_answers.proofs.turned.Reads as turned-reads
+use Rattle.rule_answers.proofs.void_rule.Reads as void-rule-reads
+use Rattle.rule_answers.proofs.with_name.Reads as with-name-reads
 use Rattle.sets.proofs.difference.Reads as difference-reads
 use Rattle.sets.proofs.first.Reads as first-reads
 use Rattle.sets.proofs.intersection.Reads as intersection-reads
@@ -34,12 +39,7 @@ use Rattle.sets.proofs.next_share.Reads as next-share-reads
 use Rattle.sets.proofs.rest.Reads as rest-reads
 use Rattle.walk.proofs.all_targets.Reads as all-targets-reads
 use Rattle.walk.proofs.is_called.Reads as is-called-reads
-use Rattle.walk.proofs.name_said.Reads as name-said-reads
-use Rattle.walk.proofs.next_count.Reads as next-count-reads
 use Rattle.walk.proofs.next_state.Reads as next-state-reads
-use Rattle.walk.proofs.turned.Reads as turned-reads
-use Rattle.walk.proofs.void_rule.Reads as void-rule-reads
-use Rattle.walk.proofs.with_name.Reads as with-name-reads
 use Rattle.visits.proofs.+at_name+beside+either+moves_of+negation+placed_in+some_name+sometime+somewhere+split+visit.Lts-at_name as at-name-lts
 use Rattle.visits.proofs.+at_name+beside+either+moves_of+negation+placed_in+some_name+sometime+somewhere+split+visit.Lts-beside as beside-lts
 use Rattle.visits.proofs.+at_name+beside+either+moves_of+negation+placed_in+some_name+sometime+somewhere+split+visit.Lts-either as either-lts

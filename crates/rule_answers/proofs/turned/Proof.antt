@@ -4,8 +4,8 @@ use Rattle.stages.specs.Visits.{walkedOf}
 use Rattle.decision.specs.Walk as spec
 use Rattle.stages.specs.declared.Walked.{Walked}
 use borrow.Author.Needs.{needs}
-use Rattle.walk.proofs.turned.Statement.{statement}
-use Rattle.walk.proofs.turned.Tie as tie
+use Rattle.rule_answers.proofs.turned.Statement.{statement}
+use Rattle.rule_answers.proofs.turned.Tie as tie
 
 enum-known-w : tie.Need-enum-known-w
 enum-known-w c = search needs

@@ -1,9 +1,8 @@
--- `with_if` meets its contract: the set with i, or as it is. Assumes nothing.
+-- `sets::with_if` meets its contract: the set with i, or as it is. Assumes nothing.
 use mathlib.Core.Path.{_∙_}
 use borrow.Author.Needs.{needs}
-use borrow.Author.Needs.{needs}
-use Rattle.closures.proofs.with_if.Statement.{statement}
-use Rattle.closures.proofs.with_if.Tie as tie
+use Rattle.sets.proofs.with_if.Statement.{statement}
+use Rattle.sets.proofs.with_if.Tie as tie
 
 returns : tie.Need-returns
 returns c = c .with .ensures ∙ rw (c .before .if1 .taken)

@@ -1,10 +1,10 @@
 -- `name_said` meets its contract: a name, or the one chosen. Assumes nothing.
 use mathlib.Core.Path.{sym, _∙_}
 use native.Mathlib.Omega.{arith}
-use Rattle.walk.proofs.Lendings.{said-constant, said-chosen, said-none}
+use Rattle.rule_answers.proofs.Said.{said-constant, said-chosen, said-none}
 use borrow.Author.Needs.{needs}
-use Rattle.walk.proofs.name_said.Statement.{statement}
-use Rattle.walk.proofs.name_said.Tie as tie
+use Rattle.rule_answers.proofs.name_said.Statement.{statement}
+use Rattle.rule_answers.proofs.name_said.Tie as tie
 
 term-of-requires : tie.Need-term-of-requires
 term-of-requires c κs = search needs

@@ -5,8 +5,8 @@ use Rattle.decision.specs.Walk as spec
 use mathlib.Core.Bool.{Bool}
 use borrow.Author.Tests.{eq-eqb, ne-eqb}
 use Rattle.stages.specs.Visits.{countOf}
-use Rattle.walk.proofs.void_rule.Statement.{statement}
-use Rattle.walk.proofs.void_rule.Tie as tie
+use Rattle.rule_answers.proofs.void_rule.Statement.{statement}
+use Rattle.rule_answers.proofs.void_rule.Tie as tie
 
 returns : tie.Need-returns
 unfolding walkedOf

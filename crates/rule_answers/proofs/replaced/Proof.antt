@@ -1,8 +1,8 @@
 -- `replaced` meets its contract. Assumes nothing.
 use lib.Seq.{getD-set-other}
 use borrow.Author.Needs.{needs}
-use Rattle.walk.proofs.replaced.Statement.{statement}
-use Rattle.walk.proofs.replaced.Tie as tie
+use Rattle.rule_answers.proofs.replaced.Statement.{statement}
+use Rattle.rule_answers.proofs.replaced.Tie as tie
 
 mul-next : tie.Need-mul-next
 mul-next c = search needs

@@ -1,0 +1,2 @@
+-- What a word of AT or PLACED says. Assumes nothing.
+pub mod Said
