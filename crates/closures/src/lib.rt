@@ -1,5 +1,5 @@
 // What the engine keeps of a closure: its state, what is asked of the parts again and again, and the weight. It rests on the
-// promises of held_bindings, bindings, scripts, messages and sets.
+// promises of held_bindings, first_items, bindings, messages, sets and slices.
 use bindings::name_at;
 use first_items::first_item;
 use held_bindings::Bindings;

@@ -1,6 +1,7 @@
 // How many words messages under bindings are written with, and the holder of the bindings with what was counted of each
 // message when it was bound: its items, its words, and the words of its items with one PATH each. So a new binding, too, is
-// counted in one pass over words; counts stop at 2^32 - 1. It rests on the promises of bindings.
+// counted in one pass over words; counts stop at 2^32 - 1. It rests on the promises of bindings, message_words,
+// messages and slices.
 use bindings::after_own;
 use bindings::item_count;
 use bindings::own;

@@ -1,5 +1,5 @@
 // A state as two arrays, for lending: written into them and read out again. It rests on the promises of closures,
-// held_bindings and bindings.
+// held_bindings and slices.
 use closures::Looks;
 use closures::State;
 use held_bindings::Bindings;

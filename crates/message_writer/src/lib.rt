@@ -1,6 +1,6 @@
 // The writers of a message and of an action's items: each writes at the front of the buffer that it is lent, says how many
 // words it wrote, and lends the tail behind them to the next writer.
-// It rests on the promises of bindings and messages.
+// It rests on the promises of bindings, message_words, messages and slices.
 use bindings::after_own;
 use bindings::item_count;
 use bindings::own;

@@ -1,6 +1,6 @@
 // What a move leaves of a state: an item is spent or a message received, and what has no items left is gone; the first
 // state of a script, and the state inside a new ambient (PLACED). It rests on the promises of lent_states, closures,
-// held_bindings, bindings, messages and sets.
+// held_bindings, messages, sets and slices.
 use closures::State;
 use closures::item_deed;
 use closures::looked;

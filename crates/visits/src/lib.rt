@@ -1,6 +1,6 @@
 // The walk of a rule over the process that a state stands for (document 01, "The rule and its walk"): a visit at each word
 // met. A state is lent as two arrays, and made only where a move or PLACED changes it. It rests on the promises of walk,
-// rule_answers, closures, rules and sets.
+// rule_answers, rule_reader, closures, sets and slices.
 use closures::State;
 use rule_answers::name_said;
 use rule_answers::next_count;
