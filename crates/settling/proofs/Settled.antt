@@ -29,7 +29,7 @@ use Rattle.closures.specs.declared.State.{State}
 use Rattle.closures.proofs.Holding.{differ, frame}
 use Rattle.closures.proofs.Heads.{kind-ambient}
 use Rattle.lent_states.specs.Lent.{kindsIn, standing}
-use Rattle.lent_states.proofs.Copying.{getD-stretch}
+use Rattle.arrays.proofs.Copying.{getD-stretch}
 use Rattle.lent_states.proofs.Standing.{below-64, body-in}
 use Rattle.settling.proofs.Settling.{settled-count}
 

@@ -1,6 +1,8 @@
 // What a move leaves of a state: an item is spent or a message received, and what has no items left is gone; the first
 // state of a script, and the state inside a new ambient (PLACED). It rests on the promises of lent_states, closures,
-// held_bindings, bindings, messages and sets.
+// held_bindings, bindings, messages, arrays and sets.
+use arrays::numbers_32;
+use arrays::numbers_64;
 use bindings::tail;
 use bindings::wide;
 use closures::State;
@@ -13,8 +15,6 @@ use held_bindings::none;
 use lent_states::Placed;
 use lent_states::borrowed;
 use lent_states::lend;
-use lent_states::numbers_32;
-use lent_states::numbers_64;
 use messages::First;
 ghost use mathlib.Core.Path.{_≡_};
 ghost use mathlib.Core.List.{List, []};

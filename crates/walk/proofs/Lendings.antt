@@ -19,8 +19,8 @@ use Rattle.rules.specs.declared.RuleTerm.the-variants as terms
 use Rattle.rules.proofs.Words.{constant-told, chosen-told}
 use Rattle.closures.specs.Seen.{nameIn}
 use Rattle.closures.specs.declared.State.{State}
-use Rattle.lent_states.specs.Lent.{stretch}
-use Rattle.lent_states.proofs.Copying.{getD-stretch}
+use Rattle.arrays.specs.Stretches.{stretch}
+use Rattle.arrays.proofs.Copying.{getD-stretch}
 use Rattle.stages.specs.Visits.{nameSaid}
 use Rattle.walk.specs.declared.Step.the-variants.{Move, Place}
 

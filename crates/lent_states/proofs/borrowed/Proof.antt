@@ -3,7 +3,7 @@ use Prim.Native.Nat.{ℕ, _<_}
 use mathlib.Core.List.{List}
 use mathlib.Core.Path.{sym, _∙_, subst}
 use lib.ListN.{getD, set}
-use Rattle.lent_states.proofs.Copying.{small-of, to-start}
+use Rattle.arrays.proofs.Copying.{small-of, to-start}
 use borrow.Author.Needs.{needs}
 use Rattle.lent_states.proofs.borrowed.Statement.{statement}
 use Rattle.lent_states.proofs.borrowed.Tie as tie

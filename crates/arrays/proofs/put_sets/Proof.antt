@@ -1,15 +1,15 @@
--- `put_numbers` meets its contract: the first i are put. Assumes nothing.
+-- `put_sets` meets its contract: the first i are put. Assumes nothing.
 use Prim.Native.Nat.{_+_, _≤_, _-_}
 use mathlib.Core.Path.{_≡_, refl, _∙_}
 use native.Mathlib.Omega.{arith}
 use lib.ListN.{getD, length, length-set}
-use Rattle.lent_states.proofs.Copying.{Putting, putting-none, putting-next, put-all}
+use Rattle.arrays.proofs.Copying.{Putting, putting-none, putting-next, put-all}
 use borrow.Author.Needs.{needs}
-use Rattle.lent_states.proofs.put_numbers.Statement.{statement}
-use Rattle.lent_states.proofs.put_numbers.Tie as tie
+use Rattle.arrays.proofs.put_sets.Statement.{statement}
+use Rattle.arrays.proofs.put_sets.Tie as tie
 
 abbrev Inv-loop : tie.InvT-loop
-Inv-loop to₀ at from i₀ to i = (i ≤ length from) × (length to ≡ 481) × Putting at i from to₀ to
+Inv-loop to₀ at from i₀ to i = (i ≤ length from) × (length to ≡ 131) × Putting at i from to₀ to
 
 abbrev μ-loop : tie.MeasureT-loop
 μ-loop to₀ at from i₀ to i = length from - i
@@ -32,8 +32,8 @@ loop-again c = (search needs, length-set (c .before .before .loop .to) (c .befor
 returns : tie.Need-returns Inv-loop μ-loop
 returns c = (c .before .loop .inv .1, put-all (c .before .before .args .at) (c .before .loop .i) (c .before .before .args .from .now) (c .before .before .args .to .now) _ (omega (arith, c .before .loop .inv .0, c .loop-test .left)) (c .before .loop .inv .2))
 
-pub put-numbers-spec : {M : Type 1} → statement M
-put-numbers-spec =
+pub put-sets-spec : {M : Type 1} → statement M
+put-sets-spec =
     tie.close
     (tie.spec
     Inv-loop

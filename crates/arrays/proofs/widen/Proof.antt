@@ -6,10 +6,10 @@ use native.Mathlib.Omega.{arith}
 use lib.ListN.{getD, length, length-set}
 use mir.Syntax.{w8}
 use mir.Val.{Fits}
-use Rattle.lent_states.proofs.Copying.{Copied, copied-next, copy-is}
+use Rattle.arrays.proofs.Copying.{Copied, copied-next, copy-is}
 use borrow.Author.Needs.{needs}
-use Rattle.lent_states.proofs.widen.Statement.{statement}
-use Rattle.lent_states.proofs.widen.Tie as tie
+use Rattle.arrays.proofs.widen.Statement.{statement}
+use Rattle.arrays.proofs.widen.Tie as tie
 
 abbrev Inv-loop : tie.InvT-loop
 Inv-loop from r₀ i₀ r i = (i ≤ 64) × (length r ≡ 64) × Copied (λ j. getD from j 0) i r

@@ -1,12 +1,12 @@
--- `numbers_64` meets its contract: the first i are copied. Assumes nothing.
+-- `sets_64` meets its contract: the first i are copied. Assumes nothing.
 use Prim.Native.Nat.{_+_, _≤_, _-_}
 use mathlib.Core.Path.{_≡_, refl, _∙_}
 use native.Mathlib.Omega.{arith}
 use lib.ListN.{getD, length, length-set}
-use Rattle.lent_states.proofs.Copying.{Copied, copied-next, stretch-is}
+use Rattle.arrays.proofs.Copying.{Copied, copied-next, stretch-is}
 use borrow.Author.Needs.{needs}
-use Rattle.lent_states.proofs.numbers_64.Statement.{statement}
-use Rattle.lent_states.proofs.numbers_64.Tie as tie
+use Rattle.arrays.proofs.sets_64.Statement.{statement}
+use Rattle.arrays.proofs.sets_64.Tie as tie
 
 abbrev Inv-loop : tie.InvT-loop
 Inv-loop from at r₀ i₀ r i = (i ≤ 64) × (length r ≡ 64) × Copied (λ j. getD from (at + j) 0) i r
@@ -32,8 +32,8 @@ loop-again c = (search needs, length-set (c .before .before .loop .r) (c .before
 returns : tie.Need-returns Inv-loop μ-loop
 returns c = stretch-is (c .before .before .args .at) 64 (c .before .before .args .from .now) (c .before .loop .r) (c .before .loop .inv .1) (λ j m. c .before .loop .inv .2 j (omega (arith, c .loop-test .left)))
 
-pub numbers-64-spec : {M : Type 1} → statement M
-numbers-64-spec =
+pub sets-64-spec : {M : Type 1} → statement M
+sets-64-spec =
     tie.close
     (tie.spec
     Inv-loop

@@ -3,11 +3,11 @@ use Prim.Native.Nat.{ℕ, _≤_, _<_, _-_, _%_}
 use mathlib.Core.Path.{_≡_, _∙_}
 use native.Mathlib.Omega.{arith}
 use lib.ListN.{getD, length, length-set}
-use Rattle.lent_states.proofs.Copying.{Copied, copied-next, copy-is}
+use Rattle.arrays.proofs.Copying.{Copied, copied-next, copy-is}
 use native.Mathlib.Nat.{mod-eq-of-lt}
 use borrow.Author.Needs.{needs}
-use Rattle.lent_states.proofs.narrow.Statement.{statement}
-use Rattle.lent_states.proofs.narrow.Tie as tie
+use Rattle.arrays.proofs.narrow.Statement.{statement}
+use Rattle.arrays.proofs.narrow.Tie as tie
 
 abbrev Inv-loop : tie.InvT-loop
 Inv-loop from r₀ i₀ r i = (i ≤ 64) × (length r ≡ 64) × (((j : ℕ) → j < 64 → getD from j 0 < 256) → Copied (λ j. getD from j 0) i r)

@@ -3,10 +3,10 @@ use Prim.Native.Nat.{_+_, _≤_, _-_}
 use mathlib.Core.Path.{_≡_, refl, _∙_}
 use native.Mathlib.Omega.{arith}
 use lib.ListN.{getD, length, length-set}
-use Rattle.lent_states.proofs.Copying.{Copied, copied-next, stretch-is}
+use Rattle.arrays.proofs.Copying.{Copied, copied-next, stretch-is}
 use borrow.Author.Needs.{needs}
-use Rattle.lent_states.proofs.numbers_32.Statement.{statement}
-use Rattle.lent_states.proofs.numbers_32.Tie as tie
+use Rattle.arrays.proofs.numbers_32.Statement.{statement}
+use Rattle.arrays.proofs.numbers_32.Tie as tie
 
 abbrev Inv-loop : tie.InvT-loop
 Inv-loop from at r₀ i₀ r i = (i ≤ 32) × (length r ≡ 32) × Copied (λ j. getD from (at + j) 0) i r
