@@ -18,16 +18,16 @@ pub fn put_numbers<'a, 'b>(to: &'b mut [u32; 481], at: usize, from: &'a [u32])
     }
 }
 
-// Writes the numbers of from at the place at.
+// Writes the sets of from at the place at.
 pub fn put_sets<'a, 'b>(to: &'b mut [u64; 131], at: usize, from: &'a [u64])
     requires { ⌜ (length (now to) ≡ 131) × (at + length (now from) ≤ 131) ⌝ }
     ensures kept { λ r. ⌜ length (now (to .exit)) ≡ 131 ⌝ }
     ensures put { λ r. ⌜ Put at (now (from .entry)) (now (to .entry)) (now (to .exit)) ⌝ }
 {
-    let mut i: usize = 0;
-    while i < from.len() {
-        to[at + i] = from[i];
-        i += 1;
+    let mut k: usize = 0;
+    while k < from.len() {
+        to[at + k] = from[k];
+        k += 1;
     }
 }
 
@@ -65,10 +65,10 @@ pub fn sets_64(from: &[u64; 131], at: usize) -> [u64; 64]
     ensures { λ r. ⌜ r ≡ stretch at 64 (now (from .entry)) ⌝ }
 {
     let mut r: [u64; 64] = [0; 64];
-    let mut i: usize = 0;
-    while i < 64 {
-        r[i] = from[at + i];
-        i += 1;
+    let mut k: usize = 0;
+    while k < 64 {
+        r[k] = from[at + k];
+        k += 1;
     }
     r
 }
@@ -79,10 +79,10 @@ pub fn sets_65(from: &[u64; 131], at: usize) -> [u64; 65]
     ensures { λ r. ⌜ r ≡ stretch at 65 (now (from .entry)) ⌝ }
 {
     let mut r: [u64; 65] = [0; 65];
-    let mut i: usize = 0;
-    while i < 65 {
-        r[i] = from[at + i];
-        i += 1;
+    let mut k: usize = 0;
+    while k < 65 {
+        r[k] = from[at + k];
+        k += 1;
     }
     r
 }
@@ -92,11 +92,11 @@ pub fn narrow(from: [u32; 64]) -> [u8; 64]
     ensures { λ r. ⌜ (((i : ℕ) → i < 64 → getD from i 0 < 256) → r ≡ from) ⌝ }
 {
     let mut r: [u8; 64] = [0; 64];
-    let mut i: usize = 0;
-    while i < 64 {
-        let n = from[i];
-        r[i] = (n % 256) as u8;
-        i += 1;
+    let mut j: usize = 0;
+    while j < 64 {
+        let n = from[j];
+        r[j] = (n % 256) as u8;
+        j += 1;
     }
     r
 }
@@ -105,11 +105,11 @@ pub fn widen(from: [u8; 64]) -> [u32; 64]
     ensures { λ r. ⌜ (r ≡ from) × ((i : ℕ) → i < 64 → getD r i 0 < 256) ⌝ }
 {
     let mut r: [u32; 64] = [0; 64];
-    let mut i: usize = 0;
-    while i < 64 {
-        let n = from[i];
-        r[i] = n as u32;
-        i += 1;
+    let mut j: usize = 0;
+    while j < 64 {
+        let byte = from[j];
+        r[j] = byte as u32;
+        j += 1;
     }
     r
 }

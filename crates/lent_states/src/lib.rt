@@ -120,8 +120,7 @@ pub fn bodies(sets: &[u64; 131], top: u64) -> [u64; 65]
 pub fn borrowed<'a>(sets: &'a [u64; 131], numbers: &'a [u32; 481], top: u64) -> Placed
     ensures { λ r. ⌜ (Small (now (numbers .entry)) → (r .kinds ≡ kindsIn (now (numbers .entry))) × (r .starts ≡ startsIn (now (numbers .entry))) × (r .state ≡ stateIn (now (sets .entry)) (now (numbers .entry)) top)) ⌝ }
 {
-    let mut kids = sets_65(sets, 0);
-    kids[64] = top;
+    let kids = bodies(sets, top);
     let looks = Looks {
         named: sets[129],
         names: numbers_64(numbers, 192),

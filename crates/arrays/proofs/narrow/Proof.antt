@@ -1,5 +1,5 @@
--- `narrow` meets its contract: the first i are copied. Assumes nothing.
-use Prim.Native.Nat.{ℕ, _≤_, _<_, _-_, _%_}
+-- `narrow` meets its contract: the first j are copied. Assumes nothing.
+use Prim.Native.Nat.{ℕ, _≤_, _<_, _-_}
 use mathlib.Core.Path.{_≡_, _∙_}
 use native.Mathlib.Omega.{arith}
 use lib.ListN.{getD, length, length-set}
@@ -10,19 +10,19 @@ use Rattle.arrays.proofs.narrow.Statement.{statement}
 use Rattle.arrays.proofs.narrow.Tie as tie
 
 abbrev Inv-loop : tie.InvT-loop
-Inv-loop from r₀ i₀ r i = (i ≤ 64) × (length r ≡ 64) × (((j : ℕ) → j < 64 → getD from j 0 < 256) → Copied (λ j. getD from j 0) i r)
+Inv-loop from r₀ j₀ r j = (j ≤ 64) × (length r ≡ 64) × (((i : ℕ) → i < 64 → getD from i 0 < 256) → Copied (λ i. getD from i 0) j r)
 
 abbrev μ-loop : tie.MeasureT-loop
-μ-loop from r₀ i₀ r i = 64 - i
+μ-loop from r₀ j₀ r j = 64 - j
 
 loop-holds : tie.Need-loop-holds Inv-loop μ-loop
-loop-holds c = (search needs, search needs, λ low j m. absurd (let z : ⊥ = omega arith in z))
+loop-holds c = (search needs, search needs, λ low i m. absurd (let z : ⊥ = omega arith in z))
 
 loop-again : tie.Need-loop-again Inv-loop μ-loop
-loop-again c = (search needs, length-set (c .before .loop .r) (c .before .loop .i) (getD (c .before .before .args .t1) (c .before .loop .i) 0 % 256) ∙ c .before .loop .inv .1, λ low. copied-next (λ j. getD (c .before .before .args .t1) j 0) (c .before .loop .i) _ (c .before .loop .r) (omega (arith, c .before .loop .inv .1, c .loop-test .taken)) (c .before .loop .inv .2 low) (mod-eq-of-lt (low (c .before .loop .i) (c .loop-test .taken))))
+loop-again c = (search needs, length-set (c .before .loop .r) (c .before .loop .j) _ ∙ c .before .loop .inv .1, λ low. copied-next (λ i. getD (c .before .before .args .t1) i 0) (c .before .loop .j) _ (c .before .loop .r) (omega (arith, c .before .loop .inv .1, c .loop-test .taken)) (c .before .loop .inv .2 low) (mod-eq-of-lt (low (c .before .loop .j) (c .loop-test .taken))))
 
 returns : tie.Need-returns Inv-loop μ-loop
-returns c low = copy-is (c .before .before .args .t1) (c .before .loop .r) 64 (c .before .loop .inv .1) (search needs) (λ j m. c .before .loop .inv .2 low j (omega (arith, c .loop-test .left)))
+returns c low = copy-is (c .before .before .args .t1) (c .before .loop .r) 64 (c .before .loop .inv .1) (search needs) (λ i m. c .before .loop .inv .2 low i (omega (arith, c .loop-test .left)))
 
 pub narrow-spec : {M : Type 1} → statement M
 narrow-spec =
