@@ -8,7 +8,7 @@ use lib.Dec.{eqb}
 use borrow.Author.Tests.{eqb-true, ne-eqb}
 use Rattle.messages.specs.Message.{Message, name, variable, enter, exit, opens, empty, path, items, mentions}
 use Rattle.messages.specs.Message as message
-use Rattle.machine.proofs.Options.{byTest}
+use Rattle.slices.proofs.Tests.{byTest}
 use Rattle.calculus.specs.Calculus.{Process, 𝟎, _∣_, ambient, action, input, output, _≅_, Refl, Alpha, Symm, Trans, Par, Amb, Action, Input, ParComm, ParAssoc, ZeroPar, Null, Path, prefix, substitute, occurs}
 use Rattle.messages.proofs.Mentioning.{mentions-none, mentions-other}
 use Rattle.calculus.proofs.Variables.{eqb-same, eqb-flip, occurs-input, occurs-under, occurs-less}

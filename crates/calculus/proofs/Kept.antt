@@ -12,7 +12,7 @@ use Rattle.messages.specs.Message as message
 use Rattle.scripts.specs.Tree.{Head, close, part, one, isAmbient, sum, count, put, merge, settleBy, bare, PlainHead, Plain, settle}
 use Rattle.machine.specs.Moves.{Moved, spentHead}
 use Rattle.machine.specs.PlainMachine.{rest, substituteHead, substituteBody, plain, move}
-use Rattle.machine.proofs.Options.{byTest}
+use Rattle.slices.proofs.Tests.{byTest}
 use Rattle.machine.proofs.Inversion.{move-inv}
 use Rattle.machine.proofs.Sums.{map-sum, Shrinks, made-sum, move-sum}
 use Rattle.calculus.specs.Satisfaction.{Divided, wrapped}

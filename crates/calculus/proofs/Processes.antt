@@ -13,7 +13,8 @@ use Rattle.messages.specs.Message as message
 use Rattle.scripts.specs.Tree.{Head, close, part, one, isAmbient, sum, count, put, merge, mapHeads, settleBy, bare, PlainHead, Plain, settle}
 use Rattle.machine.specs.Bodies.{find, drop, alter}
 use Rattle.machine.specs.PlainMachine.{substituteHead, substituteBody, plain}
-use Rattle.machine.proofs.Options.{byTest, some-is, none≢some}
+use Rattle.slices.proofs.Tests.{byTest}
+use Rattle.machine.proofs.Options.{some-is, none≢some}
 use Rattle.machine.proofs.Sums.{drop-none, merge-sum, settle-sum, Shrinks, plain-numbers}
 use Rattle.calculus.specs.Calculus.{Process, _∣_, ambient, action, output, _≅_, Refl, Symm, Trans, Amb, Input, ParComm, ParAssoc, ZeroPar, prefix, piece, process, substitute}
 use Rattle.calculus.proofs.Variables.{eqb-same, eqb-flip}

@@ -14,7 +14,8 @@ use Rattle.machine.specs.Bodies.{_>>=_, orElse, check, find, drop, alter, holde
 use Rattle.machine.specs.Moves.{isNamed, sameName, toEnter, toExit, toOpen, Moved, variableOf, messageOf, quiet, onward, headName, firstOf, spend, enterMove, exitMove, openMove, receiveMove, moveHere, anywhere}
 use Rattle.machine.specs.Moves as moves
 use Rattle.machine.specs.PlainMachine.{substituteBody, plain, settled, settledBy, move}
-use Rattle.machine.proofs.Options.{byTest, none≢some, bind-some, bind-none}
+use Rattle.slices.proofs.Tests.{byTest}
+use Rattle.machine.proofs.Options.{none≢some, bind-some, bind-none}
 use Rattle.machine.proofs.Inversion.{Opened, Received, Entered, Exited}
 use Rattle.machine.proofs.Sums.{find-none, drop-none, anywhere-sum}
 use Rattle.calculus.specs.Order.{Part, front, behind}

@@ -8,7 +8,7 @@ use lib.Dec.{eqb}
 use borrow.Author.Tests.{eqb-true}
 use Rattle.messages.specs.Message.{Message, variable, mentions}
 use Rattle.messages.specs.Message as message
-use Rattle.machine.proofs.Options.{byTest}
+use Rattle.slices.proofs.Tests.{byTest}
 use Rattle.calculus.specs.Calculus.{Process, _∣_, ambient, input, output, _≅_, Refl, Alpha, Symm, Trans, Par, Amb, Action, Input, ParComm, ParAssoc, ZeroPar, Null, Path, substitute, occurs, _⟶_, RedIn, RedOut, RedOpen, RedIO, RedPar, RedAmb, RedCong}
 use Rattle.messages.proofs.Mentioning.{mentions-other}
 use Rattle.calculus.proofs.Variables.{occurs-less, input-same, input-other, substitute-absent, substitute-twice, substitute-comm, substitute-free, free, free-same, free-other, free-occurs, free-gone, free-less, free-more}

@@ -19,7 +19,7 @@ use Rattle.scripts.specs.Table as table
 use Rattle.scripts.specs.declared.Table.{Table}
 use Rattle.scripts.specs.declared.Scan.{Scan}
 use Rattle.scripts.proofs.Tabled.{script-number}
-use Rattle.machine.proofs.Options.{byTest}
+use Rattle.slices.proofs.Tests.{byTest}
 use Rattle.rules.specs.Rule.{Rule, ruleName, greatestRuleName}
 use Rattle.rules.specs.ReadRule.{readWholeRule}
 use Rattle.rule_reader.specs.Ruled as ruled

@@ -20,7 +20,7 @@ use Rattle.scripts.specs.Measures.{receiptsIn, actionsIn, mostItems, movesBound
 use Rattle.bindings.specs.Resolve.{resolve}
 use Rattle.machine.specs.Bodies.{find, drop, alter}
 use Rattle.machine.specs.Moves.{Moved, firstOf, spend, moveHere}
-use Rattle.machine.proofs.Options.{byTest}
+use Rattle.slices.proofs.Tests.{byTest}
 use Rattle.machine.proofs.Inversion.{headName-inv, Here, by-open, by-receive, by-enter, by-exit, here-inv, Makes, now, inner, outer, found}
 use Rattle.machine.proofs.Sums.{find-drop, find-sum, apart, entered-target, by-numbers, made-sum, settle-sum}
 use Rattle.closure_machine.specs.Closure.{Action, ClosureHead, Closure, Bindings, itemsLeft, under, allSpent, settleUnder, closureMove, wholeHead, closureOf}

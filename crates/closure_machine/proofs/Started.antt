@@ -20,7 +20,7 @@ use Rattle.scripts.proofs.Numbers.{Range, two-ranges, sooner, one-range, number
 use Rattle.scripts.proofs.Tabled.{script-tabled}
 use Rattle.bindings.specs.Resolve.{resolve}
 use Rattle.bindings.proofs.Substitution.{New}
-use Rattle.machine.proofs.Options.{byTest}
+use Rattle.slices.proofs.Tests.{byTest}
 use Rattle.machine.proofs.Sums.{map-sum}
 use Rattle.closure_machine.specs.Closure.{itemsLeft, settleUnder, unfoldHead, unfolded, wholeHead, closureOf}
 use Rattle.closure_machine.proofs.Tallies.{of}

@@ -13,7 +13,8 @@ use Rattle.messages.specs.declared.Named.the-variants.{Called}
 use Rattle.scripts.specs.Tree.{ambient, action, receipt, output, isAmbient, close, part, sum, put, merge, settleBy}
 use Rattle.machine.specs.Bodies.{find, drop, alter}
 use Rattle.machine.specs.Moves.{Moved, headName, spentHead, spend, moveHere, anywhere}
-use Rattle.machine.proofs.Options.{byTest, some-is, none≢some}
+use Rattle.slices.proofs.Tests.{byTest}
+use Rattle.machine.proofs.Options.{some-is, none≢some}
 use Rattle.machine.proofs.Inversion.{headName-inv, Here, by-open, by-receive, by-enter, by-exit, here-inv, Makes, now, inner, outer, anywhere-inv}
 use Rattle.machine.proofs.Sums.{entered-target, received-target}
 use Rattle.closure_machine.specs.Closure.{Action, ClosureHead, Closure, Bindings, spentOne, under, allSpent, settleUnder, settledUnder, closureMove}

@@ -17,7 +17,7 @@ use Rattle.sets.proofs.Lists.{elem-insert, elem-remove}
 use Rattle.bindings.specs.Resolve.{resolve}
 use Rattle.scripts.specs.Tree.{ambient, action, receipt, output}
 use Rattle.machine.specs.Moves.{sameName, firstOf, headName}
-use Rattle.machine.proofs.Options.{byTest}
+use Rattle.slices.proofs.Tests.{byTest}
 use Rattle.closure_machine.specs.Closure.{Action, ClosureHead, Bindings, itemsLeft, under, allSpent}
 use Rattle.closures.specs.Represents.{headOf, heads}
 use Rattle.closures.specs.Seen.{nameIn, isNothing, itemAct, itemName, actOf, aimOf, busyOf, isOutput, actUnder, aimUnder, busyUnder, Does, kept, Seen}

@@ -14,7 +14,7 @@ use Rattle.scripts.specs.Tree.{close, part, one, tops, sum, count}
 use Rattle.scripts.specs.Represents.{Held}
 use Rattle.machine.specs.Bodies.{orElse}
 use Rattle.machine.specs.Moves.{Moved, isNamed, headName, onward, inside, anywhere}
-use Rattle.machine.proofs.Options.{byTest}
+use Rattle.slices.proofs.Tests.{byTest}
 use Rattle.closure_machine.specs.Closure.{Action, ClosureHead, Closure, Bindings, under}
 use Rattle.closures.specs.Searches.{firstPlace, placeBelow, place}
 use Rattle.closures.proofs.Holding.{total, self, in-count, not-in, differ, frame}

@@ -14,7 +14,7 @@ use Rattle.messages.specs.declared.First.the-variants.{Nothing}
 use Rattle.scripts.specs.Tree.{ambient, action, receipt, output, isAmbient}
 use Rattle.bindings.specs.Resolve.{resolve, messageOf}
 use Rattle.machine.specs.Moves.{headName, firstOf, spentHead}
-use Rattle.machine.proofs.Options.{byTest}
+use Rattle.slices.proofs.Tests.{byTest}
 use Rattle.closure_machine.specs.Closure.{ClosureHead, Bindings, itemsLeft, under}
 use Rattle.closures.specs.Represents.{headOf}
 

@@ -12,7 +12,8 @@ use Rattle.sets.specs.Sets.{elem, insert, remove, join, keep, isNone}
 use Rattle.scripts.specs.Tree.{Body, close, part, one, tops, sum, count, put, merge}
 use Rattle.scripts.specs.Represents.{Held}
 use Rattle.machine.specs.Bodies.{find, drop, alter, holder}
-use Rattle.machine.proofs.Options.{byTest, some-is, none≢some}
+use Rattle.slices.proofs.Tests.{byTest}
+use Rattle.machine.proofs.Options.{some-is, none≢some}
 use Rattle.machine.proofs.Sums.{drop-none, find-sum}
 
 -- a sum over the numbers of all parts, at any depth

@@ -14,7 +14,7 @@ use Rattle.sets.specs.Sets.{members, elem, insert, both}
 use Rattle.sets.proofs.Lists.{elem-insert}
 use Rattle.sets.proofs.Members.{elem-keep}
 use Rattle.machine.specs.Moves.{isThat}
-use Rattle.machine.proofs.Options.{byTest}
+use Rattle.slices.proofs.Tests.{byTest}
 use Rattle.closures.specs.Seen.{nameIn}
 
 -- ---- a set of the numbers below 64 that pass a test

@@ -12,7 +12,7 @@ use Rattle.sets.specs.Sets.{elem}
 use Rattle.scripts.specs.Tree.{close, part, one, tops, sum, count}
 use Rattle.scripts.specs.Represents.{Held}
 use Rattle.machine.specs.Moves.{isNamed, headName}
-use Rattle.machine.proofs.Options.{byTest}
+use Rattle.slices.proofs.Tests.{byTest}
 use Rattle.closure_machine.specs.Closure.{ClosureHead, Closure, Bindings, under}
 use Rattle.closures.specs.Searches.{firstPlace, placeBelow, place, Stands}
 use Rattle.closures.proofs.Holding.{self, in-count, not-in}

@@ -11,7 +11,7 @@ use Rattle.scripts.specs.Tree.{ambient, action, receipt, output, close, part, m
 use Rattle.bindings.proofs.Resolving.{resolve-name}
 use Rattle.machine.specs.Moves.{Moved, headName, isNamed, sameName}
 use Rattle.machine.specs.PlainMachine.{plain}
-use Rattle.machine.proofs.Options.{byTest}
+use Rattle.slices.proofs.Tests.{byTest}
 use Rattle.machine.proofs.Inversion.{isNamed-inv, sameName-inv}
 use Rattle.rules.specs.Rule.{Rule}
 use Rattle.calculus.specs.Satisfaction.{wrapped}

@@ -14,7 +14,8 @@ use Rattle.messages.specs.Message.{Message}
 use Rattle.scripts.specs.Tree.{close, part, Plain}
 use Rattle.machine.specs.Moves.{Moved}
 use Rattle.machine.specs.PlainMachine.{move}
-use Rattle.machine.proofs.Options.{byTest, some-is, none≢some}
+use Rattle.slices.proofs.Tests.{byTest}
+use Rattle.machine.proofs.Options.{some-is, none≢some}
 use Rattle.rules.specs.Rule.{Term, Rule, always, negation, either, void, at, beside, some-name, sometime, somewhere, placed, Names, termName}
 use Rattle.calculus.specs.Satisfaction.{Within, here, deeper, Reaches, stay, go, wrapped, Sat}
 use Rattle.decision.specs.Walk.{Count, Walked, stopped, says, Setting, range, onYes, onNo, turned, ifAny, firstYes, lastName, look, counted, walk}

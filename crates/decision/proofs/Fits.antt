@@ -9,7 +9,7 @@ use Rattle.messages.specs.Message.{Message, name, variable, enter, exit, opens,
 use Rattle.scripts.specs.Tree.{ambient, action, receipt, output, PlainHead, Plain}
 use Rattle.machine.specs.Moves.{Moved, spentHead}
 use Rattle.machine.specs.PlainMachine.{rest, substituteHead, substituteBody, plain, move}
-use Rattle.machine.proofs.Options.{byTest}
+use Rattle.slices.proofs.Tests.{byTest}
 use Rattle.machine.proofs.Naturality.{mapHead}
 use Rattle.machine.proofs.Everywhere.{Everywhere, map-everywhere, still-everywhere, more-everywhere, Keeps, move-everywhere}
 use Rattle.rules.specs.Rule.{Term, constant, chosen, Rule, always, negation, either, void, at, beside, some-name, sometime, somewhere, placed, Names, lookup, termName}

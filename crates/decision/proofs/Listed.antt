@@ -13,7 +13,8 @@ use Rattle.messages.specs.declared.Named.the-variants.{Called}
 use Rattle.scripts.specs.Tree.{close, part, PlainHead, Plain}
 use Rattle.machine.specs.Moves.{Moved, headName, isNamed, sameName}
 use Rattle.machine.specs.PlainMachine.{plain, move}
-use Rattle.machine.proofs.Options.{byTest, some-is, none≢some, cond-inv}
+use Rattle.slices.proofs.Tests.{byTest}
+use Rattle.machine.proofs.Options.{some-is, none≢some, cond-inv}
 use Rattle.machine.proofs.Inversion.{isNamed-inv, sameName-inv}
 use Rattle.calculus.specs.Satisfaction.{Divided, nothing, left, right, Inside, first, later, Alone}
 use Rattle.decision.specs.Walk.{range, keep, movesTo, movesFrom, inOrder}

@@ -7,7 +7,7 @@ use mathlib.Core.Path.{_≡_, refl, ap, _∙_}
 use mathlib.Core.Option.{Option, none, some}
 use lib.Dec.{ltb}
 use Rattle.rules.specs.Rule.{Names, termName, Rule, always, negation, either, void, at, beside, some-name, sometime, somewhere, placed}
-use Rattle.machine.proofs.Options.{byTest}
+use Rattle.slices.proofs.Tests.{byTest}
 use Rattle.decision.specs.Walk.{Space, Count, Walked, stopped, says, Setting, range, onYes, onNo, turned, ifAny, firstYes, lastName, look, counted, walk, keep, movesTo, movesFrom, inOrder}
 
 -- nothing beside nothing, or related things

@@ -12,7 +12,7 @@ use Rattle.messages.specs.declared.Named.the-variants.{Called}
 use Rattle.scripts.specs.Tree.{ambient, action, receipt, output, close, part, mapHeads, PlainHead, Plain, noItems, bare, settle}
 use Rattle.machine.specs.Moves.{Moved, headName, moveHere, anywhere}
 use Rattle.machine.specs.PlainMachine.{rest, substituteHead, substituteBody, plain, settledBy, move}
-use Rattle.machine.proofs.Options.{byTest}
+use Rattle.slices.proofs.Tests.{byTest}
 use Rattle.machine.proofs.Naturality.{mapHeads-twice, mapHeads-same, settle-map, renamed, asked, Injective, mapHead, isAmbient-map, Translates, headName-map, mapMoved, moved-map}
 use Rattle.rules.specs.Rule.{Term, constant, chosen, Rule, always, negation, either, void, at, beside, some-name, sometime, somewhere, placed, Names, lookup, termName}
 use Rattle.calculus.specs.Satisfaction.{Divided, nothing, left, right, Inside, first, later, Within, here, deeper, Reaches, stay, go, Alone, wrapped, Sat}

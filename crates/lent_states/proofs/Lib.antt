@@ -1,3 +1,2 @@
 -- Laws of the two arrays that hold a state. Assumes nothing.
-pub mod Copying
 pub mod Standing

@@ -6,7 +6,7 @@ use mathlib.Core.Path.{_≡_, refl, sym, ap, _∙_, subst, transport}
 use native.Mathlib.Omega.{arith}
 use lib.Dec.{eqb, ltb}
 use lib.ListN.{getD, set, length, length-set}
-use lib.Seq.{getD-set-same, getD-set-other, ext-getD}
+use lib.Seq.{getD-set-same, getD-set-other}
 use borrow.Author.Tests.{eqb-true, eqb-false, ltb-true, ltb-false}
 use Rattle.messages.specs.declared.First.{First}
 use Rattle.sets.specs.Sets.{members, elem, insert, remove}
@@ -14,39 +14,17 @@ use Rattle.scripts.specs.Tree.{count}
 use Rattle.scripts.specs.Represents.{bodyIn}
 use Rattle.held_bindings.specs.Held.{bindingsOf}
 use Rattle.machine.specs.Moves.{firstOf}
-use Rattle.machine.proofs.Options.{byTest}
+use Rattle.slices.proofs.Tests.{byTest}
 use Rattle.closure_machine.specs.Closure.{Closure, under}
 use Rattle.closures.specs.Seen.{nameIn, actOf, aimOf, busyOf, Seen}
 use Rattle.closures.specs.Represents.{headOf, heads, boundIn, Counted}
-use Rattle.lent_states.specs.Lent.{stretch, kindsIn, startsIn, bindingsAt, stateIn, standing, Small, Lends}
+use Rattle.targets.specs.Targets.{TargetsOf}
+use Rattle.arrays.specs.Stretches.{stretch}
+use Rattle.lent_states.specs.Lent.{kindsIn, startsIn, bindingsAt, stateIn, standing, Small, Lends}
 use Rattle.closures.specs.declared.State.{State}
 use Rattle.closures.specs.declared.Deed.{Deed}
-use Rattle.lent_states.proofs.Copying.{length-stretch, getD-stretch, set-same}
+use Rattle.arrays.proofs.Copying.{length-stretch, getD-stretch, set-same, stretch-same, stretch-set}
 use Rattle.closures.proofs.Deeds.{kept-set, kept-other, seen-spent, lower, raised-low}
-
--- ---- stretches of two arrays
-
--- arrays that agree there
-pub stretch-same : (i n : ℕ) (l k : List ℕ) → ((j : ℕ) → i ≤ j → j < i + n → getD l j 0 ≡ getD k j 0) → stretch i n l ≡ stretch i n k
-stretch-same i n l k same = ext-getD 0 (stretch i n l) (stretch i n k) (length-stretch i n l ∙ sym (length-stretch i n k))
-    (λ j m.
-    let u : j < n = subst (λ (y : ℕ). j < y) (length-stretch i n l) m in
-    getD-stretch i n j l u ∙ same (i + j) (omega arith) (omega arith) ∙ sym (getD-stretch i n j k u))
-
--- an array of which one entry there is set
-pub stretch-set : (at n i j v : ℕ) (l : List ℕ) → j ≡ at + i → i < n → at + n ≤ length l → stretch at n (set l j v) ≡ set (stretch at n l) i v
-stretch-set at n i j v l e m w = ext-getD 0 (stretch at n (set l j v)) (set (stretch at n l) i v)
-    (length-stretch at n (set l j v) ∙ sym (length-set (stretch at n l) i v ∙ length-stretch at n l))
-    (λ x o.
-    let u : x < n = subst (λ (y : ℕ). x < y) (length-stretch at n (set l j v)) o in
-    getD-stretch at n x (set l j v) u ∙ byTest (eqb x i)
-    (λ t.
-    let q : at + x ≡ j = omega (arith, eqb-true x i t) in
-    ap (λ (y : ℕ). getD (set l j v) y 0) q ∙ getD-set-same l j v 0 (omega arith)
-    ∙ sym (ap (λ (y : ℕ). getD (set (stretch at n l) i v) y 0) (eqb-true x i t) ∙ getD-set-same (stretch at n l) i v 0 (omega (arith, length-stretch at n l))))
-    (λ t.
-    getD-set-other l j (at + x) v 0 (λ q. let z : ⊥ = omega (arith, eqb-false x i t) in z) ∙ sym (getD-stretch at n x l u)
-    ∙ sym (getD-set-other (stretch at n l) i x v 0 (eqb-false x i t))))
 
 -- ---- the bodies
 
@@ -219,3 +197,12 @@ module _ (sets numbers : List ℕ) (a o act aim busy : ℕ) (low : a < 64) (long
             (seen-next (subst (λ (l : List ℕ). (i : ℕ) → getD l i 0 < 4294967295) offsets-raised small));
       };
     }
+
+-- ---- the targets of an actor, found in what is lent
+
+-- what is read of the lent arrays is what the state keeps
+pub targets-lent : (sets numbers : List ℕ) (top : ℕ) (kids : List ℕ) → kids ≡ set (stretch 0 65 sets) 64 top → (p : ℕ → ℕ) (a : ℕ) (r : List ℕ) → a < 64
+    → TargetsOf (bodyIn kids) (getD numbers (256 + a) 0) (members (getD sets (65 + a) 0)) p a r
+    → TargetsOf (bodyIn (stateIn sets numbers top .kids)) (getD (stateIn sets numbers top .looks .acts) a 0) (members (getD (stateIn sets numbers top .looks .aims) a 0)) p a r
+targets-lent sets numbers top kids e p a r l T =
+    transport (λ q. TargetsOf (bodyIn (e q)) (sym (getD-stretch 256 64 a numbers l) q) (members (sym (getD-stretch 65 64 a sets l) q)) p a r) T

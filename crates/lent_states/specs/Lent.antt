@@ -1,23 +1,13 @@
 -- A state and its part table as two arrays, so that the walk lends two and not twenty: which numbers stand where.
 -- Assumes nothing: these are definitions.
-use Prim.Native.Nat.{ℕ, zero, suc, _+_, _≤_, _<_}
-use mathlib.Core.List.{List, [], _∷_}
+use Prim.Native.Nat.{ℕ, _+_, _<_}
+use mathlib.Core.List.{List}
 use mathlib.Core.Path.{_≡_}
 use lib.ListN.{getD, set, length}
+use Rattle.arrays.specs.Stretches.{stretch}
 use Rattle.held_bindings.specs.declared.Bindings.{Bindings}
 use Rattle.closures.specs.Represents.{Ready}
 use Rattle.closures.specs.declared.State.{State}
-
--- n numbers from the i-th on
-unfoldable pub stretch : (i n : ℕ) → List ℕ → List ℕ
-stretch i zero l = []
-stretch i (suc n) l = getD l i 0 ∷ stretch (suc i) n l
-
--- `after` is `before` with the numbers of `from` at the place `at`
-pub record Put (at : ℕ) (from before after : List ℕ) : Type 0 where
-  pub here : (i : ℕ) → i < length from → getD after (at + i) 0 ≡ getD from i 0
-  pub below : (j : ℕ) → j < at → getD after j 0 ≡ getD before j 0
-  pub beyond : (j : ℕ) → at + length from ≤ j → getD after j 0 ≡ getD before j 0
 
 abbrev pub kindsIn : (numbers : List ℕ) → List ℕ
 kindsIn numbers = stretch 0 64 numbers
@@ -58,8 +48,3 @@ pub record Lends (script sets numbers : List ℕ) : Type 0 where
   pub numbers-long : length numbers ≡ 481
   pub small : Small numbers
   pub ready : Ready script (kindsIn numbers) (startsIn numbers) (standing sets numbers)
-
--- To unfold this is to unfold every definition of this module: for a proof by computation.
-unfoldable pub computing : Unit {0}
-unfolding stretch
-computing = tt

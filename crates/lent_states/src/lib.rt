@@ -1,13 +1,22 @@
 // A state as two arrays, for lending: written into them and read out again. It rests on the promises of closures,
-// held_bindings and slices.
+// held_bindings, arrays and slices.
+use arrays::narrow;
+use arrays::numbers_32;
+use arrays::numbers_64;
+use arrays::put_numbers;
+use arrays::put_sets;
+use arrays::sets_64;
+use arrays::sets_65;
+use arrays::widen;
 use closures::Looks;
 use closures::State;
 use held_bindings::Bindings;
 use slices::wide;
 ghost use mathlib.Core.Path.{_≡_};
-ghost use Prim.Native.Nat.{ℕ, _+_, _≤_, _<_};
-ghost use lib.ListN.{length, getD, set};
-ghost use Rattle.lent_states.specs.Lent.{stretch, kindsIn, startsIn, stateIn, standing, Put, Small};
+ghost use Prim.Native.Nat.{ℕ, _+_, _≤_};
+ghost use lib.ListN.{getD, set};
+ghost use Rattle.arrays.specs.Stretches.{stretch};
+ghost use Rattle.lent_states.specs.Lent.{kindsIn, startsIn, stateIn, standing, Small};
 
 // A state beside the part table to which it belongs.
 pub struct Placed {
@@ -22,115 +31,6 @@ pub struct Placed {
 pub struct Lent {
     pub sets: [u64; 131],
     pub numbers: [u32; 481],
-}
-
-// Writes the numbers of from at the place at.
-pub fn put_numbers<'a, 'b>(to: &'b mut [u32; 481], at: usize, from: &'a [u32])
-    requires { ⌜ (length (now to) ≡ 481) × (at + length (now from) ≤ 481) ⌝ }
-    ensures kept { λ r. ⌜ length (now (to .exit)) ≡ 481 ⌝ }
-    ensures put { λ r. ⌜ Put at (now (from .entry)) (now (to .entry)) (now (to .exit)) ⌝ }
-{
-    let mut i: usize = 0;
-    while i < from.len() {
-        to[at + i] = from[i];
-        i += 1;
-    }
-}
-
-// Writes the numbers of from at the place at.
-pub fn put_sets<'a, 'b>(to: &'b mut [u64; 131], at: usize, from: &'a [u64])
-    requires { ⌜ (length (now to) ≡ 131) × (at + length (now from) ≤ 131) ⌝ }
-    ensures kept { λ r. ⌜ length (now (to .exit)) ≡ 131 ⌝ }
-    ensures put { λ r. ⌜ Put at (now (from .entry)) (now (to .entry)) (now (to .exit)) ⌝ }
-{
-    let mut i: usize = 0;
-    while i < from.len() {
-        to[at + i] = from[i];
-        i += 1;
-    }
-}
-
-// The 64 of them from the place at on.
-pub fn numbers_64(from: &[u32; 481], at: usize) -> [u32; 64]
-    requires { ⌜ at + 64 ≤ 481 ⌝ }
-    ensures { λ r. ⌜ r ≡ stretch at 64 (now (from .entry)) ⌝ }
-{
-    let mut r: [u32; 64] = [0; 64];
-    let mut i: usize = 0;
-    while i < 64 {
-        r[i] = from[at + i];
-        i += 1;
-    }
-    r
-}
-
-// The 32 of them from the place at on.
-pub fn numbers_32(from: &[u32; 481], at: usize) -> [u32; 32]
-    requires { ⌜ at + 32 ≤ 481 ⌝ }
-    ensures { λ r. ⌜ r ≡ stretch at 32 (now (from .entry)) ⌝ }
-{
-    let mut r: [u32; 32] = [0; 32];
-    let mut i: usize = 0;
-    while i < 32 {
-        r[i] = from[at + i];
-        i += 1;
-    }
-    r
-}
-
-// The 64 of them from the place at on.
-fn sets_64(from: &[u64; 131], at: usize) -> [u64; 64]
-    requires { ⌜ at + 64 ≤ 131 ⌝ }
-    ensures { λ r. ⌜ r ≡ stretch at 64 (now (from .entry)) ⌝ }
-{
-    let mut r: [u64; 64] = [0; 64];
-    let mut i: usize = 0;
-    while i < 64 {
-        r[i] = from[at + i];
-        i += 1;
-    }
-    r
-}
-
-// The 65 of them from the place at on.
-fn sets_65(from: &[u64; 131], at: usize) -> [u64; 65]
-    requires { ⌜ at + 65 ≤ 131 ⌝ }
-    ensures { λ r. ⌜ r ≡ stretch at 65 (now (from .entry)) ⌝ }
-{
-    let mut r: [u64; 65] = [0; 65];
-    let mut i: usize = 0;
-    while i < 65 {
-        r[i] = from[at + i];
-        i += 1;
-    }
-    r
-}
-
-// Small numbers as bytes, and bytes as numbers.
-fn narrow(from: [u32; 64]) -> [u8; 64]
-    ensures { λ r. ⌜ (((i : ℕ) → i < 64 → getD from i 0 < 256) → r ≡ from) ⌝ }
-{
-    let mut r: [u8; 64] = [0; 64];
-    let mut i: usize = 0;
-    while i < 64 {
-        let n = from[i];
-        r[i] = (n % 256) as u8;
-        i += 1;
-    }
-    r
-}
-
-fn widen(from: [u8; 64]) -> [u32; 64]
-    ensures { λ r. ⌜ (r ≡ from) × ((i : ℕ) → i < 64 → getD r i 0 < 256) ⌝ }
-{
-    let mut r: [u32; 64] = [0; 64];
-    let mut i: usize = 0;
-    while i < 64 {
-        let n = from[i];
-        r[i] = n as u32;
-        i += 1;
-    }
-    r
 }
 
 // The numbers of the parts, in their places.
@@ -220,8 +120,7 @@ pub fn bodies(sets: &[u64; 131], top: u64) -> [u64; 65]
 pub fn borrowed<'a>(sets: &'a [u64; 131], numbers: &'a [u32; 481], top: u64) -> Placed
     ensures { λ r. ⌜ (Small (now (numbers .entry)) → (r .kinds ≡ kindsIn (now (numbers .entry))) × (r .starts ≡ startsIn (now (numbers .entry))) × (r .state ≡ stateIn (now (sets .entry)) (now (numbers .entry)) top)) ⌝ }
 {
-    let mut kids = sets_65(sets, 0);
-    kids[64] = top;
+    let kids = bodies(sets, top);
     let looks = Looks {
         named: sets[129],
         names: numbers_64(numbers, 192),

@@ -12,7 +12,8 @@ use Rattle.scripts.specs.Tree.{Head, receipt, output, isAmbient, Body, close, p
 use Rattle.machine.specs.Bodies.{find, drop, alter}
 use Rattle.machine.specs.Moves.{View, Moved, spentHead, spend, moveHere}
 use Rattle.machine.specs.PlainMachine.{plain, move}
-use Rattle.machine.proofs.Options.{byTest, some-is, none≢some}
+use Rattle.slices.proofs.Tests.{byTest}
+use Rattle.machine.proofs.Options.{some-is, none≢some}
 use Rattle.machine.proofs.Inversion.{Here, by-open, by-receive, by-enter, by-exit, here-inv, Makes, now, inner, outer, move-inv}
 
 -- every part, by its number and its head, has Q

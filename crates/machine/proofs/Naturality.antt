@@ -15,7 +15,8 @@ use Rattle.machine.specs.Bodies.{orElse, check, find, drop, alter, holde
 use Rattle.machine.specs.Moves.{View, isNamed, sameName, toEnter, toExit, toOpen, Moved, variableOf, messageOf, quiet, onward, headName, firstOf, spentHead, spend, enterMove, exitMove, openMove, receiveMove, moveHere, inside, anywhere}
 use Rattle.messages.specs.declared.First.{First}
 use Rattle.messages.specs.declared.First.the-variants.{Nothing, Enter, Exit, Open, Other}
-use Rattle.machine.proofs.Options.{byTest, bind-map, bind-same, orElse-map, cond-inv, cond-map, onward-map}
+use Rattle.slices.proofs.Tests.{byTest}
+use Rattle.machine.proofs.Options.{bind-map, bind-same, orElse-map, cond-inv, cond-map, onward-map}
 use Rattle.machine.proofs.Inversion.{isNamed-inv, variableOf-inv, messageOf-inv, found, Makes, inside-inv, anywhere-inv}
 
 -- Looking up and rewriting, with other heads.

@@ -8,11 +8,6 @@ use Rattle.machine.specs.Bodies.{_>>=_, orElse, check}
 use Rattle.machine.specs.Moves.{Moved, onward}
 use Rattle.scripts.specs.Tree.{Head, Body}
 
--- a case split on a test, with the equation in hand
-pub byTest {ℓ} : {P : Type ℓ} (t : Bool) → (t ≡ true → P) → (t ≡ false → P) → P
-byTest true f g = f refl
-byTest false f g = g refl
-
 pub and-inv : (s t : Bool) → (s && t) ≡ true → (s ≡ true) × (t ≡ true)
 and-inv true t e = (refl, e)
 and-inv false t e = absurd (false≢true e)

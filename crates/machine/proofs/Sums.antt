@@ -14,7 +14,8 @@ use Rattle.scripts.specs.Tree.{Head, receipt, output, Body, close, part, isAmbi
 use Rattle.machine.specs.Bodies.{find, drop, alter}
 use Rattle.machine.specs.Moves.{View, Moved, spentHead, spend, moveHere, anywhere}
 use Rattle.machine.specs.PlainMachine.{substituteHead, substituteBody, plain, move}
-use Rattle.machine.proofs.Options.{byTest, some-is, none≢some}
+use Rattle.slices.proofs.Tests.{byTest}
+use Rattle.machine.proofs.Options.{some-is, none≢some}
 use Rattle.machine.proofs.Inversion.{Received, Entered, Here, by-open, by-receive, by-enter, by-exit, here-inv, Makes, now, inner, outer, anywhere-inv, move-inv}
 
 module _ {H : Type 0} where

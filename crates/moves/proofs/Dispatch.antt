@@ -14,7 +14,8 @@ use Rattle.messages.specs.declared.First.the-variants.{Nothing, Enter, Exit, Op
 use Rattle.scripts.specs.Tree.{ambient, action, receipt, output}
 use Rattle.scripts.specs.Represents.{bodyIn}
 use Rattle.machine.specs.Moves.{toEnter, toExit, toOpen, variableOf, firstOf}
-use Rattle.machine.proofs.Options.{byTest, and-inv}
+use Rattle.slices.proofs.Tests.{byTest}
+use Rattle.machine.proofs.Options.{and-inv}
 use Rattle.closure_machine.specs.Closure.{ClosureHead, Closure, Bindings, under, closureMove}
 use Rattle.closures.specs.Represents.{heads, boundIn, Ready, Represents}
 use Rattle.closures.specs.Searches.{place, Stands}

@@ -6,17 +6,18 @@ use mathlib.Core.Path.{_≡_, refl, sym, ap, _∙_, subst₂, transport}
 use native.Mathlib.Omega.{arith}
 use lib.Dec.{eqb}
 use lib.ListN.{getD, set, length, length-set}
-use lib.Seq.{getD-set-other, ext-getD}
+use lib.Seq.{getD-set-other}
 use borrow.Author.Tests.{eqb-true, eqb-false}
 use Rattle.sets.specs.Sets.{members, insert, remove, join}
 use Rattle.scripts.specs.Represents.{bodyIn}
-use Rattle.machine.proofs.Options.{byTest}
+use Rattle.slices.proofs.Tests.{byTest}
 use Rattle.closure_machine.specs.Closure.{Closure, settleUnder}
 use Rattle.closures.specs.Represents.{boundIn, Ready, Represents}
 use Rattle.closures.specs.declared.State.{State}
 use Rattle.targets.specs.Makes.{Opens, Enters, Exits, Received, Receives}
-use Rattle.lent_states.specs.Lent.{stretch, kindsIn, startsIn, bindingsAt, standing, Put, Small, Lends}
-use Rattle.lent_states.proofs.Copying.{length-stretch}
+use Rattle.arrays.specs.Stretches.{stretch}
+use Rattle.lent_states.specs.Lent.{kindsIn, startsIn, bindingsAt, standing, Small, Lends}
+use Rattle.arrays.proofs.Copying.{length-stretch}
 use Rattle.lent_states.proofs.Standing.{body-in, kids-set, looks-same}
 use Rattle.settling.proofs.Settled.{ready-same}
 use Rattle.moves.proofs.Finishing.{opens, enters, exits, receives, room}
@@ -88,10 +89,6 @@ module _ (script sets numbers sets₁ sets₂ numbers₂ sets₃ : List ℕ) (L 
     left = exits script (kindsIn numbers) (startsIn numbers) s (standing sets₂ numbers₂) (standing sets₃ numbers₂) refl ready then a bound within raised p from into m n (inside from lf) (inside into li) kids lost gained li
 
 -- ---- a receipt: `sets₁` and `numbers₁` with the variable bound, `sets₂` settled
-
--- an array into which another one of its length is put is that one
-pub put-whole : (from before after : List ℕ) → length from ≡ length after → Put 0 from before after → after ≡ from
-put-whole from before after e P = ext-getD 0 after from (sym e) (λ j m. let z : j ≡ 0 + j = omega arith in ap (λ (n : ℕ). getD after n 0) z ∙ P .here j (omega arith))
 
 module _ (script sets numbers sets₁ numbers₁ sets₂ : List ℕ) (kinds starts : List ℕ) (old new : State) (L : Lends script sets numbers) (ek : kinds ≡ kindsIn numbers) (es : starts ≡ startsIn numbers)
     (eo : old ≡ standing sets numbers) (long : length sets₁ ≡ 131) (wide : length numbers₁ ≡ 481) (ek₁ : kindsIn numbers₁ ≡ kinds) (es₁ : startsIn numbers₁ ≡ starts) (small : Small numbers₁) (en : standing sets₁ numbers₁ ≡ new)

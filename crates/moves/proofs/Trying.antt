@@ -11,8 +11,9 @@ use Rattle.closures.specs.Represents.{boundIn, Represents}
 use Rattle.closures.specs.Searches.{place, Located}
 use Rattle.targets.specs.Targets.{isSome, TargetsOf}
 use Rattle.targets.proofs.Aiming.{state-places, state-targets}
-use Rattle.lent_states.specs.Lent.{stretch, kindsIn, startsIn, standing, Lends}
-use Rattle.lent_states.proofs.Copying.{targets-lent}
+use Rattle.arrays.specs.Stretches.{stretch}
+use Rattle.lent_states.specs.Lent.{kindsIn, startsIn, standing, Lends}
+use Rattle.lent_states.proofs.Standing.{targets-lent}
 
 module _ (script sets numbers : List ℕ) (L : Lends script sets numbers) (kids : List ℕ) (e : kids ≡ set (stretch 0 65 sets) 64 (getD sets 64 0)) (p : ℕ → ℕ)
     (Z : Located (members (getD sets 129 0)) (bodyIn kids) p) (weight spent : ℕ) (b : Closure) (few : spent + 1 < 4294967295)

@@ -1,9 +1,10 @@
-// The moves, made on a state that is lent. It rests on the promises of settling, lent_states, targets and sets.
+// The moves, made on a state that is lent. It rests on the promises of settling, lent_states, targets,
+// arrays and sets.
+use arrays::put_numbers;
+use arrays::put_sets;
 use lent_states::bodies;
 use lent_states::borrowed;
 use lent_states::lend;
-use lent_states::put_numbers;
-use lent_states::put_sets;
 use settling::received;
 use settling::settle;
 use settling::spend;

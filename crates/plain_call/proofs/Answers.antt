@@ -10,7 +10,7 @@ use Rattle.messages.specs.Reading.{Cursor, Reading, refuse, got}
 use Rattle.messages.proofs.Readings.{got-inj}
 use Rattle.scripts.specs.Script.{Script, readScript}
 use Rattle.machine.specs.PlainMachine.{Machine}
-use Rattle.machine.proofs.Options.{byTest}
+use Rattle.slices.proofs.Tests.{byTest}
 use Rattle.rules.specs.Rule.{Rule}
 use Rattle.rules.specs.ReadRule.{readWholeRule}
 use Rattle.decision.specs.Walk.{Count, Walked, stopped, says, walkFrom}

@@ -17,7 +17,7 @@ use Rattle.scripts.specs.Script.{Written, Script, readScript, holdHead, hold, s
 use Rattle.scripts.proofs.Numbers.{Range, two-ranges, sooner, one-range, numbered-range}
 use Rattle.scripts.proofs.Cases as body
 use Rattle.scripts.proofs.Tabled.{script-tabled, script-number}
-use Rattle.machine.proofs.Options.{byTest}
+use Rattle.slices.proofs.Tests.{byTest}
 use Rattle.machine.proofs.Sums.{map-sum, settle-sum}
 use Rattle.calculus.specs.Calculus.{Process, _∣_, action, input, piece, process, prefix}
 use Rattle.messages.proofs.Mentioning.{mentions-other}

@@ -10,7 +10,7 @@ use lib.ListN.{length}
 use Rattle.messages.specs.Reading.{Cursor, refuse, got}
 use Rattle.scripts.specs.Script.{Script, readScript}
 use Rattle.machine.specs.Moves.{Moved}
-use Rattle.machine.proofs.Options.{byTest}
+use Rattle.slices.proofs.Tests.{byTest}
 use Rattle.closure_machine.specs.Closure.{Action, closureMove, unfoldMachine, ClosureMachine}
 use Rattle.closure_machine.proofs.Invariant.{move-good}
 use Rattle.closure_machine.proofs.Started.{started-good}

@@ -14,7 +14,7 @@ use Rattle.scripts.specs.Script.{Script, readScript}
 use Rattle.scripts.specs.Measures.{receiptsIn, mostItems, movesBound}
 use Rattle.machine.specs.Moves.{Moved}
 use Rattle.machine.specs.PlainMachine.{Machine}
-use Rattle.machine.proofs.Options.{byTest}
+use Rattle.slices.proofs.Tests.{byTest}
 use Rattle.closure_machine.specs.Closure.{Action, Bindings, closureMove, unfolded, plainNews, unfoldedMove, ClosureMachine, unfoldMachine}
 use Rattle.closure_machine.proofs.Tallies.{of}
 use Rattle.closure_machine.proofs.Invariant.{Good, move-good}

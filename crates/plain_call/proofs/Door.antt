@@ -19,7 +19,7 @@ use Rattle.scripts.specs.Tree.{Head, ambient, action, receipt, output, close, p
 use Rattle.scripts.specs.Script.{Written, Script, readScript, holdHead, hold, started}
 use Rattle.scripts.specs.Measures.{greatestName}
 use Rattle.scripts.proofs.Cases as body
-use Rattle.machine.proofs.Options.{byTest}
+use Rattle.slices.proofs.Tests.{byTest}
 use Rattle.machine.proofs.Everywhere.{Everywhere, map-everywhere, more-everywhere, settle-everywhere}
 use Rattle.rules.specs.Rule.{Rule, negation, either, at, beside, some-name, sometime, somewhere, ruleName, greatestRuleName}
 use Rattle.rules.specs.ReadRule.{isChosen, termOf, readWholeRule}

@@ -10,7 +10,7 @@ use Rattle.scripts.specs.Tree.{parts, settle, bare}
 use Rattle.scripts.specs.Script.{Written, Script, holdHead, hold, started}
 use Rattle.machine.specs.Moves.{Moved}
 use Rattle.machine.specs.PlainMachine.{move, Machine, weightOf}
-use Rattle.machine.proofs.Options.{byTest}
+use Rattle.slices.proofs.Tests.{byTest}
 use Rattle.machine.proofs.Sums.{map-sum, settle-sum, weight}
 use Rattle.plain_call.specs.Call.{Call, halted, moved, actor, target, moveFits, afterMove, ifMade, run, begun}
 use Rattle.plain_call.specs.Standing.{WeightHolds}

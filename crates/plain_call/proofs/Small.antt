@@ -25,7 +25,7 @@ use Rattle.rule_reader.proofs.Tabled.{rule-tabled}
 use Rattle.rule_reader.proofs.Places.{rule-within}
 use Rattle.machine.specs.Moves.{Moved}
 use Rattle.machine.specs.PlainMachine.{move, Machine, weightOf}
-use Rattle.machine.proofs.Options.{byTest}
+use Rattle.slices.proofs.Tests.{byTest}
 use Rattle.decision.specs.Walk.{Space, Count, Walked, stopped, says, Setting, range, onYes, onNo, turned, ifAny, firstYes, lastName, look, counted, walk, walkFrom}
 use Rattle.decision.specs.PlainWalk.{plainSpace}
 use Rattle.plain_call.specs.Call.{Call, Verdict, accepted, refused, Answer, refusal, Ran, halted, moved, actor, target, moveFits, ifMade, run, begun, written, finish, walked, setting, ruleRun, ruleRead, scriptRead, answer}

@@ -1,17 +1,13 @@
 -- Stretches of numbers: a tree whose parts are numbered in word order has each number once, from the first number on.
 -- Assumes nothing.
 use Prim.Native.Nat.{ℕ, _+_, _≤_, _<_}
-use mathlib.Core.Bool.{Bool, true, false}
 use mathlib.Core.Path.{_≡_, refl, ap}
 use native.Mathlib.Omega.{arith}
 use lib.Dec.{eqb, ltb}
 use borrow.Author.Tests.{eqb-true, ltb-true, ltb-false}
+use Rattle.slices.proofs.Tests.{byTest}
 use Rattle.scripts.specs.Tree.{Body, close, part, sum, parts, one, count}
 use Rattle.scripts.specs.Represents.{Numbered}
-
-byTest : {P : Type 0} (t : Bool) → (t ≡ true → P) → (t ≡ false → P) → P
-byTest true f g = f refl
-byTest false f g = g refl
 
 -- how often a number stands in a tree that is numbered from n on
 pub record Range (j n m k : ℕ) : Type 0 where

@@ -2,7 +2,7 @@
 -- what reading gives: the parts are numbered in word order, and their messages are those that the words spell.
 -- Assumes nothing.
 use Prim.Native.Nat.{ℕ, _+_, _-_, _≤_, _<_}
-use mathlib.Core.Bool.{Bool, true, false, _&&_}
+use mathlib.Core.Bool.{_&&_}
 use mathlib.Core.List.{List, [], _∷_, _++_, append-assoc, append-nil}
 use mathlib.Core.Path.{_≡_, refl, sym, ap, ap₂, _∙_, subst}
 use mathlib.Core.Logic.{_⊎_, inl, inr, ⊎-elim}
@@ -11,6 +11,7 @@ use lib.ListN.{length, getD, set, replicate, length-set, length-replicate, getD-
 use lib.Seq.{getD-set-same, getD-set-other}
 use lib.Dec.{leb, ltb, eqb}
 use borrow.Author.Tests.{ne-eqb, eqb-true, eqb-false, lt-ltb, le-ltb, ltb-true, ltb-false, leb-true}
+use Rattle.slices.proofs.Tests.{byTest}
 use Rattle.sets.specs.Sets.{members, insert, mask, Below}
 use Rattle.sets.proofs.Members.{members-rising, members-below, members-empty}
 use Rattle.sets.proofs.Lists.{members-mask, insert-rising}
@@ -138,10 +139,6 @@ module _ (o k s : ℕ) (t : Table) (R : Room t) (W : Owner o (t .count)) (l : t 
   }
 
 -- no message starts behind the n-th word
-
-byTest : {P : Type 0} (t : Bool) → (t ≡ true → P) → (t ≡ false → P) → P
-byTest true y n = y refl
-byTest false y n = n refl
 
 set-low : (n i v : ℕ) (l : List ℕ) → v ≤ n → ((j : ℕ) → getD l j 0 ≤ n) → (j : ℕ) → getD (set l i v) j 0 ≤ n
 set-low n i v l m h j = byTest (eqb j i)

@@ -13,7 +13,7 @@ use Rattle.scripts.specs.Tree.{ambient, close, part, tops, sum, parts, count}
 use Rattle.scripts.specs.Represents.{bodyIn}
 use Rattle.bindings.specs.Resolve.{messageOf}
 use Rattle.held_bindings.specs.declared.Bindings as arrays
-use Rattle.machine.proofs.Options.{byTest}
+use Rattle.slices.proofs.Tests.{byTest}
 use Rattle.closure_machine.specs.Closure.{Closure}
 use Rattle.closures.specs.Represents.{headOf, heads, Represents}
 use Rattle.closures.specs.declared.State.{State}

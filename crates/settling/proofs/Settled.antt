@@ -17,7 +17,7 @@ use Rattle.scripts.proofs.Numbers.{numbered-range}
 use Rattle.bindings.specs.Resolve.{messageOf}
 use Rattle.held_bindings.specs.declared.Bindings as arrays
 use Rattle.held_bindings.specs.Held.{bindingsOf}
-use Rattle.machine.proofs.Options.{byTest}
+use Rattle.slices.proofs.Tests.{byTest}
 use Rattle.machine.proofs.Sums.{map-sum, settle-sum}
 use Rattle.machine.proofs.Naturality.{tops-map}
 use Rattle.closure_machine.specs.Closure.{ClosureHead, Closure, Bindings, allSpent, settleUnder, wholeHead, closureOf}
@@ -29,7 +29,7 @@ use Rattle.closures.specs.declared.State.{State}
 use Rattle.closures.proofs.Holding.{differ, frame}
 use Rattle.closures.proofs.Heads.{kind-ambient}
 use Rattle.lent_states.specs.Lent.{kindsIn, standing}
-use Rattle.lent_states.proofs.Copying.{getD-stretch}
+use Rattle.arrays.proofs.Copying.{getD-stretch}
 use Rattle.lent_states.proofs.Standing.{below-64, body-in}
 use Rattle.settling.proofs.Settling.{settled-count}
 

@@ -10,7 +10,7 @@ use Rattle.sets.specs.Sets.{members, elem, insert, join, both, keep, headOr, ta
 use Rattle.sets.proofs.Members.{insert-front, elem-keep, members-empty, members-same, members-below}
 use Rattle.scripts.specs.Tree.{ambient, action, receipt, output, close, part, one, isAmbient, tops, sum, count, settleBy}
 use Rattle.scripts.specs.Represents.{Held}
-use Rattle.machine.proofs.Options.{byTest}
+use Rattle.slices.proofs.Tests.{byTest}
 use Rattle.machine.proofs.Sums.{settle-sum}
 use Rattle.closure_machine.specs.Closure.{ClosureHead, Closure, Bindings, allSpent, settleUnder}
 use Rattle.closures.specs.Searches.{Settles}

@@ -1,6 +1,8 @@
 // What a move leaves of a state: an item is spent or a message received, and what has no items left is gone; the first
 // state of a script, and the state inside a new ambient (PLACED). It rests on the promises of lent_states, closures,
-// held_bindings, messages, sets and slices.
+// held_bindings, messages, arrays, sets and slices.
+use arrays::numbers_32;
+use arrays::numbers_64;
 use closures::State;
 use closures::item_deed;
 use closures::looked;
@@ -10,8 +12,6 @@ use held_bindings::none;
 use lent_states::Placed;
 use lent_states::borrowed;
 use lent_states::lend;
-use lent_states::numbers_32;
-use lent_states::numbers_64;
 use messages::First;
 use slices::tail;
 use slices::wide;

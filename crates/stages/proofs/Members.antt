@@ -24,8 +24,9 @@ use Rattle.rule_reader.proofs.Inversion.{Told}
 use Rattle.closure_machine.specs.Closure.{Closure, ClosureHead, ClosureMachine, Bindings}
 use Rattle.closures.specs.Seen.{nameIn}
 use Rattle.closures.specs.Represents.{heads, boundIn, Represents}
-use Rattle.lent_states.specs.Lent.{stretch, kindsIn, startsIn, stateIn}
-use Rattle.lent_states.proofs.Copying.{length-stretch, getD-stretch}
+use Rattle.arrays.specs.Stretches.{stretch}
+use Rattle.lent_states.specs.Lent.{kindsIn, startsIn, stateIn}
+use Rattle.arrays.proofs.Copying.{length-stretch, getD-stretch}
 use Rattle.stages.specs.Pieces.{Room, Divides}
 use Rattle.closures.specs.declared.State.{State}
 use Rattle.decision.specs.Walk.{says, ifAny, look, counted, walk}

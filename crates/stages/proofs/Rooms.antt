@@ -13,7 +13,7 @@ use Rattle.sets.proofs.Members.{members-step, members-empty, first-below}
 use Rattle.scripts.specs.Tree.{close, part, tops, sum, count}
 use Rattle.scripts.specs.Represents.{Held, bodyIn}
 use Rattle.machine.specs.Moves.{headName, isNamed}
-use Rattle.machine.proofs.Options.{byTest}
+use Rattle.slices.proofs.Tests.{byTest}
 use Rattle.closure_machine.specs.Closure.{ClosureHead, Closure, Bindings, under, ClosureMachine}
 use Rattle.closures.specs.Seen.{Names}
 use Rattle.closures.specs.Represents.{heads, boundIn, Ready, Represents}

@@ -15,7 +15,7 @@ use Rattle.messages.specs.Message.{name}
 use Rattle.scripts.specs.Tree.{ambient, close, part, sum, tops, count}
 use Rattle.scripts.specs.Represents.{bodyIn}
 use Rattle.machine.specs.Moves.{Moved}
-use Rattle.machine.proofs.Options.{byTest}
+use Rattle.slices.proofs.Tests.{byTest}
 use Rattle.rules.specs.Rule.{Term, constant, chosen, Names, lookup, termName, Rule, ruleIndex, Later}
 use Rattle.rule_reader.specs.Ruled.{Ruled, Said}
 use Rattle.rules.specs.RuleWords.{termWord}
@@ -23,8 +23,9 @@ use Rattle.rules.specs.declared.RuleTerm.the-variants as terms
 use Rattle.rule_reader.proofs.Inversion.{Told, rule-told, rule-inside, constant-said, chosen-said}
 use Rattle.closure_machine.specs.Closure.{Action, Closure, closureMove}
 use Rattle.closures.specs.Represents.{heads, boundIn, Represents}
-use Rattle.lent_states.specs.Lent.{stretch, kindsIn, startsIn, stateIn}
-use Rattle.lent_states.proofs.Copying.{length-stretch}
+use Rattle.arrays.specs.Stretches.{stretch}
+use Rattle.lent_states.specs.Lent.{kindsIn, startsIn, stateIn}
+use Rattle.arrays.proofs.Copying.{length-stretch}
 use Rattle.stages.specs.Pieces.{Piece}
 use Rattle.stages.specs.Visits.{indices, Chosen, Stage, nameSaid, Lendable, Visitable, Scene}
 use Rattle.stages.specs.declared.Limits.{Limits}

@@ -13,7 +13,7 @@ use Rattle.sets.specs.Sets as sets
 use Rattle.sets.proofs.Members.{has-elem, members-step, members-empty, first-below}
 use Rattle.scripts.specs.Tree.{close, part, sum, count}
 use Rattle.machine.specs.Moves.{Moved}
-use Rattle.machine.proofs.Options.{byTest}
+use Rattle.slices.proofs.Tests.{byTest}
 use Rattle.machine.proofs.Everywhere.{Everywhere, settle-everywhere, Keeps, makes-everywhere}
 use Rattle.closure_machine.specs.Closure.{Action, ClosureHead, Closure, Bindings, under, allSpent, closureMove, ClosureMachine}
 use Rattle.closures.proofs.Holding.{self}

@@ -24,8 +24,9 @@ use Rattle.closures.specs.declared.State.{State}
 use Rattle.targets.specs.Targets.{isSome, TargetsOf}
 use Rattle.targets.specs.Makes.{Moves}
 use Rattle.targets.proofs.Aiming.{state-places, state-targets}
-use Rattle.lent_states.specs.Lent.{stretch, kindsIn, startsIn, stateIn}
-use Rattle.lent_states.proofs.Copying.{length-stretch, getD-stretch}
+use Rattle.arrays.specs.Stretches.{stretch}
+use Rattle.lent_states.specs.Lent.{kindsIn, startsIn, stateIn}
+use Rattle.arrays.proofs.Copying.{length-stretch, getD-stretch}
 use Rattle.decision.specs.Walk.{Count, range, onYes, onNo, firstYes, look, movesTo, movesFrom, lastName}
 use Rattle.decision.specs.Walk as spec
 use Rattle.decision.specs.ClosureWalk.{closureSpace, divisions, shares, insides, nexts}

@@ -16,7 +16,8 @@ use Rattle.sets.specs.Sets.{elem}
 use Rattle.scripts.specs.Tree.{ambient, action, receipt, output}
 use Rattle.machine.specs.Moves.{sameName, toEnter, toExit, toOpen, variableOf, messageOf, headName, firstOf}
 use Rattle.machine.proofs.Inversion.{variableOf-inv, messageOf-inv}
-use Rattle.machine.proofs.Options.{byTest, and-inv}
+use Rattle.slices.proofs.Tests.{byTest}
+use Rattle.machine.proofs.Options.{and-inv}
 use Rattle.closure_machine.specs.Closure.{ClosureHead, Bindings, under}
 use Rattle.targets.specs.Targets.{isSome, mayOpen, canOpen, canReceive, canEnter, canExit, canMoveFrom, canMove}
 

@@ -17,7 +17,7 @@ use Rattle.sets.proofs.Members.{elem-keep, members-empty}
 use Rattle.scripts.specs.Tree.{ambient, action, receipt, output}
 use Rattle.scripts.specs.Represents.{bodyIn}
 use Rattle.machine.specs.Moves.{sameName, toEnter, toExit, toOpen, variableOf, messageOf, headName, firstOf}
-use Rattle.machine.proofs.Options.{byTest}
+use Rattle.slices.proofs.Tests.{byTest}
 use Rattle.closure_machine.specs.Closure.{ClosureHead, Closure, Bindings, itemsLeft, under, closureMove}
 use Rattle.closures.specs.Represents.{heads, boundIn, Ready, Represents}
 use Rattle.closures.specs.Searches.{place, Stands, Located}

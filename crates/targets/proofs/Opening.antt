@@ -16,7 +16,7 @@ use Rattle.scripts.specs.Tree.{receipt, output, one, tops, count, merge}
 use Rattle.scripts.specs.Represents.{Held}
 use Rattle.machine.specs.Bodies.{_>>=_, check, drop}
 use Rattle.machine.specs.Moves.{Moved, quiet, variableOf, messageOf, spentHead, spend, sameName, toOpen, firstOf, openMove, receiveMove}
-use Rattle.machine.proofs.Options.{byTest}
+use Rattle.slices.proofs.Tests.{byTest}
 use Rattle.machine.proofs.Sums.{find-sum, merge-sum}
 use Rattle.closure_machine.specs.Closure.{Action, ClosureHead, Closure, Bindings, under}
 use Rattle.closures.proofs.Holding.{tops-drop, tops-merge, tops-alter, in-count, differ, frame, held-drop, held-merge, Found, found-in, not-found}

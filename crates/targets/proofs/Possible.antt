@@ -14,7 +14,7 @@ use Rattle.sets.specs.Sets.{elem}
 use Rattle.scripts.specs.Tree.{receipt, output, tops}
 use Rattle.machine.specs.Moves.{Moved, isNamed, sameName, toEnter, toExit, toOpen, variableOf, messageOf, headName, firstOf, moveHere, anywhere}
 use Rattle.machine.proofs.Inversion.{Here, by-open, by-receive, by-enter, by-exit, here-inv}
-use Rattle.machine.proofs.Options.{byTest}
+use Rattle.slices.proofs.Tests.{byTest}
 use Rattle.closure_machine.specs.Closure.{Action, ClosureHead, Closure, Bindings, under, settledUnder, closureMove}
 use Rattle.closures.specs.Searches.{place, Stands}
 use Rattle.closures.proofs.Holding.{found-inv}

@@ -12,11 +12,11 @@ use borrow.Author.Tests.{eqb-true, eqb-false}
 use Rattle.messages.specs.declared.Named.the-variants.{Called}
 use Rattle.sets.specs.Sets.{members, elem}
 use Rattle.machine.specs.Moves.{sameName}
-use Rattle.machine.proofs.Options.{byTest}
+use Rattle.slices.proofs.Tests.{byTest}
 use Rattle.closures.specs.Seen.{nameIn}
 use Rattle.closures.specs.declared.State.{State}
-use Rattle.lent_states.specs.Lent.{stretch}
-use Rattle.lent_states.proofs.Copying.{getD-stretch}
+use Rattle.arrays.specs.Stretches.{stretch}
+use Rattle.arrays.proofs.Copying.{getD-stretch}
 use Rattle.walk.specs.declared.Step.the-variants.{Move, Place}
 
 -- a part's name, by the lent numbers

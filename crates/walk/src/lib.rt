@@ -24,7 +24,8 @@ ghost use Rattle.closures.specs.Searches.{Located};
 ghost use Rattle.closures.specs.Represents.{boundIn, Represents};
 ghost use Rattle.targets.specs.Targets.{TargetsOf};
 ghost use Rattle.targets.specs.Makes.{Moves};
-ghost use Rattle.lent_states.specs.Lent.{Small, stretch, kindsIn, startsIn, stateIn};
+ghost use Rattle.arrays.specs.Stretches.{stretch};
+ghost use Rattle.lent_states.specs.Lent.{Small, kindsIn, startsIn, stateIn};
 ghost use Rattle.walk.specs.declared.Step.the-variants.{Move, Place};
 ghost use Rattle.stages.specs.Visits.{Lendable};
 

@@ -3,7 +3,7 @@ use mathlib.Core.Path.{_≡_, _∙_}
 use native.Mathlib.Omega.{arith}
 use lib.ListN.{length, set, replicate}
 use lib.Seq.{getD-set-same, getD-set-other, lt-length-set}
-use Rattle.lent_states.proofs.Copying.{put-here, put-before, set-before}
+use Rattle.arrays.proofs.Copying.{put-here, put-before, set-before}
 use borrow.Author.Needs.{needs}
 use Rattle.lent_states.proofs.all_sets.Statement.{statement}
 use Rattle.lent_states.proofs.all_sets.Tie as tie

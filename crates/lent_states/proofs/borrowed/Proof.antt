@@ -2,8 +2,8 @@
 use Prim.Native.Nat.{ℕ, _<_}
 use mathlib.Core.List.{List}
 use mathlib.Core.Path.{sym, _∙_, subst}
-use lib.ListN.{getD, set}
-use Rattle.lent_states.proofs.Copying.{small-of, to-start}
+use lib.ListN.{getD}
+use Rattle.arrays.proofs.Copying.{small-of, to-start}
 use borrow.Author.Needs.{needs}
 use Rattle.lent_states.proofs.borrowed.Statement.{statement}
 use Rattle.lent_states.proofs.borrowed.Tie as tie
@@ -16,7 +16,7 @@ returns c small =
       kinds,
       c .numbers-645 .ensures,
       λ q. record {
-        kids = set (c .before .before .before .before .before .before .before .before .before .before .before .before .before .before .before .before .before .sets-65 .ensures q) 64 (c .before .before .before .before .before .before .before .before .before .before .before .before .before .before .before .before .before .before .args .top);
+        kids = c .before .before .before .before .before .before .before .before .before .before .before .before .before .before .before .before .before .bodies .ensures q;
         offsets = c .before .before .before .numbers-643 .ensures q;
         looks = record { named = getD (c .before .before .before .before .before .before .before .before .before .before .before .before .before .before .before .before .before .before .args .sets .now) 129 0; names = c .before .before .before .before .before .before .before .before .before .before .before .before .before .before .before .numbers-64 .ensures q; acts = acts q; aims = c .before .before .before .before .before .before .before .before .before .before .before .before .sets-64 .ensures q; busy = getD (c .before .before .before .before .before .before .before .before .before .before .before .before .before .before .before .before .before .before .args .sets .now) 130 0 };
         bindings = record { variables = c .before .before .before .before .before .before .before .before .before .before .numbers-32 .ensures q; places = c .before .before .before .before .before .before .before .before .before .numbers-322 .ensures q; counts = c .before .before .before .before .before .before .before .before .numbers-323 .ensures q; sizes = c .before .before .before .before .before .before .before .numbers-324 .ensures q; bulks = c .before .before .before .before .before .before .numbers-325 .ensures q; first = c .before .before .before .before .wide .ensures q };
@@ -28,7 +28,6 @@ borrowed-spec =
     tie.close
     (tie.spec
     (λ c κs. search needs)
-    (λ c. search needs)
     (λ c. search needs)
     (λ c κs. search needs)
     (λ c κs. search needs)

@@ -2,9 +2,9 @@
 use mathlib.Core.Path.{_≡_, _∙_}
 use native.Mathlib.Omega.{arith}
 use lib.ListN.{getD, set}
-use Rattle.lent_states.specs.Lent.{stretch}
+use Rattle.arrays.specs.Stretches.{stretch}
 use Rattle.lent_states.proofs.Standing.{standing-kids}
-use Rattle.lent_states.proofs.Copying.{small-in, small-of, from-start, to-start}
+use Rattle.arrays.proofs.Copying.{small-in, small-of, from-start, to-start}
 use borrow.Author.Needs.{needs}
 use Rattle.lent_states.proofs.lend.Statement.{statement}
 use Rattle.lent_states.proofs.lend.Tie as tie

@@ -2,8 +2,8 @@
 use mathlib.Core.Path.{_≡_, _∙_}
 use native.Mathlib.Omega.{arith}
 use lib.ListN.{length, replicate}
-use Rattle.lent_states.specs.Lent.{stretch}
-use Rattle.lent_states.proofs.Copying.{put-here, put-before, small-in, from-start}
+use Rattle.arrays.specs.Stretches.{stretch}
+use Rattle.arrays.proofs.Copying.{put-here, put-before, small-in, from-start}
 use borrow.Author.Needs.{needs}
 use Rattle.lent_states.proofs.part_numbers.Statement.{statement}
 use Rattle.lent_states.proofs.part_numbers.Tie as tie

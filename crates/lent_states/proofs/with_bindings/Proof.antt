@@ -3,13 +3,13 @@ use mathlib.Core.Path.{_≡_, _∙_}
 use native.Mathlib.Omega.{arith}
 use lib.ListN.{length}
 use lib.Seq.{getD-set-same}
-use Rattle.lent_states.proofs.Copying.{put-here, put-before, set-before}
+use Rattle.arrays.proofs.Copying.{put-here, put-before, set-before}
 use borrow.Author.Needs.{needs}
 use Rattle.lent_states.proofs.with_bindings.Statement.{statement}
 use Rattle.lent_states.proofs.with_bindings.Tie as tie
 use Rattle.lent_states.proofs.with_bindings.Reads as reads
 use Rattle.lent_states.proofs.with_bindings.Lts as lts
-use Rattle.lent_states.proofs.put_numbers.Reads as put-numbers-reads
+use Rattle.arrays.proofs.put_numbers.Reads as put-numbers-reads
 
 -- the five are arrays
 abbrev Start : Type 0

@@ -7,11 +7,11 @@ use lib.Dec.{eqb}
 use lib.ListN.{getD}
 use borrow.Author.Tests.{eqb-true, eqb-false}
 use Rattle.scripts.specs.Represents.{bodyIn}
-use Rattle.machine.proofs.Options.{byTest}
+use Rattle.slices.proofs.Tests.{byTest}
 use Rattle.closures.specs.Represents.{heads, boundIn}
 use Rattle.targets.specs.Targets.{canExit}
 use Rattle.lent_states.specs.Lent.{kindsIn, startsIn, standing}
-use Rattle.lent_states.proofs.Copying.{getD-stretch}
+use Rattle.arrays.proofs.Copying.{getD-stretch}
 use Rattle.moves.proofs.Dispatch.{nowhere, can, to-open, to-receive, to-enter, to-exit, inside-some, enter-from, exit-to}
 use Rattle.moves.proofs.make_move.Statement.{statement}
 use Rattle.moves.proofs.make_move.Tie as tie

@@ -4,7 +4,7 @@ use native.Mathlib.Omega.{arith}
 use lib.ListN.{length}
 use Rattle.closures.specs.Represents.{Ready}
 use Rattle.lent_states.specs.Lent.{kindsIn, startsIn, standing, Small}
-use Rattle.moves.proofs.LentMoves.{lends-bodies, put-whole, bound-lends, receipt-made}
+use Rattle.moves.proofs.LentMoves.{lends-bodies, bound-lends, receipt-made}
 use borrow.Author.Needs.{needs}
 use Rattle.moves.proofs.receive_part.Statement.{statement}
 use Rattle.moves.proofs.receive_part.Tie as tie
@@ -12,8 +12,9 @@ use Rattle.moves.proofs.receive_part.Reads as reads
 use Rattle.moves.proofs.receive_part.Lts as lts
 use Rattle.lent_states.proofs.borrowed.Reads as borrowed-reads
 use Rattle.lent_states.proofs.lend.Reads as lend-reads
-use Rattle.lent_states.proofs.put_numbers.Reads as put-numbers-reads
-use Rattle.lent_states.proofs.put_sets.Reads as put-sets-reads
+use Rattle.arrays.proofs.Copying.{put-whole}
+use Rattle.arrays.proofs.put_numbers.Reads as put-numbers-reads
+use Rattle.arrays.proofs.put_sets.Reads as put-sets-reads
 use Rattle.settling.proofs.received.Reads as received-reads
 use Rattle.settling.proofs.settle.Reads as settle-reads
 

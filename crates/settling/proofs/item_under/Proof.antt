@@ -7,7 +7,8 @@ use Rattle.bindings.specs.Measures.{Kept, itemCount}
 use Rattle.machine.specs.Moves.{firstOf}
 use Rattle.closure_machine.specs.Closure.{Bindings, under}
 use Rattle.closures.specs.Represents.{headOf}
-use Rattle.lent_states.specs.Lent.{stretch, bindingsAt}
+use Rattle.arrays.specs.Stretches.{stretch}
+use Rattle.lent_states.specs.Lent.{bindingsAt}
 use borrow.Author.Needs.{needs}
 use Rattle.settling.proofs.item_under.Statement.{statement}
 use Rattle.settling.proofs.item_under.Tie as tie

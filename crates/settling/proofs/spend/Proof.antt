@@ -7,8 +7,8 @@ use lib.ListN.{getD}
 use Rattle.sets.specs.Sets.{members, elem, remove, insert}
 use Rattle.closures.specs.Seen.{nameIn, actOf, aimOf, busyOf}
 use mathlib.Core.Bool.{Bool, cond}
-use Rattle.lent_states.specs.Lent.{stretch}
-use Rattle.lent_states.proofs.Copying.{getD-stretch}
+use Rattle.arrays.specs.Stretches.{stretch}
+use Rattle.arrays.proofs.Copying.{getD-stretch}
 use Rattle.lent_states.proofs.Standing.{spent-kids, kinds-kept, starts-kept, spent-bindings, offsets-raised, spent-lends}
 use borrow.Author.Needs.{needs}
 use Rattle.settling.proofs.spend.Statement.{statement}

@@ -10,7 +10,7 @@ use Rattle.closures.specs.Searches.{Located}
 use Rattle.targets.specs.Targets.{TargetsOf}
 use Rattle.lent_states.specs.Lent.{stateIn}
 use Rattle.walk.proofs.Lendings.{filled-more}
-use Rattle.lent_states.proofs.Copying.{targets-lent}
+use Rattle.lent_states.proofs.Standing.{targets-lent}
 use borrow.Author.Needs.{needs}
 use Rattle.walk.proofs.all_targets.Statement.{statement}
 use Rattle.walk.proofs.all_targets.Tie as tie

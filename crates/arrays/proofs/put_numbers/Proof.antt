@@ -1,12 +1,12 @@
 -- `put_numbers` meets its contract: the first i are put. Assumes nothing.
-use Prim.Native.Nat.{_+_, _≤_, _-_}
+use Prim.Native.Nat.{_≤_, _-_}
 use mathlib.Core.Path.{_≡_, refl, _∙_}
 use native.Mathlib.Omega.{arith}
-use lib.ListN.{getD, length, length-set}
-use Rattle.lent_states.proofs.Copying.{Putting, putting-none, putting-next, put-all}
+use lib.ListN.{length, length-set}
+use Rattle.arrays.proofs.Copying.{Putting, putting-none, putting-next, put-all}
 use borrow.Author.Needs.{needs}
-use Rattle.lent_states.proofs.put_numbers.Statement.{statement}
-use Rattle.lent_states.proofs.put_numbers.Tie as tie
+use Rattle.arrays.proofs.put_numbers.Statement.{statement}
+use Rattle.arrays.proofs.put_numbers.Tie as tie
 
 abbrev Inv-loop : tie.InvT-loop
 Inv-loop to₀ at from i₀ to i = (i ≤ length from) × (length to ≡ 481) × Putting at i from to₀ to
@@ -27,7 +27,7 @@ element-write-to : tie.Need-element-write-to Inv-loop μ-loop
 element-write-to c = omega (arith, c .before .loop-test .taken, c .before .before .before .pre .1)
 
 loop-again : tie.Need-loop-again Inv-loop μ-loop
-loop-again c = (search needs, length-set (c .before .before .loop .to) (c .before .before .before .args .at + c .before .before .loop .i) (getD (c .before .before .before .args .from .now) (c .before .before .loop .i) 0) ∙ c .before .before .loop .inv .1, putting-next (c .before .before .before .args .at) (c .before .before .loop .i) _ (c .before .before .before .args .from .now) (c .before .before .before .args .to .now) _ (omega (arith, c .before .before .loop .inv .1, c .before .loop-test .taken, c .before .before .before .pre .1)) (c .before .before .loop .inv .2) refl)
+loop-again c = (search needs, length-set (c .before .before .loop .to) _ _ ∙ c .before .before .loop .inv .1, putting-next (c .before .before .before .args .at) (c .before .before .loop .i) _ (c .before .before .before .args .from .now) (c .before .before .before .args .to .now) _ (omega (arith, c .before .before .loop .inv .1, c .before .loop-test .taken, c .before .before .before .pre .1)) (c .before .before .loop .inv .2) refl)
 
 returns : tie.Need-returns Inv-loop μ-loop
 returns c = (c .before .loop .inv .1, put-all (c .before .before .args .at) (c .before .loop .i) (c .before .before .args .from .now) (c .before .before .args .to .now) _ (omega (arith, c .before .loop .inv .0, c .loop-test .left)) (c .before .loop .inv .2))

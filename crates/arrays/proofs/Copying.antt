@@ -1,17 +1,14 @@
 -- Arrays copied into a stretch of another, and out of one. Assumes nothing.
 use Prim.Native.Nat.{ℕ, zero, suc, _+_, _≤_, _<_}
 use mathlib.Core.List.{List}
-use mathlib.Core.Path.{_≡_, refl, sym, ap, _∙_, subst, transport}
+use mathlib.Core.Path.{_≡_, refl, sym, ap, _∙_, subst}
 use native.Mathlib.Omega.{arith}
 use lib.Dec.{eqb}
 use lib.ListN.{getD, set, length, length-set}
 use lib.Seq.{getD-set-same, getD-set-other, ext-getD}
 use borrow.Author.Tests.{eqb-true, eqb-false}
-use Rattle.machine.proofs.Options.{byTest}
-use Rattle.sets.specs.Sets.{members}
-use Rattle.scripts.specs.Represents.{bodyIn}
-use Rattle.targets.specs.Targets.{TargetsOf}
-use Rattle.lent_states.specs.Lent.{stretch, stateIn, Put}
+use Rattle.slices.proofs.Tests.{byTest}
+use Rattle.arrays.specs.Stretches.{stretch, Put}
 
 -- ---- a stretch
 
@@ -77,6 +74,10 @@ module _ (at : ℕ) (from before after : List ℕ) (P : Put at from before after
   put-before i n l = ext-getD 0 (stretch i n after) (stretch i n before) (length-stretch i n after ∙ sym (length-stretch i n before))
       (λ j m. let u : j < n = subst (λ (x : ℕ). j < x) (length-stretch i n after) m in getD-stretch i n j after u ∙ P .below (i + j) (omega arith) ∙ sym (getD-stretch i n j before u))
 
+-- an array into which another one of its length is put is that one
+pub put-whole : (from before after : List ℕ) → length from ≡ length after → Put 0 from before after → after ≡ from
+put-whole from before after e P = ext-getD 0 after from (sym e) (λ j m. let z : j ≡ 0 + j = omega arith in ap (λ (n : ℕ). getD after n 0) z ∙ P .here j (omega arith))
+
 pub set-before : (i n j v : ℕ) (l : List ℕ) → i + n ≤ j → stretch i n (set l j v) ≡ stretch i n l
 set-before i n j v l m = ext-getD 0 (stretch i n (set l j v)) (stretch i n l) (length-stretch i n (set l j v) ∙ sym (length-stretch i n l))
     (λ x o.
@@ -103,11 +104,26 @@ set-same l i m = ext-getD 0 (set l i (getD l i 0)) l (length-set l i (getD l i 0
     (λ t. rw (eqb-true j i t) (getD-set-same l i (getD l i 0) 0 m))
     (λ t. getD-set-other l i j (getD l i 0) 0 (eqb-false j i t)))
 
--- ---- the targets of an actor, found in what is lent
+-- ---- stretches of two arrays
 
--- what is read of the lent arrays is what the state keeps
-pub targets-lent : (sets numbers : List ℕ) (top : ℕ) (kids : List ℕ) → kids ≡ set (stretch 0 65 sets) 64 top → (p : ℕ → ℕ) (a : ℕ) (r : List ℕ) → a < 64
-    → TargetsOf (bodyIn kids) (getD numbers (256 + a) 0) (members (getD sets (65 + a) 0)) p a r
-    → TargetsOf (bodyIn (stateIn sets numbers top .kids)) (getD (stateIn sets numbers top .looks .acts) a 0) (members (getD (stateIn sets numbers top .looks .aims) a 0)) p a r
-targets-lent sets numbers top kids e p a r l T =
-    transport (λ q. TargetsOf (bodyIn (e q)) (sym (getD-stretch 256 64 a numbers l) q) (members (sym (getD-stretch 65 64 a sets l) q)) p a r) T
+-- arrays that agree there
+pub stretch-same : (i n : ℕ) (l k : List ℕ) → ((j : ℕ) → i ≤ j → j < i + n → getD l j 0 ≡ getD k j 0) → stretch i n l ≡ stretch i n k
+stretch-same i n l k same = ext-getD 0 (stretch i n l) (stretch i n k) (length-stretch i n l ∙ sym (length-stretch i n k))
+    (λ j m.
+    let u : j < n = subst (λ (y : ℕ). j < y) (length-stretch i n l) m in
+    getD-stretch i n j l u ∙ same (i + j) (omega arith) (omega arith) ∙ sym (getD-stretch i n j k u))
+
+-- an array of which one entry there is set
+pub stretch-set : (at n i j v : ℕ) (l : List ℕ) → j ≡ at + i → i < n → at + n ≤ length l → stretch at n (set l j v) ≡ set (stretch at n l) i v
+stretch-set at n i j v l e m w = ext-getD 0 (stretch at n (set l j v)) (set (stretch at n l) i v)
+    (length-stretch at n (set l j v) ∙ sym (length-set (stretch at n l) i v ∙ length-stretch at n l))
+    (λ x o.
+    let u : x < n = subst (λ (y : ℕ). x < y) (length-stretch at n (set l j v)) o in
+    getD-stretch at n x (set l j v) u ∙ byTest (eqb x i)
+    (λ t.
+    let q : at + x ≡ j = omega (arith, eqb-true x i t) in
+    ap (λ (y : ℕ). getD (set l j v) y 0) q ∙ getD-set-same l j v 0 (omega arith)
+    ∙ sym (ap (λ (y : ℕ). getD (set (stretch at n l) i v) y 0) (eqb-true x i t) ∙ getD-set-same (stretch at n l) i v 0 (omega (arith, length-stretch at n l))))
+    (λ t.
+    getD-set-other l j (at + x) v 0 (λ q. let z : ⊥ = omega (arith, eqb-false x i t) in z) ∙ sym (getD-stretch at n x l u)
+    ∙ sym (getD-set-other (stretch at n l) i x v 0 (eqb-false x i t))))

@@ -1,0 +1,2 @@
+-- Laws of stretches and of what is put into one. Assumes nothing.
+pub mod Copying

@@ -1,0 +1,2 @@
+-- What the contracts of `arrays` cite. Assumes nothing: these are definitions.
+pub mod Stretches
