@@ -1,5 +1,5 @@
 // Copies between arrays, and small numbers as bytes: an array is put into a stretch of a longer one, and a stretch is read
-// out again. It rests on no other crate.
+// out again. It rests on slices, for a law of tests.
 ghost use mathlib.Core.Path.{_≡_};
 ghost use Prim.Native.Nat.{ℕ, _+_, _≤_, _<_};
 ghost use lib.ListN.{length, getD};

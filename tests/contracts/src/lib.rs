@@ -1,0 +1,138 @@
+//! Holds docs/notes/base.md to the sources: each public function has its row in the table "What the contracts rule out",
+//! with two wrong answers and an edit that tries one, and each edit that is named is there.
+
+#[cfg(test)]
+mod tests {
+    use std::collections::BTreeSet;
+    use std::fs;
+    use std::path::{Path, PathBuf};
+
+    /// A row of the table: the function, its wrong answers, and the edits that try them.
+    struct Row {
+        function: String,
+        wrong: Vec<String>,
+        edits: Vec<String>,
+    }
+
+    fn root() -> PathBuf {
+        Path::new(env!("CARGO_MANIFEST_DIR")).join("../..")
+    }
+
+    fn read(path: &Path) -> String {
+        fs::read_to_string(path).unwrap_or_else(|e| panic!("{}: {e}", path.display()))
+    }
+
+    /// The paths in a folder, in order; none where there is no such folder.
+    fn entries(folder: &Path) -> Vec<PathBuf> {
+        let Ok(all) = fs::read_dir(folder) else { return Vec::new() };
+        let mut paths: Vec<PathBuf> = all.map(|entry| entry.expect("an entry").path()).collect();
+        paths.sort();
+        paths
+    }
+
+    fn name(path: &Path) -> String {
+        path.file_stem().expect("a name").to_string_lossy().into_owned()
+    }
+
+    /// The name of the function that a line declares as public.
+    fn declared(line: &str) -> Option<&str> {
+        let rest = line.strip_prefix("pub fn ").or_else(|| line.strip_prefix("pub extern \"C\" fn "))?;
+        rest.split(|c: char| !c.is_alphanumeric() && c != '_').next()
+    }
+
+    /// Every public function of every crate, as crate::function.
+    fn public_functions() -> BTreeSet<String> {
+        let mut found = BTreeSet::new();
+        for folder in entries(&root().join("crates")) {
+            for file in entries(&folder.join("src")) {
+                for function in read(&file).lines().filter_map(declared) {
+                    found.insert(format!("{}::{function}", name(&folder)));
+                }
+            }
+        }
+        found
+    }
+
+    /// Every edit of every crate, as crate/edit.
+    fn edits() -> BTreeSet<String> {
+        let mut found = BTreeSet::new();
+        for folder in entries(&root().join("crates")) {
+            for file in entries(&folder.join("must-fail")) {
+                found.insert(format!("{}/{}", name(&folder), name(&file)));
+            }
+        }
+        found
+    }
+
+    /// What stands between backquotes in a cell.
+    fn quoted(cell: &str) -> Vec<String> {
+        cell.split('`').skip(1).step_by(2).map(str::to_string).collect()
+    }
+
+    /// The rows whose first cell is one function.
+    fn rows() -> Vec<Row> {
+        let text = read(&root().join("docs/notes/base.md"));
+        let (_, section) = text.split_once("## What the contracts rule out").expect("the section");
+        let section = section.split("\n## ").next().expect("its text");
+        let mut found = Vec::new();
+        for line in section.lines().filter(|line| line.starts_with("| `")) {
+            let cells: Vec<&str> = line.trim_matches('|').split('|').collect();
+            assert_eq!(cells.len(), 3, "three cells: {line}");
+            let function = quoted(cells[0]);
+            assert_eq!(function.len(), 1, "one function: {line}");
+            found.push(Row {
+                function: function[0].clone(),
+                wrong: cells[1].split(';').map(|answer| answer.trim().to_string()).collect(),
+                edits: quoted(cells[2]),
+            });
+        }
+        found
+    }
+
+    #[test]
+    fn each_public_function_has_a_row() {
+        let told: BTreeSet<String> = rows().into_iter().map(|row| row.function).collect();
+        let missing: Vec<String> = public_functions().difference(&told).cloned().collect();
+        assert!(missing.is_empty(), "no row: {missing:?}");
+    }
+
+    #[test]
+    fn each_row_is_of_a_function() {
+        // The program's own function, which no crate can call, is met by a host through standard input.
+        let mut functions = public_functions();
+        functions.insert("skycorbel::reply".to_string());
+        let unknown: Vec<String> = rows().into_iter().map(|row| row.function).filter(|f| !functions.contains(f)).collect();
+        assert!(unknown.is_empty(), "no such public function: {unknown:?}");
+    }
+
+    #[test]
+    fn each_row_has_two_wrong_answers_and_an_edit() {
+        for row in rows() {
+            assert!(row.wrong.len() >= 2, "{}: {:?}", row.function, row.wrong);
+            assert!(row.wrong.iter().all(|answer| !answer.is_empty()), "{}: {:?}", row.function, row.wrong);
+            assert!(!row.edits.is_empty(), "{} has no edit", row.function);
+        }
+    }
+
+    #[test]
+    fn each_edit_that_is_named_is_there() {
+        let there = edits();
+        for row in rows() {
+            let missing: Vec<&String> = row.edits.iter().filter(|edit| !there.contains(*edit)).collect();
+            assert!(missing.is_empty(), "{}: no such edit: {missing:?}", row.function);
+        }
+    }
+
+    #[test]
+    fn an_edit_is_of_the_function_s_own_crate_or_of_one_below() {
+        let text = read(&root().join("crates.txt"));
+        let order: Vec<&str> = text.lines().filter_map(|line| line.split_once(':')).map(|(name, _)| name).collect();
+        let place = |name: &str| order.iter().position(|other| *other == name).expect("a crate");
+        for row in rows() {
+            let own = place(row.function.split("::").next().expect("a crate"));
+            for edit in &row.edits {
+                assert!(place(edit.split('/').next().expect("a crate")) <= own, "{}: {edit}", row.function);
+            }
+        }
+    }
+}
