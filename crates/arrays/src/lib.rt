@@ -31,7 +31,7 @@ pub fn put_sets<'a, 'b>(to: &'b mut [u64; 131], at: usize, from: &'a [u64])
     }
 }
 
-// The 64 of them from the place at on.
+// The 64 numbers from the place at on.
 pub fn numbers_64(from: &[u32; 481], at: usize) -> [u32; 64]
     requires { ⌜ at + 64 ≤ 481 ⌝ }
     ensures { λ r. ⌜ r ≡ stretch at 64 (now (from .entry)) ⌝ }
@@ -45,7 +45,7 @@ pub fn numbers_64(from: &[u32; 481], at: usize) -> [u32; 64]
     r
 }
 
-// The 32 of them from the place at on.
+// The 32 numbers from the place at on.
 pub fn numbers_32(from: &[u32; 481], at: usize) -> [u32; 32]
     requires { ⌜ at + 32 ≤ 481 ⌝ }
     ensures { λ r. ⌜ r ≡ stretch at 32 (now (from .entry)) ⌝ }
@@ -59,7 +59,7 @@ pub fn numbers_32(from: &[u32; 481], at: usize) -> [u32; 32]
     r
 }
 
-// The 64 of them from the place at on.
+// The 64 sets from the place at on.
 pub fn sets_64(from: &[u64; 131], at: usize) -> [u64; 64]
     requires { ⌜ at + 64 ≤ 131 ⌝ }
     ensures { λ r. ⌜ r ≡ stretch at 64 (now (from .entry)) ⌝ }
@@ -73,7 +73,7 @@ pub fn sets_64(from: &[u64; 131], at: usize) -> [u64; 64]
     r
 }
 
-// The 65 of them from the place at on.
+// The 65 sets from the place at on.
 pub fn sets_65(from: &[u64; 131], at: usize) -> [u64; 65]
     requires { ⌜ at + 65 ≤ 131 ⌝ }
     ensures { λ r. ⌜ r ≡ stretch at 65 (now (from .entry)) ⌝ }
@@ -87,7 +87,7 @@ pub fn sets_65(from: &[u64; 131], at: usize) -> [u64; 65]
     r
 }
 
-// Small numbers as bytes, and bytes as numbers.
+// Numbers below 256 as bytes.
 pub fn narrow(from: [u32; 64]) -> [u8; 64]
     ensures { λ r. ⌜ (((i : ℕ) → i < 64 → getD from i 0 < 256) → r ≡ from) ⌝ }
 {
@@ -101,6 +101,7 @@ pub fn narrow(from: [u32; 64]) -> [u8; 64]
     r
 }
 
+// Bytes as numbers.
 pub fn widen(from: [u8; 64]) -> [u32; 64]
     ensures { λ r. ⌜ (r ≡ from) × ((i : ℕ) → i < 64 → getD r i 0 < 256) ⌝ }
 {

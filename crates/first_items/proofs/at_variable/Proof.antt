@@ -1,4 +1,4 @@
--- `bindings::at_variable` meets its contract. Assumes nothing.
+-- `first_items::at_variable` meets its contract. Assumes nothing.
 use native.Mathlib.Omega.{arith}
 use borrow.Author.Needs.{needs}
 use Rattle.first_items.proofs.at_variable.Statement.{statement}

@@ -1,4 +1,4 @@
--- `bindings::first_item` meets its contract: the search always stands where the same item is found. Assumes nothing.
+-- `first_items::first_item` meets its contract: the search always stands where the same item is found. Assumes nothing.
 use mathlib.Core.Path.{refl, sym, ap, _∙_}
 use native.Mathlib.Omega.{arith}
 use borrow.Author.Needs.{needs}

@@ -1,4 +1,4 @@
--- `bindings::arity` meets its contract. Assumes nothing.
+-- `message_words::arity` meets its contract. Assumes nothing.
 use native.Mathlib.Omega.{arith}
 use borrow.Author.Needs.{needs}
 use Rattle.message_words.proofs.FirstWords.{arity-small}

@@ -1,4 +1,4 @@
--- `bindings::find` meets its contract: no binding of the variable stands before the i-th. Assumes nothing.
+-- `message_words::find` meets its contract: no binding of the variable stands before the i-th. Assumes nothing.
 use Prim.Native.Nat.{_≤_, _-_}
 use native.Mathlib.Omega.{arith}
 use borrow.Author.Needs.{needs}

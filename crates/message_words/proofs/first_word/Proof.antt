@@ -1,4 +1,4 @@
--- `bindings::first_word` meets its contract. Assumes nothing.
+-- `message_words::first_word` meets its contract. Assumes nothing.
 use mathlib.Core.Path.{_∙_}
 use borrow.Author.Needs.{needs}
 use Rattle.message_words.proofs.FirstWords.{first-none, first-some}

@@ -1,4 +1,4 @@
--- `bindings::given` meets its contract. Assumes nothing.
+-- `message_words::given` meets its contract. Assumes nothing.
 use borrow.Author.Needs.{needs}
 use Rattle.message_words.proofs.given.Statement.{statement}
 use Rattle.message_words.proofs.given.Tie as tie

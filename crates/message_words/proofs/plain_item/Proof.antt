@@ -1,50 +1,11 @@
--- `bindings::plain_item` meets its contract: in each arm the word is the arm's variant. Assumes nothing.
+-- `message_words::plain_item` meets its contract: in each arm the word is the arm's variant. Assumes nothing.
 use borrow.Author.Needs.{needs}
 use Rattle.message_words.specs.Words.{plainItem}
 use Rattle.message_words.proofs.plain_item.Statement.{statement}
 use Rattle.message_words.proofs.plain_item.Tie as tie
 
-returns : tie.Need-returns
-unfolding plainItem
-returns c =
-    rw (c .enum-told .given .1)
-
-returns-2 : tie.Need-returns-2
-unfolding plainItem
-returns-2 c =
-    rw (c .enum-told2 .given .1)
-
-returns-3 : tie.Need-returns-3
-unfolding plainItem
-returns-3 c =
-    rw (c .enum-told3 .given .1)
-
-returns-4 : tie.Need-returns-4
-unfolding plainItem
-returns-4 c =
-    rw (c .enum-told4 .given .1)
-
-returns-5 : tie.Need-returns-5
-unfolding plainItem
-returns-5 c =
-    rw (c .enum-told5 .given .1)
-
-returns-6 : tie.Need-returns-6
-unfolding plainItem
-returns-6 c =
-    rw (c .enum-told6 .given .1)
-
-returns-7 : tie.Need-returns-7
-unfolding plainItem
-returns-7 c =
-    rw (c .enum-told7 .given .1)
-
-returns-8 : tie.Need-returns-8
-unfolding plainItem
-returns-8 c =
-    rw (c .enum-told8 .given .1)
-
 pub plain-item-spec : {M : Type 1} → statement M
+unfolding plainItem
 plain-item-spec =
     tie.close
     (tie.spec
@@ -56,11 +17,11 @@ plain-item-spec =
     (λ c. search needs)
     (λ c. search needs)
     (λ c. search needs)
-    returns
-    returns-2
-    returns-3
-    returns-4
-    returns-5
-    returns-6
-    returns-7
-    returns-8)
+    (λ c. rw (c .enum-told .given .1))
+    (λ c. rw (c .enum-told2 .given .1))
+    (λ c. rw (c .enum-told3 .given .1))
+    (λ c. rw (c .enum-told4 .given .1))
+    (λ c. rw (c .enum-told5 .given .1))
+    (λ c. rw (c .enum-told6 .given .1))
+    (λ c. rw (c .enum-told7 .given .1))
+    (λ c. rw (c .enum-told8 .given .1)))

@@ -1,4 +1,4 @@
--- `rules::read_rule` meets its contract. The measure is how many words are left. Assumes nothing.
+-- `rule_reader::read_rule` meets its contract. The measure is how many words are left. Assumes nothing.
 use Prim.Native.Nat.{ℕ, _+_, _-_, _<_}
 use mathlib.Core.Path.{_≡_, ap, _∙_}
 use native.Mathlib.Omega.{arith}

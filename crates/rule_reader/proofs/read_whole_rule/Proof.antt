@@ -1,4 +1,4 @@
--- `rules::read_whole_rule` meets its contract: questions 7, 11 and 12 around the rule's reading. Assumes nothing.
+-- `rule_reader::read_whole_rule` meets its contract: questions 7, 11 and 12 around the rule's reading. Assumes nothing.
 use mathlib.Core.Path.{ap, _∙_}
 use native.Mathlib.Omega.{arith}
 use Rattle.rule_reader.specs.declared.RuleTable.{RuleTable}

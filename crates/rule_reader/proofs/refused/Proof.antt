@@ -1,4 +1,4 @@
--- `rules::refused` meets its contract. Assumes nothing.
+-- `rule_reader::refused` meets its contract. Assumes nothing.
 use borrow.Author.Needs.{needs}
 use Rattle.rule_reader.proofs.refused.Statement.{statement}
 use Rattle.rule_reader.proofs.refused.Tie as tie

@@ -1,4 +1,4 @@
--- `rules::with_some` meets its contract. Assumes nothing.
+-- `rule_reader::with_some` meets its contract. Assumes nothing.
 use native.Mathlib.Omega.{arith}
 use mathlib.Core.Path.{_≡_}
 use lib.ListN.{length}

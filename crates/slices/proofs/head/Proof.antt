@@ -1,4 +1,4 @@
--- `head` meets its contract: past the end there is no more. Assumes nothing.
+-- `slices::head` meets its contract: past the end there is no more. Assumes nothing.
 use mathlib.Core.Path.{sym, _∙_}
 use native.Mathlib.Omega.{arith}
 use lib.ListN.{length}

@@ -1,4 +1,4 @@
--- `bindings::sum` meets its contract. Assumes nothing.
+-- `slices::sum` meets its contract. Assumes nothing.
 use native.Mathlib.Omega.{arith}
 use borrow.Author.Needs.{needs}
 use Rattle.slices.specs.Sums.{capped}

@@ -1,4 +1,4 @@
--- `bindings::tail` meets its contract: past the end there is nothing. Assumes nothing.
+-- `slices::tail` meets its contract: past the end there is nothing. Assumes nothing.
 use Prim.Native.Nat.{ℕ, _<_}
 use mathlib.Core.List.{List, []}
 use mathlib.Core.Path.{_≡_, sym, _∙_}
