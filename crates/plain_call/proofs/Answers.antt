@@ -1,23 +1,88 @@
--- The answer taken apart: a call that is accepted has read its script and its rule and made its moves, and its walk said so.
--- Assumes nothing.
-use Prim.Native.Nat.{ℕ, _+_, min}
-use mathlib.Core.Bool.{Bool, _&&_}
+-- The answer taken apart, once for all: the ways in which a call ends. So a call that is accepted stands, and its walk says
+-- its answer. Assumes nothing.
+use Prim.Native.Nat.{ℕ, min}
+use mathlib.Core.Bool.{Bool, true, false}
+use mathlib.Core.List.{_++_}
 use mathlib.Core.Path.{_≡_, refl, sym, ap, _∙_}
 use native.Mathlib.Omega.{arith}
 use lib.Dec.{leb}
-use lib.ListN.{length}
+use lib.ListN.{length, drop}
 use Rattle.messages.specs.Reading.{Cursor, Reading, refuse, got}
 use Rattle.messages.proofs.Readings.{got-inj}
-use Rattle.scripts.specs.Script.{Script, readScript}
-use Rattle.machine.specs.PlainMachine.{Machine}
+use Rattle.machine.specs.PlainMachine.{Machine, weightOf}
 use Rattle.slices.proofs.Tests.{byTest}
 use Rattle.rules.specs.Rule.{Rule}
-use Rattle.rules.specs.ReadRule.{readWholeRule}
-use Rattle.decision.specs.Walk.{Count, Walked, stopped, says, walkFrom}
-use Rattle.decision.specs.PlainWalk.{plainSpace}
-use Rattle.plain_call.specs.Call.{Call, accepted, refused, refusal, Ran, halted, moved, run, begun, written, finish, walked, setting, ruleRun, ruleRead, scriptRead, answer}
+use Rattle.decision.specs.Walk.{Count, Walked, stopped, says}
+use Rattle.plain_call.specs.Call.{Call, Answer, accepted, refused, refusal, Ran, halted, moved, run, written, finish, walked, Start, partsOf, walkedOn, ruleRun, starting, door, opened, onward, begins, answer}
 use Rattle.plain_call.specs.Standing.{Standing}
 use Rattle.plain_call.proofs.Runs.{moved-is}
+
+-- question 19
+abbrev pub Roomy : Call → Machine → Bool
+Roomy c m = leb (length (written m)) (min (length (c .buffer)) 268435456)
+
+-- what a call answers that is accepted
+abbrev pub accepting : Call → Machine → Bool → Count → Answer
+accepting c m a n = record {
+  verdict = accepted a;
+  moves = length (c .moves);
+  visits = n .visits;
+  deepest = n .deepest;
+  weight = weightOf m;
+  words = length (written m);
+  buffer = written m ++ drop (length (written m)) (c .buffer);
+}
+
+-- the walk of a call that stands
+abbrev pub walkOf : (c : Call) → Standing c → Walked
+walkOf c s = walkedOn c (s .start) (s .rule) (s .machine)
+
+-- P holds of every answer in which the call may end
+pub record Endings (c : Call) (P : Answer → Type 0) : Type 0 where
+  -- questions 1 to 6
+  pub unread : (q i : ℕ) → starting c ≡ refuse q i → P (refusal q i 0 0 (c .buffer))
+  -- questions 7 to 14
+  pub shut : (s : Start) → starting c ≡ got s → (q i : ℕ) → door c s ≡ refuse q i → P (refusal q i 0 0 (c .buffer))
+  -- questions 15 and 16
+  pub stuck : (s : Start) → starting c ≡ got s → (r : Rule × Cursor) → door c s ≡ got r → (q i : ℕ) → run (partsOf s) 0 (c .moves) (s .machine) ≡ halted q i → P (refusal q i i 0 (c .buffer))
+  -- questions 17 and 18
+  pub tired : (s : Standing c) (q i v : ℕ) → walkOf c s ≡ stopped q i v → P (refusal q i (length (c .moves)) v (c .buffer))
+  -- question 19
+  pub unfit : (s : Standing c) (a : Bool) (n : Count) → walkOf c s ≡ says a n → Roomy c (s .machine) ≡ false → P (refusal 19 0 (length (c .moves)) (n .visits) (c .buffer))
+  pub done : (s : Standing c) (a : Bool) (n : Count) → walkOf c s ≡ says a n → Roomy c (s .machine) ≡ true → P (accepting c (s .machine) a n)
+
+module _ (c : Call) (P : Answer → Type 0) (E : Endings c P) where
+  finish-ends : (s : Standing c) (a : Bool) (n : Count) → walkOf c s ≡ says a n → P (finish c (s .machine) a n)
+  unfolding finish
+  finish-ends s a n e = byTest (Roomy c (s .machine)) (λ t. rw t (E .done s a n e t)) (λ t. rw t (E .unfit s a n e t))
+
+  walked-ends : (s : Standing c) (w : Walked) → walkOf c s ≡ w → P (walked c (s .machine) w)
+  unfolding walked
+  walked-ends s (stopped q i v) e = E .tired s q i v e
+  walked-ends s (says a n) e = finish-ends s a n e
+
+  module _ (s : Start) (es : starting c ≡ got s) where
+    run-ends : (r : Rule × Cursor) → door c s ≡ got r → (x : Ran) → run (partsOf s) 0 (c .moves) (s .machine) ≡ x → P (ruleRun c s r x)
+    unfolding ruleRun
+    run-ends r er (halted q i) e = E .stuck s es r er q i e
+    run-ends r er (moved m) e = walked-ends (record { start = s; rule = r; machine = m; starts = es; enters = er; moves-made = e }) (walkedOn c s r m) refl
+
+    opened-ends : (x : Reading (Rule × Cursor)) → door c s ≡ x → P (opened c s x)
+    unfolding opened
+    opened-ends (refuse q i) e = E .shut s es q i e
+    opened-ends (got r) e = run-ends r e (run (partsOf s) 0 (c .moves) (s .machine)) refl
+
+  begins-ends : (x : Reading Start) → starting c ≡ x → P (begins c x)
+  unfolding begins onward
+  begins-ends (refuse q i) e = E .unread q i e
+  begins-ends (got s) e = opened-ends s e (door c s) refl
+
+  -- THEOREM: what holds of every end of a call holds of its answer.
+  pub answer-ends : P (answer c)
+  unfolding answer
+  answer-ends = begins-ends (starting c) refl
+
+-- ---- an accepted call
 
 refused≢accepted : {B : Type 0} {q i : ℕ} {a : Bool} → refused q i ≡ accepted a → B
 refused≢accepted e = let z : _≡_ {A = ℕ} 0 1 = cc in absurd (let w : ⊥ = omega arith in w)
@@ -25,65 +90,33 @@ refused≢accepted e = let z : _≡_ {A = ℕ} 0 1 = cc in absurd (let w : ⊥ =
 accepted-is : {a b : Bool} → accepted a ≡ accepted b → a ≡ b
 accepted-is e = cc
 
-finish-inv : (c : Call) (m : Machine) (b : Bool) (n : Count) (a : Bool) → finish c m b n .verdict ≡ accepted a → b ≡ a
-unfolding finish refusal
-finish-inv c m b n a e =
-    byTest (leb (length (written m)) (min (length (c .buffer)) 268435456))
-    (λ t. accepted-is (rw t at e))
-    (λ t. refused≢accepted (rw t at e))
-
-walked-inv : (c : Call) (m : Machine) (w : Walked) (a : Bool) → walked c m w .verdict ≡ accepted a → (n : Count) × (w ≡ says a n)
-unfolding walked refusal
-walked-inv c m (stopped q i v) a e = refused≢accepted e
-walked-inv c m (says b n) a e = (n, ap (λ (x : Bool). says x n) (finish-inv c m b n a e))
-
-run-inv : (c : Call) (n p : ℕ) (r : Rule) (x : Ran) (a : Bool) → ruleRun c n p r x .verdict ≡ accepted a
-    → (m : Machine) × (x ≡ moved m) × (k : Count) × (walkFrom (plainSpace (n + p)) (setting c n) r (m .tree) ≡ says a k)
-unfolding ruleRun refusal
-run-inv c n p r (halted q i) a e = refused≢accepted e
-run-inv c n p r (moved m) a e = let (k, w) = walked-inv c m _ a e in (m, refl, k, w)
-
-rule-inv : (c : Call) (b : Script) (n : ℕ) (x : Reading (Rule × Cursor)) (a : Bool) → ruleRead c b n x .verdict ≡ accepted a
-    → (q : Rule × Cursor) × (x ≡ got q) × (ruleRun c n (q .1 .number) (q .0) (run n 0 (c .moves) (begun b)) .verdict ≡ accepted a)
-unfolding ruleRead refusal
-rule-inv c b n (refuse q i) a e = refused≢accepted e
-rule-inv c b n (got q) a e =
-    byTest (leb 1 (c .patience) && leb (c .patience) 16777216)
-    (λ t. byTest (leb (length (c .moves)) 4096)
-    (λ u. (q, refl, rw (t, u) at e))
-    (λ u. refused≢accepted (rw (t, u) at e)))
-    (λ t. refused≢accepted (rw t at e))
-
-script-inv : (c : Call) (x : Reading (Script × Cursor)) (a : Bool) → scriptRead c x .verdict ≡ accepted a
-    → (p : Script × Cursor) × (x ≡ got p) × (ruleRead c (p .0) (p .1 .number) (readWholeRule (p .1 .number) (c .rule)) .verdict ≡ accepted a)
-unfolding scriptRead refusal
-script-inv c (refuse q i) a e = refused≢accepted e
-script-inv c (got p) a e = (p, refl, e)
-
 -- the walk of an accepted call
 abbrev pub Says : (c : Call) → Standing c → Bool → Type 0
-Says c s a = (k : Count) × (walkFrom (plainSpace (s .script .1 .number + s .rule .1 .number)) (setting c (s .script .1 .number)) (s .rule .0) (s .machine .tree) ≡ says a k)
+Says c s a = (k : Count) × (walkOf c s ≡ says a k)
 
 -- THEOREM: a call that is accepted stands, and its walk says its answer.
 pub answer-inv : (c : Call) (a : Bool) → answer c .verdict ≡ accepted a → (s : Standing c) × Says c s a
-unfolding answer
-answer-inv c a e =
-    let (p, ep, e₁) = script-inv c (readScript (c .script)) a e in
-    let (q, eq, e₂) = rule-inv c (p .0) (p .1 .number) (readWholeRule (p .1 .number) (c .rule)) a e₁ in
-    let (m, em, k, w) = run-inv c (p .1 .number) (q .1 .number) (q .0) _ a e₂ in
-    (record { script = p; rule = q; machine = m; script-read = ep; rule-read = eq; moves-made = em }, (k, w))
+unfolding refusal
+answer-inv c a = answer-ends c (λ r. r .verdict ≡ accepted a → (s : Standing c) × Says c s a) (record {
+  unread = λ q i e x. refused≢accepted x;
+  shut = λ s e q i d x. refused≢accepted x;
+  stuck = λ s e r d q i h x. refused≢accepted x;
+  tired = λ s q i v e x. refused≢accepted x;
+  unfit = λ s b n e l x. refused≢accepted x;
+  done = λ s b n e l x. (s, (n, e ∙ ap (λ (y : Bool). says y n) (accepted-is x)));
+})
 
 -- THEOREM: the call determines what stands.
 pub record Same (c : Call) (s t : Standing c) : Type 0 where
-  pub script : s .script ≡ t .script
+  pub start : s .start ≡ t .start
   pub rule : s .rule ≡ t .rule
   pub machine : s .machine ≡ t .machine
 
 pub same : (c : Call) (s t : Standing c) → Same c s t
 same c s t =
-    let qs : s .script ≡ t .script = got-inj (sym (s .script-read) ∙ t .script-read) in
+    let e : s .start ≡ t .start = got-inj (sym (s .starts) ∙ t .starts) in
     record {
-      script = qs;
-      rule = got-inj (sym (s .rule-read) ∙ ap (λ (p : Script × Cursor). readWholeRule (p .1 .number) (c .rule)) qs ∙ t .rule-read);
-      machine = moved-is (sym (s .moves-made) ∙ ap (λ (p : Script × Cursor). run (p .1 .number) 0 (c .moves) (begun (p .0))) qs ∙ t .moves-made);
+      start = e;
+      rule = got-inj (sym (s .enters) ∙ ap (λ (x : Start). door c x) e ∙ t .enters);
+      machine = moved-is (sym (s .moves-made) ∙ ap (λ (x : Start). run (partsOf x) 0 (c .moves) (x .machine)) e ∙ t .moves-made);
     }

@@ -1,14 +1,13 @@
 -- Lists of moves on closures: the closure machine's run unfolds to the plain machine's, halts at the same question and place,
 -- and so no list makes more moves than the script's bound. Assumes nothing.
-use Prim.Native.Nat.{ℕ, suc, _+_, _^_, _≤_, min}
-use mathlib.Core.Bool.{Bool, _&&_}
+use Prim.Native.Nat.{ℕ, suc, _+_, _^_, _≤_}
 use mathlib.Core.List.{List, [], _∷_, _++_}
 use mathlib.Core.Option.{Option, none, some, Option·map}
 use mathlib.Core.Path.{_≡_, refl, sym, ap, _∙_, subst}
 use native.Mathlib.Omega.{arith}
-use lib.Dec.{leb}
 use lib.ListN.{length, length-append, length-take, take}
-use Rattle.messages.specs.Reading.{Cursor, Reading, refuse, got}
+use Rattle.messages.specs.Reading.{Cursor, got}
+use Rattle.messages.proofs.Readings.{got-inj}
 use Rattle.scripts.specs.Tree.{Plain}
 use Rattle.scripts.specs.Script.{Script, readScript}
 use Rattle.scripts.specs.Measures.{receiptsIn, mostItems, movesBound}
@@ -21,14 +20,12 @@ use Rattle.closure_machine.proofs.Invariant.{Good, move-good}
 use Rattle.closure_machine.proofs.Simulation.{unfold-move}
 use Rattle.closure_machine.proofs.Started.{closure-started, started-good}
 use Rattle.closure_machine.proofs.Bound.{budget, Bounded, move-costs, started-bounded, started-budget}
-use Rattle.rules.specs.Rule.{Rule}
-use Rattle.rules.specs.ReadRule.{readWholeRule}
-use Rattle.decision.specs.Walk.{Count, Walked, stopped, says, walkFrom}
-use Rattle.decision.specs.PlainWalk.{plainSpace}
-use Rattle.plain_call.specs.Call.{Call, Ran, actor, target, moveFits, run, refusal, written, finish, walked, setting, ruleRun, ruleRead, scriptRead, answer}
+use Rattle.plain_call.specs.Call.{Call, Ran, actor, target, moveFits, run, refusal, Start, partsOf, startOf, starting, answer}
 use Rattle.plain_call.specs.Call as plain
 use Rattle.plain_call.specs.ClosureCall.{ClosureRan, halted, moved, afterMove, ifMade, closureRun, unfoldRan, begun}
-use Rattle.plain_call.specs.Standing.{BoundHolds, MovesBounded}
+use Rattle.plain_call.specs.Standing.{Standing, BoundHolds, MovesBounded}
+use Rattle.plain_call.proofs.Entering.{starting-got}
+use Rattle.plain_call.proofs.Answers.{answer-ends}
 
 -- the invariant, of a machine
 abbrev pub GoodMachine : ClosureMachine → Type 0
@@ -118,31 +115,26 @@ bound-holds c p e k m l a =
 
 -- ---- what the call answers
 
-finish-moves : (c : Call) (m : Machine) (a : Bool) (n : Count) → finish c m a n .moves ≡ length (c .moves)
-unfolding finish refusal
-finish-moves c m a n = byTest (leb (length (written m)) (min (length (c .buffer)) 268435456)) (λ t. rw t) (λ t. rw t)
+none-made : (n : ℕ) → 0 ≤ n
+none-made n = omega arith
 
-walked-moves : (c : Call) (m : Machine) (w : Walked) → walked c m w .moves ≡ length (c .moves)
-unfolding walked refusal
-walked-moves c m (stopped q i v) = refl
-walked-moves c m (says a n) = finish-moves c m a n
-
-run-moves : (c : Call) (n p : ℕ) (r : Rule) (x : ℕ) (y : Ran) → Paid 0 (length (c .moves)) x y → ruleRun c n p r y .moves ≤ x
-unfolding ruleRun refusal
-run-moves c n p r x (plain.halted q i) h = omega arith
-run-moves c n p r x (plain.moved m) h = omega (arith, walked-moves c m (walkFrom (plainSpace (n + p)) (setting c n) r (m .tree)))
-
-rule-moves : (c : Call) (b : Script) (n x : ℕ) (y : Reading (Rule × Cursor)) → Paid 0 (length (c .moves)) x (run n 0 (c .moves) (plain.begun b)) → ruleRead c b n y .moves ≤ x
-unfolding ruleRead refusal
-rule-moves c b n x (refuse q i) h = omega arith
-rule-moves c b n x (got q) h = byTest (leb 1 (c .patience) && leb (c .patience) 16777216)
-    (λ t. byTest (leb (length (c .moves)) 4096)
-    (λ u. rw (t, u) (run-moves c n (q .1 .number) (q .0) x (run n 0 (c .moves) (plain.begun b)) h))
-    (λ u. rw (t, u) (omega arith)))
-    (λ t. rw t (omega arith))
+so-far : (i n : ℕ) → i ≤ 0 + n → i ≤ n
+so-far i n h = omega arith
 
 -- THEOREM: the moves made, in a refused call too, are at most the bound of the script as read.
 pub moves-bounded : (c : Call) → MovesBounded (c .script) (answer c .moves)
-unfolding MovesBounded answer scriptRead
+unfolding MovesBounded refusal
 moves-bounded c p e =
-    rw e (rule-moves c (p .0) (p .1 .number) (movesBound (p .0)) (readWholeRule (p .1 .number) (c .rule)) (moves-paid (c .script) p e (p .1 .number) (c .moves)))
+    let es : starting c ≡ got (startOf (c .script) p) = starting-got c p e in
+    let paid : Paid 0 (length (c .moves)) (movesBound (p .0)) (run (p .1 .number) 0 (c .moves) (plain.begun (p .0))) = moves-paid (c .script) p e (p .1 .number) (c .moves) in
+    let at : (s : Start) → starting c ≡ got s → Paid 0 (length (c .moves)) (movesBound (p .0)) (run (partsOf s) 0 (c .moves) (s .machine)) =
+    λ s d. subst (λ (s : Start). Paid 0 (length (c .moves)) (movesBound (p .0)) (run (partsOf s) 0 (c .moves) (s .machine))) (got-inj (sym es ∙ d)) paid in
+    let all : (s : Standing c) → length (c .moves) ≤ movesBound (p .0) = λ s. subst (Paid 0 (length (c .moves)) (movesBound (p .0))) (s .moves-made) (at (s .start) (s .starts)) in
+    answer-ends c (λ a. a .moves ≤ movesBound (p .0)) (record {
+      unread = λ q i d. none-made (movesBound (p .0));
+      shut = λ s d q i h. none-made (movesBound (p .0));
+      stuck = λ s d r h q i x. so-far i (movesBound (p .0)) (subst (Paid 0 (length (c .moves)) (movesBound (p .0))) x (at s d));
+      tired = λ s q i v d. all s;
+      unfit = λ s a n d l. all s;
+      done = λ s a n d l. all s;
+    })

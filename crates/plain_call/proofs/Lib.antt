@@ -3,6 +3,7 @@
 pub mod Runs
 pub mod Door
 pub mod Begun
+pub mod Entering
 pub mod Answers
 pub mod Verdicts
 pub mod ClosureRuns

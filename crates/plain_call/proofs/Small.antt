@@ -1,19 +1,19 @@
 -- No answer is large: the place of a refusal and the moves made are at most 4,096, the weight at most 64.
 -- Assumes nothing.
-use Prim.Native.Nat.{ℕ, zero, suc, _+_, _≤_, min}
-use mathlib.Core.Bool.{Bool, true, false, _&&_}
+use Prim.Native.Nat.{ℕ, zero, suc, _+_, _≤_}
+use mathlib.Core.Bool.{true, false}
 use mathlib.Core.List.{List, [], _∷_}
 use mathlib.Core.Option.{Option, none, some}
-use mathlib.Core.Path.{_≡_, refl, subst}
+use mathlib.Core.Path.{_≡_, sym, _∙_, subst}
 use native.Mathlib.Omega.{arith}
-use lib.Dec.{leb, ltb}
+use lib.Dec.{ltb}
 use lib.ListN.{length}
-use borrow.Author.Tests.{leb-true}
-use Rattle.messages.specs.Reading.{Cursor, Reading, refuse, got}
+use Rattle.messages.specs.Reading.{Cursor, got}
 use Rattle.messages.specs.Message.{Message}
-use Rattle.messages.proofs.Places.{Within}
+use Rattle.messages.proofs.Readings.{got-inj}
+use Rattle.messages.proofs.Places.{Within, bind-within}
 use Rattle.scripts.specs.Tree.{parts}
-use Rattle.scripts.specs.Script.{Script, readScript}
+use Rattle.scripts.specs.Script.{readScript}
 use Rattle.scripts.proofs.Tabled.{script-tabled}
 use Rattle.scripts.proofs.Places.{script-within}
 use Rattle.rules.specs.Rule.{Names, Rule, always, negation, either, void, at, beside, some-name, sometime, somewhere, placed, ruleIndex}
@@ -22,14 +22,16 @@ use Rattle.rule_reader.specs.Ruled.{Ruled}
 use Rattle.rule_reader.specs.RuleTable.{vacant, tabulate}
 use Rattle.rule_reader.specs.declared.RuleTable.{RuleTable}
 use Rattle.rule_reader.proofs.Tabled.{rule-tabled}
-use Rattle.rule_reader.proofs.Places.{rule-within}
 use Rattle.machine.specs.Moves.{Moved}
 use Rattle.machine.specs.PlainMachine.{move, Machine, weightOf}
 use Rattle.slices.proofs.Tests.{byTest}
 use Rattle.decision.specs.Walk.{Space, Count, Walked, stopped, says, Setting, range, onYes, onNo, turned, ifAny, firstYes, lastName, look, counted, walk, walkFrom}
 use Rattle.decision.specs.PlainWalk.{plainSpace}
-use Rattle.plain_call.specs.Call.{Call, Verdict, accepted, refused, Answer, refusal, Ran, halted, moved, actor, target, moveFits, ifMade, run, begun, written, finish, walked, setting, ruleRun, ruleRead, scriptRead, answer}
+use Rattle.plain_call.specs.Call.{Call, Verdict, accepted, refused, Answer, refusal, Ran, halted, moved, actor, target, moveFits, ifMade, run, Start, partsOf, setting, starting, answer}
+use Rattle.plain_call.specs.Standing.{Standing, WeightBounded}
 use Rattle.plain_call.proofs.Runs.{run-weighed}
+use Rattle.plain_call.proofs.Entering.{starting-got, start-all, door-inv, door-few, door-within}
+use Rattle.plain_call.proofs.Answers.{walkOf, answer-ends}
 
 -- ---- the walk stops at a word of the rule
 
@@ -156,49 +158,48 @@ unfolding refusal
 refusal-small q i m v b h k = record { place = h; moves = k; weight = omega arith }
 
 module _ (c : Call) where
-  -- behind question 14
-  module _ (few : length (c .moves) ≤ 4096) where
-    finish-small : (m : Machine) (a : Bool) (n : Count) → weightOf m ≤ 64 → Small (finish c m a n)
-    unfolding finish
-    finish-small m a n w =
-        byTest (leb (length (written m)) (min (length (c .buffer)) 268435456))
-        (λ t. rw t (record { place = tt; moves = few; weight = w }))
-        (λ t. rw t (refusal-small 19 0 (length (c .moves)) (n .visits) (c .buffer) (omega arith) few))
+  starting-within : Within 1024 (starting c)
+  unfolding starting
+  starting-within = bind-within 1024 (readScript (c .script)) _ (script-within (c .script)) (λ p e. tt)
 
-    walked-small : (m : Machine) (w : Walked) → weightOf m ≤ 64 → Stops 256 w → Small (walked c m w)
-    unfolding walked
-    walked-small m (stopped q i v) l h = refusal-small q i (length (c .moves)) v (c .buffer) (omega arith) few
-    walked-small m (says a n) l h = finish-small m a n l
+  -- a start weighs at most the script's parts, of which there are at most 64
+  pub start-parts : (s : Start) → starting c ≡ got s → parts (s .read .0) ≤ 64
+  start-parts = start-all c (λ s. parts (s .read .0) ≤ 64) (λ p e. let T = script-tabled (c .script) p e in omega (arith, T .few, T .counted))
 
-    run-small : (n p : ℕ) (r : Rule) (x : Ran) → ((m : Machine) → x ≡ moved m → weightOf m ≤ 64) → Halts 4096 x
-        → ((m : Machine) → Stops 256 (walkFrom (plainSpace (n + p)) (setting c n) r (m .tree))) → Small (ruleRun c n p r x)
-    unfolding ruleRun
-    run-small n p r (halted q i) l h f = refusal-small q i i 0 (c .buffer) h h
-    run-small n p r (moved m) l h f = walked-small m _ (l m refl) (f m)
+  pub standing-weight : (s : Standing c) → weightOf (s .machine) ≤ parts (s .start .read .0)
+  standing-weight s =
+      start-all c (λ t. run (partsOf t) 0 (c .moves) (t .machine) ≡ moved (s .machine) → weightOf (s .machine) ≤ parts (t .read .0))
+      (λ p e x. run-weighed (p .1 .number) (c .moves) (p .0) (s .machine) x) (s .start) (s .starts) (s .moves-made)
 
-  rule-small : (b : Script) (n : ℕ) (y : Reading (Rule × Cursor)) → parts b ≤ 64 → readWholeRule n (c .rule) ≡ y → Small (ruleRead c b n y)
-  unfolding ruleRead
-  rule-small b n (refuse q i) l e = let h : i ≤ 256 = subst (Within 256) e (rule-within n (c .rule)) in refusal-small q i 0 0 (c .buffer) (omega arith) (omega arith)
-  rule-small b n (got p) l e =
-      byTest (leb 1 (c .patience) && leb (c .patience) 16777216)
-      (λ t. byTest (leb (length (c .moves)) 4096)
-      (λ u.
-      let few : length (c .moves) ≤ 4096 = leb-true (length (c .moves)) 4096 u in
-      rw (t, u) (run-small few n (p .1 .number) (p .0) (run n 0 (c .moves) (begun b))
-      (λ m d. let w : weightOf m ≤ parts b = run-weighed n (c .moves) b m d in omega arith)
-      (run-halts 4096 n 0 (c .moves) (begun b) (omega arith))
-      (λ m. whole-stops (plainSpace (n + p .1 .number)) (setting c n) n (c .rule) p e (m .tree))))
-      (λ u. rw (t, u) (refusal-small 14 0 0 0 (c .buffer) (omega arith) (omega arith))))
-      (λ t. rw t (refusal-small 13 0 0 0 (c .buffer) (omega arith) (omega arith)))
+  abbrev few : (s : Standing c) → length (c .moves) ≤ 4096
+  few s = let l = door-few c (s .start) (s .rule) (s .enters) in omega (arith, l)
 
-  script-small : (x : Reading (Script × Cursor)) → readScript (c .script) ≡ x → Small (scriptRead c x)
-  unfolding scriptRead
-  script-small (refuse q i) e = let h : i ≤ 1024 = subst (Within 1024) e (script-within (c .script)) in refusal-small q i 0 0 (c .buffer) (omega arith) (omega arith)
-  script-small (got p) e =
-      let T = script-tabled (c .script) p e in
-      rule-small (p .0) (p .1 .number) (readWholeRule (p .1 .number) (c .rule)) (omega (arith, T .few, T .counted)) refl
+  stops : (s : Standing c) → Stops 256 (walkOf c s)
+  stops s = whole-stops (plainSpace (partsOf (s .start) + s .rule .1 .number)) (setting c (s .start)) (partsOf (s .start)) (c .rule) (s .rule) (door-inv c (s .start) (s .rule) (s .enters) .0) (s .machine .tree)
 
   -- THEOREM: whatever a call is lent, its answer is small.
   pub answer-small : Small (answer c)
-  unfolding answer
-  answer-small = script-small (readScript (c .script)) refl
+  answer-small = answer-ends c Small (record {
+    unread = λ q i e. let h : i ≤ 1024 = subst (Within 1024) e starting-within in refusal-small q i 0 0 (c .buffer) (omega arith) (omega arith);
+    shut = λ s e q i d. let h : i ≤ 256 = subst (Within 256) d (door-within c s) in refusal-small q i 0 0 (c .buffer) (omega arith) (omega arith);
+    stuck = λ s e r d q i x.
+        let l = door-few c s r d in
+        let h : i ≤ 4096 = subst (Halts 4096) x (run-halts 4096 (partsOf s) 0 (c .moves) (s .machine) (omega (arith, l))) in refusal-small q i i 0 (c .buffer) h h;
+    tired = λ s q i v e. let h : i ≤ 256 = subst (Stops 256) e (stops s) in refusal-small q i (length (c .moves)) v (c .buffer) (omega arith) (few s);
+    unfit = λ s a n e l. refusal-small 19 0 (length (c .moves)) (n .visits) (c .buffer) (omega arith) (few s);
+    done = λ s a n e l. record { place = tt; moves = few s; weight = omega (arith, standing-weight s, start-parts (s .start) (s .starts)) };
+  })
+
+  -- THEOREM: the weight that is answered is at most the script's parts.
+  pub weight-bounded : WeightBounded (c .script) (answer c .weight)
+  unfolding WeightBounded refusal
+  weight-bounded p e =
+      let none : 0 ≤ parts (p .0) = omega arith in
+      answer-ends c (λ a. a .weight ≤ parts (p .0)) (record {
+        unread = λ q i d. none;
+        shut = λ s d q i h. none;
+        stuck = λ s d r h q i x. none;
+        tired = λ s q i v d. none;
+        unfit = λ s a n d l. none;
+        done = λ s a n d l. subst (λ (t : Start). weightOf (s .machine) ≤ parts (t .read .0)) (got-inj (sym (s .starts) ∙ starting-got c p e)) (standing-weight s);
+      })

@@ -7,7 +7,7 @@ use mathlib.Core.Option.{Option, none, some}
 use lib.ListN.{length, drop}
 use lib.Dec.{leb, ltb, eqb}
 use Rattle.messages.specs.Words.{kind, operand}
-use Rattle.messages.specs.Reading.{Cursor, Reading, refuse, got}
+use Rattle.messages.specs.Reading.{Cursor, Reading, refuse, got, _>>=_, ask}
 use Rattle.messages.specs.Message.{Message}
 use Rattle.scripts.specs.Script.{Script, readScript, started}
 use Rattle.scripts.specs.Measures.{greatestName}
@@ -107,35 +107,72 @@ unfoldable pub walked : Call → Machine → Walked → Answer
 walked c m (stopped q i v) = refusal q i (length (c .moves)) v (c .buffer)
 walked c m (says a n) = finish c m a n
 
+-- Where a call goes on from question 7: the words of the script (for G), the script as read, the machine that stands, and how
+-- many moves led to it along its line.
+pub record Start : Type 0 where
+  pub words : List ℕ
+  pub read : Script × Cursor
+  pub machine : Machine
+  pub made : ℕ
+
+-- n, the script's parts
+abbrev pub partsOf : Start → ℕ
+partsOf s = s .read .1 .number
+
+-- the script's own start: no move is made
+abbrev pub startOf : (words : List ℕ) → Script × Cursor → Start
+startOf ws p = record { words = ws; read = p; machine = begun (p .0); made = 0 }
+
 -- "G the greatest name in script and rule (0 if none)"
-abbrev pub setting : Call → (n : ℕ) → Setting
-setting c n = record { patience = c .patience; greatest = max (greatestName (c .script)) (greatestRuleName (c .rule)); parts = n }
+abbrev pub setting : Call → Start → Setting
+setting c s = record { patience = c .patience; greatest = max (greatestName (s .words)) (greatestRuleName (c .rule)); parts = partsOf s }
 
--- after the moves: n is the script's parts, p the rule's PLACED words, whose parts are numbered from n on
-unfoldable pub ruleRun : Call → (n p : ℕ) → Rule → Ran → Answer
-ruleRun c n p r (halted q i) = refusal q i i 0 (c .buffer)
-ruleRun c n p r (moved m) = walked c m (walkFrom (plainSpace (n + p)) (setting c n) r (m .tree))
+-- what the walk says of a machine; the parts of the rule's PLACED words are numbered from n on
+abbrev pub walkedOn : Call → Start → Rule × Cursor → Machine → Walked
+walkedOn c s r m = walkFrom (plainSpace (partsOf s + r .1 .number)) (setting c s) (r .0) (m .tree)
 
--- after the rule: "13. Patience 1 to 16,777,216? 14. At most 4,096 moves?"
-unfoldable pub ruleRead : Call → Script → (n : ℕ) → Reading (Rule × Cursor) → Answer
-ruleRead c b n (refuse q i) = refusal q i 0 0 (c .buffer)
-ruleRead c b n (got p) =
-    cond (leb 1 (c .patience) && leb (c .patience) 16777216)
-    (cond (leb (length (c .moves)) 4096)
-    (ruleRun c n (p .1 .number) (p .0) (run n 0 (c .moves) (begun b)))
-    (refusal 14 0 0 0 (c .buffer)))
-    (refusal 13 0 0 0 (c .buffer))
+-- after the moves
+unfoldable pub ruleRun : Call → Start → Rule × Cursor → Ran → Answer
+ruleRun c s r (halted q i) = refusal q i i 0 (c .buffer)
+ruleRun c s r (moved m) = walked c m (walkedOn c s r m)
 
--- after the script
-unfoldable pub scriptRead : Call → Reading (Script × Cursor) → Answer
-scriptRead c (refuse q i) = refusal q i 0 0 (c .buffer)
-scriptRead c (got p) = ruleRead c (p .0) (p .1 .number) (readWholeRule (p .1 .number) (c .rule))
+-- Questions 1 to 6.
+unfoldable pub starting : Call → Reading Start
+starting c = do
+  p ← readScript (c .script)
+  got (startOf (c .script) p)
+
+-- The questions that ask nothing but numbers: "13. Patience 1 to 16,777,216? 14. At most 4,096 moves?"
+unfoldable pub terms : (patience moves : ℕ) → Reading (Unit {0})
+terms p k = do
+  _ ← ask 13 0 (leb 1 p && leb p 16777216)
+  ask 14 0 (leb k 4096)
+
+-- Questions 7 to 14 in their order.
+unfoldable pub door : Call → Start → Reading (Rule × Cursor)
+door c s = do
+  r ← readWholeRule (partsOf s) (c .rule)
+  _ ← terms (c .patience) (s .made + length (c .moves))
+  got r
+
+-- behind the door
+unfoldable pub opened : Call → Start → Reading (Rule × Cursor) → Answer
+opened c s (refuse q i) = refusal q i 0 0 (c .buffer)
+opened c s (got r) = ruleRun c s r (run (partsOf s) 0 (c .moves) (s .machine))
+
+-- From question 7 on.
+unfoldable pub onward : Call → Start → Answer
+onward c s = opened c s (door c s)
+
+unfoldable pub begins : Call → Reading Start → Answer
+begins c (refuse q i) = refusal q i 0 0 (c .buffer)
+begins c (got s) = onward c s
 
 -- What the plain machine answers.
 unfoldable pub answer : Call → Answer
-answer c = scriptRead c (readScript (c .script))
+answer c = begins c (starting c)
 
 -- To unfold this is to unfold every definition of this module: for a proof by computation.
 unfoldable pub computing : Unit {0}
-unfolding refusal moveFits ifMade run finish walked ruleRun ruleRead scriptRead answer
+unfolding refusal moveFits ifMade run finish walked ruleRun starting terms door opened onward begins answer
 computing = tt

@@ -11,23 +11,22 @@ use Rattle.scripts.specs.Measures.{movesBound}
 use Rattle.scripts.specs.Tree.{parts}
 use Rattle.machine.specs.PlainMachine.{Machine, weightOf}
 use Rattle.rules.specs.Rule.{Rule}
-use Rattle.rules.specs.ReadRule.{readWholeRule}
 use Rattle.calculus.specs.Satisfaction.{Sat}
 use Rattle.calculus.specs.Calculus.{Satisfies, process}
-use Rattle.plain_call.specs.Call.{Call, Verdict, accepted, refused, moved, run, begun}
+use Rattle.plain_call.specs.Call.{Call, Verdict, accepted, refused, moved, run, begun, Start, partsOf, starting, door}
 
--- what stands when the walk begins
+-- what stands when the walk begins: the questions 1 to 6 give the start, 7 to 14 the rule, 15 and 16 the machine
 pub record Standing (c : Call) : Type 0 where
-  pub script : Script × Cursor
+  pub start : Start
   pub rule : Rule × Cursor
   pub machine : Machine
-  pub script-read : readScript (c .script) ≡ got script
-  pub rule-read : readWholeRule (script .1 .number) (c .rule) ≡ got rule
-  pub moves-made : run (script .1 .number) 0 (c .moves) (begun (script .0)) ≡ moved machine
+  pub starts : starting c ≡ got start
+  pub enters : door c start ≡ got rule
+  pub moves-made : run (partsOf start) 0 (c .moves) (start .machine) ≡ moved machine
 
 -- the tree that stands meets the rule, read on normal forms
 abbrev pub Meets : (c : Call) → Standing c → Type 0
-Meets c s = Sat (s .script .1 .number) [] (s .rule .0) (s .machine .tree)
+Meets c s = Sat (partsOf (s .start)) [] (s .rule .0) (s .machine .tree)
 
 -- the process of the tree that stands satisfies the rule, by the paper's own relation
 abbrev pub Holds : (c : Call) → Standing c → Type 0
@@ -47,6 +46,10 @@ After c p k m = run (p .1 .number) 0 (take k (c .moves)) (begun (p .0)) ≡ move
 unfoldable pub WeightHolds : Call → Type 0
 WeightHolds c = (p : Script × Cursor) → readScript (c .script) ≡ got p → (k : ℕ) (m : Machine) → After c p k m → weightOf m ≤ parts (p .0)
 
+-- and so of the weight that a call answers, refused or not
+unfoldable pub WeightBounded : (script : List ℕ) (weight : ℕ) → Type 0
+WeightBounded ws w = (p : Script × Cursor) → readScript ws ≡ got p → w ≤ parts (p .0)
+
 -- the bound, r + a × s ^ (r + 1): "The bound counts the moves made, in a refused call too"; here of every beginning of a list
 -- that is made
 abbrev pub BoundHolds : Call → Type 0
@@ -58,5 +61,5 @@ MovesBounded ws n = (p : Script × Cursor) → readScript ws ≡ got p → n ≤
 
 -- To unfold this is to unfold every definition of this module: for a proof by computation.
 unfoldable pub computing : Unit {0}
-unfolding Decides WeightHolds MovesBounded
+unfolding Decides WeightHolds WeightBounded MovesBounded
 computing = tt

@@ -1,0 +1,75 @@
+-- The questions before the moves: what follows where all are answered by yes, and where one is answered by no. Assumes
+-- nothing.
+use Prim.Native.Nat.{ℕ, _+_, _≤_}
+use mathlib.Core.Path.{_≡_, sym, _∙_}
+use native.Mathlib.Omega.{arith}
+use lib.Dec.{leb}
+use lib.ListN.{length}
+use borrow.Author.Tests.{leb-true}
+use Rattle.messages.specs.Reading.{Cursor, Reading, refuse, got, ask}
+use Rattle.messages.proofs.Readings.{got-inj, bind-inv, bind-all, got-all, bind-got, bind-refuse, ask-inv}
+use Rattle.messages.proofs.Places.{Within, bind-within, ask-within}
+use Rattle.scripts.specs.Script.{Script, readScript}
+use Rattle.rules.specs.Rule.{Rule}
+use Rattle.rules.specs.ReadRule.{readWholeRule}
+use Rattle.rule_reader.proofs.Places.{rule-within}
+use Rattle.plain_call.specs.Call.{Call, Start, partsOf, startOf, starting, terms, door}
+
+-- ---- questions 1 to 6
+
+module _ (c : Call) where
+  pub starting-got : (p : Script × Cursor) → readScript (c .script) ≡ got p → starting c ≡ got (startOf (c .script) p)
+  unfolding starting
+  starting-got p e = bind-got (readScript (c .script)) (λ p. got (startOf (c .script) p)) p e
+
+  pub starting-refused : (q i : ℕ) → readScript (c .script) ≡ refuse q i → starting c ≡ refuse q i
+  unfolding starting
+  starting-refused q i e = bind-refuse (readScript (c .script)) (λ p. got (startOf (c .script) p)) q i e
+
+  -- what holds of the start of every script that is read
+  pub start-all : (P : Start → Type 0) → ((p : Script × Cursor) → readScript (c .script) ≡ got p → P (startOf (c .script) p)) → (s : Start) → starting c ≡ got s → P s
+  unfolding starting
+  start-all P f s e = bind-all P (readScript (c .script)) (λ p. got (startOf (c .script) p)) (λ p x. got-all P (startOf (c .script) p) (f p x)) s e
+
+-- ---- the questions that ask numbers
+
+pub terms-few : (p k : ℕ) (u : Unit {0}) → terms p k ≡ got u → k ≤ 4096
+unfolding terms
+terms-few p k u e = let x = bind-inv (ask 13 0 _) (λ v. ask 14 0 (leb k 4096)) u e in leb-true k 4096 (ask-inv 14 0 (leb k 4096) u (x .2))
+
+terms-within : (x p k : ℕ) → Within x (terms p k)
+unfolding terms
+terms-within x p k = bind-within x (ask 13 0 _) (λ v. ask 14 0 (leb k 4096)) (ask-within x 13 0 _ (omega arith)) (λ u e. ask-within x 14 0 (leb k 4096) (omega arith))
+
+-- ---- questions 7 to 14
+
+module _ (c : Call) (s : Start) where
+  abbrev asks : Reading (Unit {0})
+  asks = terms (c .patience) (s .made + length (c .moves))
+
+  pub door-inv : (r : Rule × Cursor) → door c s ≡ got r → (readWholeRule (partsOf s) (c .rule) ≡ got r) × (asks ≡ got tt)
+  unfolding door
+  door-inv r e =
+      let (q, x, y) = bind-inv (readWholeRule (partsOf s) (c .rule)) _ r e in
+      let (u, z, v) = bind-inv asks _ r y in
+      (x ∙ v, z)
+
+  pub door-few : (r : Rule × Cursor) → door c s ≡ got r → s .made + length (c .moves) ≤ 4096
+  door-few r e = terms-few (c .patience) (s .made + length (c .moves)) tt (door-inv r e .1)
+
+  pub door-unread : (q i : ℕ) → readWholeRule (partsOf s) (c .rule) ≡ refuse q i → door c s ≡ refuse q i
+  unfolding door
+  door-unread q i e = bind-refuse (readWholeRule (partsOf s) (c .rule)) _ q i e
+
+  module _ (r : Rule × Cursor) (e : readWholeRule (partsOf s) (c .rule) ≡ got r) where
+    pub door-unasked : (q i : ℕ) → asks ≡ refuse q i → door c s ≡ refuse q i
+    unfolding door
+    door-unasked q i d = bind-got (readWholeRule (partsOf s) (c .rule)) _ r e ∙ bind-refuse asks _ q i d
+
+    pub door-got : asks ≡ got tt → door c s ≡ got r
+    unfolding door
+    door-got d = bind-got (readWholeRule (partsOf s) (c .rule)) _ r e ∙ bind-got asks _ tt d
+
+  pub door-within : Within 256 (door c s)
+  unfolding door
+  door-within = bind-within 256 (readWholeRule (partsOf s) (c .rule)) _ (rule-within (partsOf s) (c .rule)) (λ r e. bind-within 256 asks _ (terms-within 256 (c .patience) (s .made + length (c .moves))) (λ u d. tt))
