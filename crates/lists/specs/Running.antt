@@ -2,7 +2,7 @@
 use Prim.Native.Nat.{ℕ, _+_, _<_}
 use mathlib.Core.List.{List}
 use mathlib.Core.Path.{_≡_}
-use lib.ListN.{length}
+use lib.ListN.{length, take}
 use Rattle.closure_machine.specs.Closure.{Closure}
 use Rattle.closures.specs.Represents.{boundIn, Represents}
 use Rattle.closures.specs.declared.State.{State}
@@ -10,14 +10,31 @@ use Rattle.plain_call.specs.ClosureCall.{ClosureRan, halted, moved, closureRun}
 use Rattle.lists.specs.declared.Ended.{Ended}
 use Rattle.lists.specs.declared.Ended.the-variants.{Made, Halted}
 
-module _ (script kinds starts : List ℕ) where
-  -- the state stands for the machine that the list leaves, or the list is stopped by the same question at the same place
-  abbrev pub Ends : Ended → State → (weight spent : ℕ) → ClosureRan → Type 0
-  Ends e r weight spent (halted q i) = e ≡ Halted q i
-  Ends e r weight spent (moved m) = (e ≡ Made) × Represents script kinds starts weight spent r (m .tree) × (boundIn script r ≡ m .bindings)
+-- how a run ends
+unfoldable pub endedOf : ClosureRan → Ended
+endedOf (halted q i) = Halted q i
+endedOf (moved m) = Made
 
-  -- for every closure for which s stands, n being the script's parts; offsets that fit into 32 bits do after the list
+-- how many moves of a list are made that ends so: all, or those before the place
+abbrev pub madeOf : List ℕ → Ended → ℕ
+madeOf moves Made = length moves
+madeOf moves (Halted q i) = i
+
+module _ (script kinds starts : List ℕ) where
+  -- the state stands for the machine that a run leaves
+  abbrev pub Left : State → (weight spent : ℕ) → ClosureRan → Type 0
+  Left r weight spent (halted q i) = ⊥
+  Left r weight spent (moved m) = Represents script kinds starts weight spent r (m .tree) × (boundIn script r ≡ m .bindings)
+
+  -- For every closure for which s stands, n being the script's parts: the list ends as the closure machine's, and r stands for
+  -- the machine that the moves made leave. Offsets that fit into 32 bits do after the list.
   abbrev pub Runs : (n : ℕ) (moves : List ℕ) (s : State) → Ended → State → Type 0
   Runs n moves s e r =
       (weight spent : ℕ) (b : Closure) → spent + length moves < 4294967295 → Represents script kinds starts weight spent s b
-      → Ends e r weight (spent + length moves) (closureRun n 0 moves (record { tree = b; bindings = boundIn script s }))
+      → (e ≡ endedOf (closureRun n 0 moves (record { tree = b; bindings = boundIn script s })))
+      × Left r weight (spent + madeOf moves e) (closureRun n 0 (take (madeOf moves e) moves) (record { tree = b; bindings = boundIn script s }))
+
+-- To unfold this is to unfold every definition of this module: for a proof by computation.
+unfoldable pub computing : Unit {0}
+unfolding endedOf
+computing = tt

@@ -1,6 +1,6 @@
 -- What the engine's functions for the moves make of a state. Assumes nothing: these are definitions.
 use Prim.Native.Nat.{ℕ, _+_, _<_}
-use mathlib.Core.Bool.{Bool, true}
+use mathlib.Core.Bool.{Bool, true, false}
 use mathlib.Core.List.{List, _∷_, _++_}
 use mathlib.Core.Option.{some}
 use mathlib.Core.Path.{_≡_}
@@ -65,5 +65,5 @@ module _ (script kinds starts : List ℕ) (s r : State) where
   -- r is that state if the move can be made, which `made` says, and s itself if not
   abbrev pub Tries : (made : Bool) (a t : ℕ) → Type 0
   Tries made a t =
-      (weight spent : ℕ) (b : Closure) → spent + 1 < 4294967295 → Represents script kinds starts weight spent s b
-      → (made ≡ isSome (closureMove (boundIn script s) a t b)) × (made ≡ true → Makes weight (spent + 1) a t b)
+      (made ≡ false → r ≡ s) × ((weight spent : ℕ) (b : Closure) → spent + 1 < 4294967295 → Represents script kinds starts weight spent s b
+      → (made ≡ isSome (closureMove (boundIn script s) a t b)) × (made ≡ true → Makes weight (spent + 1) a t b))

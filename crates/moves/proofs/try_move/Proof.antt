@@ -21,9 +21,12 @@ returns c =
       m .0,
       (
         m .1 .0,
-        λ weight spent b few R.
-            let can : true ≡ isSome (closureMove (boundIn (c .before .before .before .before .before .before .before .before .before .before .before .before .before .before .before .before .before .before .args .script .now) (standing (c .before .before .before .before .before .before .before .before .before .before .before .before .before .before .before .before .before .before .args .sets .now) (c .before .before .before .before .before .before .before .before .before .before .before .before .before .before .before .before .before .before .args .numbers .now))) (c .before .before .before .before .before .before .before .before .before .before .before .before .before .before .before .before .before .before .args .a) (c .before .before .before .before .before .before .before .before .before .before .before .before .before .before .before .before .before .before .args .t) b) = sym (c .before .before .before .before .if1 .taken) ∙ c .before .before .before .before .before .has .ensures ∙ lent-targets (c .before .before .before .before .before .before .before .before .before .before .before .before .before .before .before .before .before .before .args .script .now) (c .before .before .before .before .before .before .before .before .before .before .before .before .before .before .before .before .before .before .args .sets .now) (c .before .before .before .before .before .before .before .before .before .before .before .before .before .before .before .before .before .before .args .numbers .now) (c .before .before .before .before .before .before .before .before .before .before .before .before .before .before .before .before .before .before .pre .2) (c .before .before .before .before .before .before .before .before .before .before .before .before .before .before .bodies .result) (c .before .before .before .before .before .before .before .before .before .before .before .before .before .before .bodies .ensures) (λ i. getD (c .before .before .before .before .before .before .before .before .before .before .before .locate .result) i 0) (c .before .before .before .before .before .before .before .before .before .before .before .locate .ensures) weight spent b few R (c .before .before .before .before .before .before .before .before .before .before .before .before .before .before .before .before .before .before .args .a) (c .before .before .before .before .before .before .before .before .before .before .before .before .before .before .before .before .before .before .args .t) (c .before .before .before .before .before .before .targets .result) (c .before .before .before .before .before .before .before .before .before .before .before .before .before .before .before .before .before .before .pre .0) (c .before .before .before .before .before .before .before .before .before .before .before .before .before .before .before .before .before .before .pre .1) (c .before .before .before .before .before .before .targets .ensures) in
-            (can, λ e. m .1 .1 weight spent b few R (lent-places (c .before .before .before .before .before .before .before .before .before .before .before .before .before .before .before .before .before .before .args .script .now) (c .before .before .before .before .before .before .before .before .before .before .before .before .before .before .before .before .before .before .args .sets .now) (c .before .before .before .before .before .before .before .before .before .before .before .before .before .before .before .before .before .before .args .numbers .now) (c .before .before .before .before .before .before .before .before .before .before .before .before .before .before .before .before .before .before .pre .2) (c .before .before .before .before .before .before .before .before .before .before .before .before .before .before .bodies .result) (c .before .before .before .before .before .before .before .before .before .before .before .before .before .before .bodies .ensures) (λ i. getD (c .before .before .before .before .before .before .before .before .before .before .before .locate .result) i 0) (c .before .before .before .before .before .before .before .before .before .before .before .locate .ensures) weight spent b few R, sym can)),
+        (
+          λ e. absurd (true≢false e),
+          λ weight spent b few R.
+              let can : true ≡ isSome (closureMove (boundIn (c .before .before .before .before .before .before .before .before .before .before .before .before .before .before .before .before .before .before .args .script .now) (standing (c .before .before .before .before .before .before .before .before .before .before .before .before .before .before .before .before .before .before .args .sets .now) (c .before .before .before .before .before .before .before .before .before .before .before .before .before .before .before .before .before .before .args .numbers .now))) (c .before .before .before .before .before .before .before .before .before .before .before .before .before .before .before .before .before .before .args .a) (c .before .before .before .before .before .before .before .before .before .before .before .before .before .before .before .before .before .before .args .t) b) = sym (c .before .before .before .before .if1 .taken) ∙ c .before .before .before .before .before .has .ensures ∙ lent-targets (c .before .before .before .before .before .before .before .before .before .before .before .before .before .before .before .before .before .before .args .script .now) (c .before .before .before .before .before .before .before .before .before .before .before .before .before .before .before .before .before .before .args .sets .now) (c .before .before .before .before .before .before .before .before .before .before .before .before .before .before .before .before .before .before .args .numbers .now) (c .before .before .before .before .before .before .before .before .before .before .before .before .before .before .before .before .before .before .pre .2) (c .before .before .before .before .before .before .before .before .before .before .before .before .before .before .bodies .result) (c .before .before .before .before .before .before .before .before .before .before .before .before .before .before .bodies .ensures) (λ i. getD (c .before .before .before .before .before .before .before .before .before .before .before .locate .result) i 0) (c .before .before .before .before .before .before .before .before .before .before .before .locate .ensures) weight spent b few R (c .before .before .before .before .before .before .before .before .before .before .before .before .before .before .before .before .before .before .args .a) (c .before .before .before .before .before .before .before .before .before .before .before .before .before .before .before .before .before .before .args .t) (c .before .before .before .before .before .before .targets .result) (c .before .before .before .before .before .before .before .before .before .before .before .before .before .before .before .before .before .before .pre .0) (c .before .before .before .before .before .before .before .before .before .before .before .before .before .before .before .before .before .before .pre .1) (c .before .before .before .before .before .before .targets .ensures) in
+              (can, λ e. m .1 .1 weight spent b few R (lent-places (c .before .before .before .before .before .before .before .before .before .before .before .before .before .before .before .before .before .before .args .script .now) (c .before .before .before .before .before .before .before .before .before .before .before .before .before .before .before .before .before .before .args .sets .now) (c .before .before .before .before .before .before .before .before .before .before .before .before .before .before .before .before .before .before .args .numbers .now) (c .before .before .before .before .before .before .before .before .before .before .before .before .before .before .before .before .before .before .pre .2) (c .before .before .before .before .before .before .before .before .before .before .before .before .before .before .bodies .result) (c .before .before .before .before .before .before .before .before .before .before .before .before .before .before .bodies .ensures) (λ i. getD (c .before .before .before .before .before .before .before .before .before .before .before .locate .result) i 0) (c .before .before .before .before .before .before .before .before .before .before .before .locate .ensures) weight spent b few R, sym can)),
+        ),
       ),
     )
 
@@ -32,9 +35,12 @@ returns-2 c = (
   c .before .before .before .before .before .before .before .before .before .before .before .before .before .before .pre .2,
   (
     (refl, refl),
-    λ weight spent b few R.
-        let cannot : false ≡ isSome (closureMove (boundIn (c .before .before .before .before .before .before .before .before .before .before .before .before .before .before .args .script .now) (standing (c .before .before .before .before .before .before .before .before .before .before .before .before .before .before .args .sets .now) (c .before .before .before .before .before .before .before .before .before .before .before .before .before .before .args .numbers .now))) (c .before .before .before .before .before .before .before .before .before .before .before .before .before .before .args .a) (c .before .before .before .before .before .before .before .before .before .before .before .before .before .before .args .t) b) = sym (c .if1 .left) ∙ c .before .has .ensures ∙ lent-targets (c .before .before .before .before .before .before .before .before .before .before .before .before .before .before .args .script .now) (c .before .before .before .before .before .before .before .before .before .before .before .before .before .before .args .sets .now) (c .before .before .before .before .before .before .before .before .before .before .before .before .before .before .args .numbers .now) (c .before .before .before .before .before .before .before .before .before .before .before .before .before .before .pre .2) (c .before .before .before .before .before .before .before .before .before .before .bodies .result) (c .before .before .before .before .before .before .before .before .before .before .bodies .ensures) (λ i. getD (c .before .before .before .before .before .before .before .locate .result) i 0) (c .before .before .before .before .before .before .before .locate .ensures) weight spent b few R (c .before .before .before .before .before .before .before .before .before .before .before .before .before .before .args .a) (c .before .before .before .before .before .before .before .before .before .before .before .before .before .before .args .t) (c .before .before .targets .result) (c .before .before .before .before .before .before .before .before .before .before .before .before .before .before .pre .0) (c .before .before .before .before .before .before .before .before .before .before .before .before .before .before .pre .1) (c .before .before .targets .ensures) in
-        (cannot, λ e. absurd (true≢false (sym e))),
+    (
+      λ e. refl,
+      λ weight spent b few R.
+          let cannot : false ≡ isSome (closureMove (boundIn (c .before .before .before .before .before .before .before .before .before .before .before .before .before .before .args .script .now) (standing (c .before .before .before .before .before .before .before .before .before .before .before .before .before .before .args .sets .now) (c .before .before .before .before .before .before .before .before .before .before .before .before .before .before .args .numbers .now))) (c .before .before .before .before .before .before .before .before .before .before .before .before .before .before .args .a) (c .before .before .before .before .before .before .before .before .before .before .before .before .before .before .args .t) b) = sym (c .if1 .left) ∙ c .before .has .ensures ∙ lent-targets (c .before .before .before .before .before .before .before .before .before .before .before .before .before .before .args .script .now) (c .before .before .before .before .before .before .before .before .before .before .before .before .before .before .args .sets .now) (c .before .before .before .before .before .before .before .before .before .before .before .before .before .before .args .numbers .now) (c .before .before .before .before .before .before .before .before .before .before .before .before .before .before .pre .2) (c .before .before .before .before .before .before .before .before .before .before .bodies .result) (c .before .before .before .before .before .before .before .before .before .before .bodies .ensures) (λ i. getD (c .before .before .before .before .before .before .before .locate .result) i 0) (c .before .before .before .before .before .before .before .locate .ensures) weight spent b few R (c .before .before .before .before .before .before .before .before .before .before .before .before .before .before .args .a) (c .before .before .before .before .before .before .before .before .before .before .before .before .before .before .args .t) (c .before .before .targets .result) (c .before .before .before .before .before .before .before .before .before .before .before .before .before .before .pre .0) (c .before .before .before .before .before .before .before .before .before .before .before .before .before .before .pre .1) (c .before .before .targets .ensures) in
+          (cannot, λ e. absurd (true≢false (sym e))),
+    ),
   ),
 )
 
