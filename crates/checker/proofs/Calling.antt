@@ -1,15 +1,17 @@
 -- The call up to the moves: what the readers' answers say, and how the list ends, told by the closure machine's run.
 -- Assumes nothing.
 use Prim.Native.Nat.{ℕ, _+_, _≤_, _<_}
-use mathlib.Core.Bool.{true, false, _&&_, _||_}
+use mathlib.Core.Bool.{true, _&&_, _||_}
 use mathlib.Core.List.{List, [], _∷_}
 use mathlib.Core.Path.{_≡_, refl, sym, ap, _∙_, subst}
 use native.Mathlib.Omega.{arith}
 use lib.Dec.{leb, ltb, eqb}
-use lib.ListN.{length}
-use borrow.Author.Tests.{leb-true, le-leb}
+use lib.ListN.{length, take}
+use lib.Seq.{take-all}
+use borrow.Author.Tests.{leb-true, le-leb, lt-leb}
 use Rattle.messages.specs.Words.{kind, operand}
-use Rattle.messages.specs.Reading.{Cursor, Reading, refuse, got, outcome}
+use Rattle.messages.specs.Reading.{Cursor, Reading, refuse, got, _>>=_, ask, outcome}
+use Rattle.messages.specs.declared.Outcome.{Outcome}
 use Rattle.messages.specs.declared.Outcome.the-variants.{Read, Refused}
 use Rattle.scripts.specs.Tree.{count, parts}
 use Rattle.scripts.specs.Script.{Script, readScript}
@@ -26,17 +28,18 @@ use Rattle.rule_reader.specs.Ruled as ruled
 use Rattle.rule_reader.specs.RuleTable as rules
 use Rattle.rule_reader.specs.declared.RuleTable.{RuleTable}
 use Rattle.rule_reader.specs.declared.RuleScan.{RuleScan}
-use Rattle.closure_machine.specs.Closure.{ClosureMachine, settleUnder, closureOf, Bindings}
+use Rattle.closure_machine.specs.Closure.{Closure, ClosureMachine, settleUnder, closureOf, Bindings}
 use Rattle.closures.specs.Represents.{boundIn, Represents}
 use Rattle.closures.specs.declared.State.{State}
-use Rattle.plain_call.specs.Call.{Call, refusal, answer}
+use Rattle.plain_call.specs.Call.{Call, refusal, startOf, terms, door, answer}
 use Rattle.plain_call.specs.ClosureCall.{ClosureRan, halted, moved, closureRun, begun}
-use Rattle.lists.specs.Running.{Ends, Runs}
-use Rattle.checker.specs.Answering.{callOf}
+use Rattle.lists.specs.Running.{endedOf, madeOf, Left, Runs}
+use Rattle.checker.specs.Answering.{askedOf, callOf}
 use Rattle.checker.specs.Calling.{ScriptHeld, RuleHeld, Stands}
 use Rattle.lists.specs.declared.Ended.{Ended}
 use Rattle.lists.specs.declared.Ended.the-variants.{Made, Halted}
-use Rattle.plain_call.proofs.Called.{answers-rule, answers-patience, answers-many, answers-halted}
+use Rattle.plain_call.proofs.Entering.{terms-few, door-unread, own-unasked, own-got}
+use Rattle.plain_call.proofs.Called.{answers-door, answers-halted}
 
 -- ---- names have 28 bits
 
@@ -58,16 +61,29 @@ unfolding greatestRuleName
 rule-names [] = omega arith
 rule-names (w ∷ ws) = omega (arith, rule-name w, rule-names ws)
 
--- ---- question 13
+-- ---- questions 13 and 14
 
-pub calm : (p : ℕ) → 1 ≤ p → p ≤ 16777216 → (leb 1 p && leb p 16777216) ≡ true
-calm p l h = rw (le-leb 1 p l, le-leb p 16777216 h)
+abbrev Asked : ℕ → ℕ → Outcome
+Asked p k = askedOf (terms p k)
 
-pub restless : (p : ℕ) → (1 ≤ p → p ≤ 16777216 → ⊥) → (leb 1 p && leb p 16777216) ≡ false
-restless p f =
-    byTest (leb 1 p)
-    (λ l. byTest (leb p 16777216) (λ h. absurd (f (leb-true 1 p l) (leb-true p 16777216 h))) (λ h. rw (l, h)))
-    (λ l. rw l)
+module _ (p k : ℕ) where
+  pub calm : 1 ≤ p → p ≤ 16777216 → (leb 1 p && leb p 16777216) ≡ true
+  calm l h = rw (le-leb 1 p l, le-leb p 16777216 h)
+
+  pub restless : (1 ≤ p → p ≤ 16777216 → ⊥) → Refused 13 0 ≡ Asked p k
+  unfolding askedOf terms _>>=_ ask
+  restless f =
+      byTest (leb 1 p)
+      (λ l. byTest (leb p 16777216) (λ h. absurd (f (leb-true 1 p l) (leb-true p 16777216 h))) (λ h. rw (l, h)))
+      (λ l. rw l)
+
+  pub too-many : 1 ≤ p → p ≤ 16777216 → 4096 < k → Refused 14 0 ≡ Asked p k
+  unfolding askedOf terms _>>=_ ask
+  too-many l h m = rw (calm l h, lt-leb k 4096 m)
+
+  pub let-in : 1 ≤ p → p ≤ 16777216 → k ≤ 4096 → Read 0 ≡ Asked p k
+  unfolding askedOf terms _>>=_ ask
+  let-in l h m = rw (calm l h, le-leb k 4096 m)
 
 -- ---- what a reader's outcome says
 
@@ -83,6 +99,16 @@ read-so : {A : Type 0} (x : Reading (A × Cursor)) (n : ℕ) → outcome x ≡ R
 unfolding outcome
 read-so (refuse q i) n e = Read≢Refused (sym e)
 read-so (got p) n e = (p, refl)
+
+asked-refused : (x : Reading (Unit {0})) (q i : ℕ) → askedOf x ≡ Refused q i → x ≡ refuse q i
+unfolding askedOf
+asked-refused (refuse p j) q i e = let a : p ≡ q = cc in let b : j ≡ i = cc in λ k. refuse (a k) (b k)
+asked-refused (got u) q i e = Read≢Refused e
+
+pub asked-read : (x : Reading (Unit {0})) (n : ℕ) → askedOf x ≡ Read n → x ≡ got tt
+unfolding askedOf
+asked-read (refuse q i) n e = Read≢Refused (sym e)
+asked-read (got u) n e = refl
 
 script-outcome : (x : Reading (Script × Cursor)) → table.scanned 64 table.vacant x .outcome ≡ outcome x
 unfolding table.scanned outcome
@@ -117,13 +143,14 @@ module _ (k : ℕ) (ws : List ℕ) (r : RuleScan) (e : r ≡ rules.scanned rules
 -- ---- how a list ends
 
 module _ (script kinds starts : List ℕ) (r : State) (weight spent : ℕ) where
-  ends-made : (x : ClosureRan) → Ends script kinds starts Made r weight spent x → (m : ClosureMachine) × (x ≡ moved m) × Represents script kinds starts weight spent r (m .tree) × (boundIn script r ≡ m .bindings)
-  ends-made (halted q i) e = let z : _≡_ {A = ℕ} 0 1 = cc in absurd (let w : ⊥ = omega arith in w)
-  ends-made (moved m) e = (m, refl, e .1, e .2)
+  left-made : (x : ClosureRan) → Left script kinds starts r weight spent x → (m : ClosureMachine) × (x ≡ moved m) × Represents script kinds starts weight spent r (m .tree) × (boundIn script r ≡ m .bindings)
+  left-made (halted q i) e = absurd e
+  left-made (moved m) e = (m, refl, e .0, e .1)
 
-  ends-halted : (q i : ℕ) (x : ClosureRan) → Ends script kinds starts (Halted q i) r weight spent x → x ≡ halted q i
-  ends-halted q i (halted p j) e = let a : p ≡ q = cc in let b : j ≡ i = cc in λ k. halted (a k) (b k)
-  ends-halted q i (moved m) e = let d : Halted q i ≡ Made = e .0 in let z : _≡_ {A = ℕ} 0 1 = cc in absurd (let w : ⊥ = omega arith in w)
+ends-halted : (q i : ℕ) (x : ClosureRan) → Halted q i ≡ endedOf x → x ≡ halted q i
+unfolding endedOf
+ends-halted q i (halted p j) e = let a : p ≡ q = cc in let b : j ≡ i = cc in λ k. halted (a k) (b k)
+ends-halted q i (moved m) e = let z : _≡_ {A = ℕ} 0 1 = cc in absurd (let w : ⊥ = omega arith in w)
 
 -- ---- questions 7 to 16
 
@@ -142,39 +169,47 @@ module _ (script moves words : List ℕ) (patience : ℕ) (buffer : List ℕ) (t
   reads-rule x e = subst (λ (k : ℕ). readWholeRule k words ≡ x) (number-is script t H) e
 
   pub says-rule : (q i : ℕ) → readWholeRule (t .count) words ≡ refuse q i → answer c ≡ refusal q i 0 0 buffer
-  says-rule q i e = answers-rule c (H .read) (H .reads) q i (reads-rule (refuse q i) e)
+  says-rule q i e = answers-door c (H .read) (H .reads) q i (door-unread c (startOf script (H .read)) q i (reads-rule (refuse q i) e))
 
   module _ (u : RuleTable) (R : RuleHeld (t .count) words u) where
     reads : readWholeRule n words ≡ got (R .read)
     reads = reads-rule (got (R .read)) (R .reads)
 
-    pub says-patience : (leb 1 patience && leb patience 16777216) ≡ false → answer c ≡ refusal 13 0 0 0 buffer
-    says-patience e = answers-patience c (H .read) (H .reads) (R .read) reads e
+    pub says-terms : (q i : ℕ) (x : Outcome) → x ≡ Asked patience (length moves) → x ≡ Refused q i → answer c ≡ refusal q i 0 0 buffer
+    says-terms q i x e d = answers-door c (H .read) (H .reads) q i (own-unasked c (H .read) (R .read) reads q i (asked-refused (terms patience (length moves)) q i (sym e ∙ d)))
 
-    module _ (calm : (leb 1 patience && leb patience 16777216) ≡ true) where
-      pub says-many : leb (length moves) 4096 ≡ false → answer c ≡ refusal 14 0 0 0 buffer
-      says-many e = answers-many c (H .read) (H .reads) (R .read) reads calm e
+    module _ (asked : terms patience (length moves) ≡ got tt)
+        (s : State) (first : Represents script (t .kinds) (t .starts) (parts (H .read .0)) 0 s (settleUnder [] (closureOf (H .read .0)))) (none : boundIn script s ≡ []) (r : State) where
+      abbrev b : Closure
+      b = settleUnder [] (closureOf (H .read .0))
 
-      module _ (few : leb (length moves) 4096 ≡ true)
-          (s : State) (first : Represents script (t .kinds) (t .starts) (parts (H .read .0)) 0 s (settleUnder [] (closureOf (H .read .0)))) (none : boundIn script s ≡ []) (r : State) where
-        -- the list as the engine begins it is the closure machine's
-        run-is : closureRun (t .count) 0 moves (record { tree = settleUnder [] (closureOf (H .read .0)); bindings = boundIn script s }) ≡ closureRun (t .count) 0 moves (begun (H .read .0))
-        run-is = ap (λ (σ : Bindings). closureRun (t .count) 0 moves (record { tree = settleUnder [] (closureOf (H .read .0)); bindings = σ })) none
+      short : length moves ≤ 4096
+      short = terms-few patience (length moves) tt asked
 
-        short : length moves ≤ 4096
-        short = leb-true (length moves) 4096 few
+      -- the list as the engine begins it is the closure machine's
+      ran : (e : Ended) → Runs script (t .kinds) (t .starts) (t .count) moves s e r
+          → (e ≡ endedOf (closureRun (t .count) 0 moves (begun (H .read .0)))) × Left script (t .kinds) (t .starts) r (t .count) (0 + madeOf moves e) (closureRun (t .count) 0 (take (madeOf moves e) moves) (begun (H .read .0)))
+      ran e g =
+          let x = g (t .count) 0 b (omega (arith, short)) (subst (λ (k : ℕ). Represents script (t .kinds) (t .starts) k 0 s b) (sym (H .tabled .counted)) first) in
+          subst (λ (σ : Bindings). (e ≡ endedOf (closureRun (t .count) 0 moves (record { tree = b; bindings = σ }))) × Left script (t .kinds) (t .starts) r (t .count) (0 + madeOf moves e) (closureRun (t .count) 0 (take (madeOf moves e) moves) (record { tree = b; bindings = σ }))) none x
 
-        ended : (e : Ended) → Runs script (t .kinds) (t .starts) (t .count) moves s e r → Ends script (t .kinds) (t .starts) e r (t .count) (length moves) (closureRun (t .count) 0 moves (begun (H .read .0)))
-        ended e g =
-            let x = g (t .count) 0 (settleUnder [] (closureOf (H .read .0))) (omega (arith, short)) (subst (λ (k : ℕ). Represents script (t .kinds) (t .starts) k 0 s (settleUnder [] (closureOf (H .read .0)))) (sym (H .tabled .counted)) first) in
-            let z : 0 + length moves ≡ length moves = omega arith in
-            subst (λ (k : ℕ). Ends script (t .kinds) (t .starts) e r (t .count) k (closureRun (t .count) 0 moves (begun (H .read .0)))) z (subst (Ends script (t .kinds) (t .starts) e r (t .count) (0 + length moves)) run-is x)
+      enters : door c (startOf script (H .read)) ≡ got (R .read)
+      enters = own-got c (H .read) (R .read) reads asked
 
-        pub list-halted : (q i : ℕ) → Runs script (t .kinds) (t .starts) (t .count) moves s (Halted q i) r → answer c ≡ refusal q i i 0 buffer
-        list-halted q i g = answers-halted c (H .read) (H .reads) (R .read) reads calm few q i
-            (subst (λ (k : ℕ). closureRun k 0 moves (begun (H .read .0)) ≡ halted q i) (number-is script t H) (ends-halted script (t .kinds) (t .starts) r (t .count) (length moves) q i _ (ended (Halted q i) g)))
+      pub list-halted : (q i : ℕ) → Runs script (t .kinds) (t .starts) (t .count) moves s (Halted q i) r → answer c ≡ refusal q i i 0 buffer
+      list-halted q i g = answers-halted c (H .read) (H .reads) (R .read) enters q i
+          (subst (λ (k : ℕ). closureRun k 0 moves (begun (H .read .0)) ≡ halted q i) (number-is script t H) (ends-halted q i _ (ran (Halted q i) g .0)))
 
-        pub list-made : Runs script (t .kinds) (t .starts) (t .count) moves s Made r → Stands script moves words patience t u r
-        list-made g =
-            let (m, x, R', b) = ends-made script (t .kinds) (t .starts) r (t .count) (length moves) _ (ended Made g) in
-            record { held = H; ruled = R; calm = calm; few = few; machine = m; runs = x; stands = R'; bound = b }
+      pub list-made : Runs script (t .kinds) (t .starts) (t .count) moves s Made r → Stands script moves words patience t u r
+      list-made g =
+          let z : 0 + length moves ≡ length moves = omega arith in
+          let (m, x, R', d) = left-made script (t .kinds) (t .starts) r (t .count) (0 + length moves) _ (ran Made g .1) in
+          record {
+            held = H;
+            ruled = R;
+            asked = asked;
+            machine = m;
+            runs = ap (λ (ws : List ℕ). closureRun (t .count) 0 ws (begun (H .read .0))) (sym (take-all (length moves) moves (omega arith))) ∙ x;
+            stands = subst (λ (k : ℕ). Represents script (t .kinds) (t .starts) (t .count) k r (m .tree)) z R';
+            bound = d;
+          }

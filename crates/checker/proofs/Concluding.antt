@@ -7,7 +7,6 @@ use mathlib.Core.Path.{_≡_, refl, sym, ap, _∙_, subst}
 use native.Mathlib.Omega.{arith}
 use lib.Dec.{eqb}
 use lib.ListN.{length}
-use borrow.Author.Tests.{leb-true}
 use Rattle.messages.specs.Reading.{got}
 use Rattle.scripts.specs.Tree.{one, count}
 use Rattle.scripts.specs.Measures.{greatestName}
@@ -25,15 +24,17 @@ use Rattle.decision.specs.ClosureWalk.{closureSpace}
 use Rattle.stages.specs.Visits.{walkedOf, Walks}
 use Rattle.stages.specs.declared.Walked.{Walked}
 use Rattle.rules.proofs.Order.{rule-ordered}
-use Rattle.plain_call.specs.Call.{Call, Verdict, accepted, refused, walked, setting, answer}
+use Rattle.plain_call.specs.Call.{Call, Verdict, accepted, refused, walked, startOf, setting, door, answer}
 use Rattle.plain_call.specs.Call as plain
 use Rattle.plain_call.specs.ClosureCall.{moved, closureRun, unfoldRan, begun}
 use Rattle.checker.specs.Answering.{verdictOf, answerOf, callOf}
 use Rattle.checker.specs.declared.Answer.{Answer}
 use Rattle.checker.specs.Calling.{Stands}
-use Rattle.plain_call.specs.Standing.{Standing, Decides, MovesBounded, WeightHolds}
+use Rattle.plain_call.specs.Standing.{Standing, Decides, MovesBounded, WeightHolds, WeightBounded}
 use Rattle.plain_call.proofs.ClosureRuns.{started-unfolded, moves-bounded}
 use Rattle.plain_call.proofs.Runs.{weight-holds}
+use Rattle.plain_call.proofs.Entering.{starting-got, terms-few, own-got}
+use Rattle.plain_call.proofs.Small.{weight-bounded}
 use Rattle.plain_call.proofs.Called.{answers-walked}
 use Rattle.plain_call.proofs.Verdicts.{answer-stands, standing-good, verdict-yes, verdict-no}
 use Rattle.checker.proofs.Calling.{number-is}
@@ -56,14 +57,17 @@ module _ (script moves words : List ℕ) (patience : ℕ) (buffer : List ℕ) (t
   made : closureRun n 0 moves (begun (S .held .read .0)) ≡ moved (S .machine)
   made = subst (λ (k : ℕ). closureRun k 0 moves (begun (S .held .read .0)) ≡ moved (S .machine)) number (S .runs)
 
+  enters : door c (startOf script (S .held .read)) ≡ got (S .ruled .read)
+  enters = own-got c (S .held .read) (S .ruled .read) rule-reads (S .asked)
+
   standing : Standing c
   unfolding unfoldRan
   standing = record {
-    script = S .held .read;
+    start = startOf script (S .held .read);
     rule = S .ruled .read;
     machine = unfoldMachine (S .machine);
-    script-read = S .held .reads;
-    rule-read = rule-reads;
+    starts = starting-got c (S .held .read) (S .held .reads);
+    enters = enters;
     moves-made = started-unfolded script (S .held .read) (S .held .reads) n moves ∙ ap unfoldRan made;
   }
 
@@ -75,7 +79,7 @@ module _ (script moves words : List ℕ) (patience : ℕ) (buffer : List ℕ) (t
       sym (map-sum (λ k h. one (eqb i k)) (unfoldHead (S .machine .bindings)) (S .machine .tree)) ∙ standing-good c standing .below i z
 
   short : length moves ≤ 4096
-  short = leb-true (length moves) 4096 (S .few)
+  short = terms-few patience (length moves) tt (S .asked)
 
   pub script-fits : Scripted (t .starts) (s .offsets)
   script-fits = record { placed = λ i. omega (arith, S .held .tabled .low i); spent = λ i. omega (arith, S .stands .spends i, short) }
@@ -87,9 +91,9 @@ module _ (script moves words : List ℕ) (patience : ℕ) (buffer : List ℕ) (t
   walk-answers g e w W =
       let x = W (t .count) (length moves) (S .machine .tree) (S .ruled .read) (S .ruled .tabled) (rule-ordered (t .count) words (S .ruled .read) (S .ruled .reads)) refl (S .stands) (omega arith) below (omega (arith, short)) in
       let k : u .count ≡ S .ruled .read .1 .number = S .ruled .tabled .counted in
-      let d : walkedOf w ≡ walkFrom (closureSpace (n + S .ruled .read .1 .number)) (setting c n) (S .ruled .read .0) (record { tree = S .machine .tree; bindings = S .machine .bindings })
+      let d : walkedOf w ≡ walkFrom (closureSpace (n + S .ruled .read .1 .number)) (setting c (startOf script (S .held .read))) (S .ruled .read .0) (record { tree = S .machine .tree; bindings = S .machine .bindings })
       = x ∙ (λ i. walkFrom (closureSpace (number i + k i)) (record { patience = patience; greatest = e i; parts = number i }) (S .ruled .read .0) (record { tree = S .machine .tree; bindings = S .bound i })) in
-      (λ i. walked c (unfoldMachine (record { tree = S .machine .tree; bindings = S .bound i })) (d i)) ∙ sym (answers-walked c (S .held .read) (S .held .reads) (S .ruled .read) rule-reads (S .calm) (S .few) (S .machine) made)
+      (λ i. walked c (unfoldMachine (record { tree = S .machine .tree; bindings = S .bound i })) (d i)) ∙ sym (answers-walked c (S .held .read) (S .held .reads) (S .ruled .read) enters (S .machine) made)
 
 -- ---- demand 2
 
@@ -103,9 +107,10 @@ decides c (refused q i) e = tt
 -- THEOREM: an answer that is the plain machine's, with the buffer, is decided by the paper's own relation and keeps the bound
 -- and the weight.
 pub call-kept : (c : Call) (r : Answer) (b : List ℕ) → answerOf r b ≡ answer c
-    → (answerOf r b ≡ answer c) × (Decides c (verdictOf (r .verdict)) × (MovesBounded (c .script) (r .moves) × WeightHolds c))
+    → (answerOf r b ≡ answer c) × (Decides c (verdictOf (r .verdict)) × (MovesBounded (c .script) (r .moves) × (WeightHolds c × WeightBounded (c .script) (r .weight))))
 unfolding answerOf
 call-kept c r b e =
     let d : Decides c (verdictOf (r .verdict)) = decides c (verdictOf (r .verdict)) (sym (ap (λ (a : plain.Answer). a .verdict) e)) in
     let m = subst (MovesBounded (c .script)) (sym (ap (λ (a : plain.Answer). a .moves) e)) (moves-bounded c) in
-    (e, (d, (m, weight-holds c)))
+    let w = subst (WeightBounded (c .script)) (sym (ap (λ (a : plain.Answer). a .weight) e)) (weight-bounded c) in
+    (e, (d, (m, (weight-holds c, w))))

@@ -3,6 +3,9 @@
 use Prim.Native.Nat.{ℕ}
 use mathlib.Core.Bool.{true, false}
 use mathlib.Core.List.{List}
+use Rattle.messages.specs.Reading.{Reading, refuse, got}
+use Rattle.messages.specs.declared.Outcome.{Outcome}
+use Rattle.messages.specs.declared.Outcome.the-variants as outcome
 use Rattle.plain_call.specs.Call.{Call}
 use Rattle.plain_call.specs.Call as plain
 use Rattle.checker.specs.declared.Verdict.{Verdict}
@@ -26,11 +29,16 @@ answerOf a b = record {
   buffer = b;
 }
 
+-- what is answered to questions that hand nothing on
+unfoldable pub askedOf : Reading (Unit {0}) → Outcome
+askedOf (refuse q i) = outcome.Refused q i
+askedOf (got u) = outcome.Read 0
+
 -- what a call is lent
 abbrev pub callOf : (script moves rule : List ℕ) (patience : ℕ) (buffer : List ℕ) → Call
 callOf script moves rule patience buffer = record { script = script; moves = moves; rule = rule; patience = patience; buffer = buffer }
 
 -- To unfold this is to unfold every definition of this module: for a proof by computation.
 unfoldable pub computing : Unit {0}
-unfolding verdictOf answerOf
+unfolding verdictOf answerOf askedOf
 computing = tt

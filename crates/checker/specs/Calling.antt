@@ -1,10 +1,8 @@
 -- What the call's functions hand on: a script and a rule that are read, with the tables that hold them, and the state that
 -- stands when the walk begins. Assumes nothing: these are definitions.
 use Prim.Native.Nat.{ℕ}
-use mathlib.Core.Bool.{true, _&&_}
 use mathlib.Core.List.{List}
 use mathlib.Core.Path.{_≡_}
-use lib.Dec.{leb}
 use lib.ListN.{length}
 use Rattle.messages.specs.Reading.{Cursor, got}
 use Rattle.scripts.specs.Script.{Script, readScript}
@@ -17,6 +15,7 @@ use Rattle.rule_reader.specs.declared.RuleTable.{RuleTable}
 use Rattle.closure_machine.specs.Closure.{ClosureMachine}
 use Rattle.closures.specs.Represents.{boundIn, Represents}
 use Rattle.closures.specs.declared.State.{State}
+use Rattle.plain_call.specs.Call.{terms}
 use Rattle.plain_call.specs.ClosureCall.{moved, closureRun, begun}
 
 -- the script is read, and the table holds it
@@ -35,8 +34,7 @@ pub record RuleHeld (n : ℕ) (words : List ℕ) (t : RuleTable) : Type 0 where
 pub record Stands (script moves words : List ℕ) (patience : ℕ) (parts : Table) (table : RuleTable) (s : State) : Type 0 where
   pub held : ScriptHeld script parts
   pub ruled : RuleHeld (parts .count) words table
-  pub calm : (leb 1 patience && leb patience 16777216) ≡ true
-  pub few : leb (length moves) 4096 ≡ true
+  pub asked : terms patience (length moves) ≡ got tt
   pub machine : ClosureMachine
   pub runs : closureRun (parts .count) 0 moves (begun (held .read .0)) ≡ moved machine
   pub stands : Represents script (parts .kinds) (parts .starts) (parts .count) (length moves) s (machine .tree)

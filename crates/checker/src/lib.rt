@@ -23,6 +23,7 @@ ghost use mathlib.Core.Path.{_≡_};
 ghost use mathlib.Core.List.{List, []};
 ghost use Prim.Native.Nat.{ℕ, _+_, _≤_, _<_, max};
 ghost use lib.ListN.{length};
+ghost use Rattle.messages.specs.Reading.{got};
 ghost use Rattle.scripts.specs.Measures.{greatestName};
 ghost use Rattle.rules.specs.Rule.{greatestRuleName};
 ghost use Rattle.closure_machine.specs.Closure.{Closure, unfolded, unfoldMachine};
@@ -31,9 +32,9 @@ ghost use Rattle.stages.specs.Visits.{walkedOf};
 ghost use Rattle.message_writer.specs.Write.{write};
 ghost use Rattle.writer.specs.Bodies.{Scripted};
 ghost use Rattle.writer.specs.Room.{answered, buffered};
-ghost use Rattle.plain_call.specs.Call.{accepted, refusal, walked, answer, finish as finished};
-ghost use Rattle.checker.specs.Answering.{verdictOf, answerOf, callOf};
-ghost use Rattle.plain_call.specs.Standing.{Decides, MovesBounded, WeightHolds};
+ghost use Rattle.plain_call.specs.Call.{accepted, refusal, walked, terms, answer, finish as finished};
+ghost use Rattle.checker.specs.Answering.{verdictOf, answerOf, askedOf, callOf};
+ghost use Rattle.plain_call.specs.Standing.{Decides, MovesBounded, WeightHolds, WeightBounded};
 ghost use Rattle.checker.specs.Calling.{ScriptHeld, RuleHeld, Stands};
 
 // Yes or no, or the question that refuses the call, and its place.
@@ -220,8 +221,8 @@ fn with_moves<'a, 'b>(
     after_walk(script, &kinds, &starts, state, moves, w, out)
 }
 
-// Questions 13 to 16 and the moves, of a call whose script and rule are read.
-fn with_rule<'a, 'b>(
+// Questions 15 and 16 and the moves, of a call whose script and rule are read and whose numbers are let in.
+fn with_terms<'a, 'b>(
     script: &'a [u32],
     parts: Table,
     moves: &'a [u32],
@@ -230,18 +231,9 @@ fn with_rule<'a, 'b>(
     patience: u32,
     out: &'b mut [u32],
 ) -> Answer
-    requires { ⌜ ScriptHeld (now script) parts × RuleHeld (parts .count) (now rule) table ⌝ }
+    requires { ⌜ ScriptHeld (now script) parts × RuleHeld (parts .count) (now rule) table × (terms patience (length (now moves)) ≡ got tt) ⌝ }
     ensures { λ r. ⌜ answerOf r (now (out .exit)) ≡ answer (callOf (now (script .entry)) (now (moves .entry)) (now (rule .entry)) patience (now (out .entry))) ⌝ }
 {
-    if patience == 0 {
-        return refused(13, 0, 0, 0);
-    }
-    if 16777216 < patience {
-        return refused(13, 0, 0, 0);
-    }
-    if 4096 < moves.len() {
-        return refused(14, 0, 0, 0);
-    }
     let kinds = parts.kinds;
     let starts = parts.starts;
     let kids = parts.kids;
@@ -265,6 +257,51 @@ fn with_rule<'a, 'b>(
         );
     };
     refused(question, place, place, 0)
+}
+
+// The questions that ask nothing but numbers, in their order: 13 and 14.
+fn ask_terms(patience: u32, moves: usize) -> Outcome
+    ensures { λ r. ⌜ r ≡ askedOf (terms patience moves) ⌝ }
+{
+    if patience == 0 {
+        return Outcome::Refused {
+            question: 13,
+            place: 0,
+        };
+    }
+    if 16777216 < patience {
+        return Outcome::Refused {
+            question: 13,
+            place: 0,
+        };
+    }
+    if 4096 < moves {
+        return Outcome::Refused {
+            question: 14,
+            place: 0,
+        };
+    }
+    Outcome::Read { next: 0 }
+}
+
+// Questions 13 to 19, of a call whose script and rule are read.
+fn with_rule<'a, 'b>(
+    script: &'a [u32],
+    parts: Table,
+    moves: &'a [u32],
+    rule: &'a [u32],
+    table: RuleTable,
+    patience: u32,
+    out: &'b mut [u32],
+) -> Answer
+    requires { ⌜ ScriptHeld (now script) parts × RuleHeld (parts .count) (now rule) table ⌝ }
+    ensures { λ r. ⌜ answerOf r (now (out .exit)) ≡ answer (callOf (now (script .entry)) (now (moves .entry)) (now (rule .entry)) patience (now (out .entry))) ⌝ }
+{
+    let asked = ask_terms(patience, moves.len());
+    let Outcome::Refused { question, place } = asked else {
+        return with_terms(script, parts, moves, rule, table, patience, out);
+    };
+    refused(question, place, 0, 0)
 }
 
 // Questions 7 to 19, of a call whose script is read.
@@ -298,7 +335,7 @@ pub fn call<'a, 'b>(
     ensures answered { λ r. ⌜ answerOf r (now (out .exit)) ≡ answer (callOf (now (script .entry)) (now (moves .entry)) (now (rule .entry)) patience (now (out .entry))) ⌝ }
     ensures decided { λ r. ⌜ Decides (callOf (now (script .entry)) (now (moves .entry)) (now (rule .entry)) patience (now (out .entry))) (verdictOf (r .verdict)) ⌝ }
     ensures bounded { λ r. ⌜ MovesBounded (now (script .entry)) (r .moves) ⌝ }
-    ensures weighed { λ r. ⌜ WeightHolds (callOf (now (script .entry)) (now (moves .entry)) (now (rule .entry)) patience (now (out .entry))) ⌝ }
+    ensures weighed { λ r. ⌜ WeightHolds (callOf (now (script .entry)) (now (moves .entry)) (now (rule .entry)) patience (now (out .entry))) × WeightBounded (now (script .entry)) (r .weight) ⌝ }
 {
     let scan = read_script(script);
     let outcome = scan.outcome;

@@ -6,7 +6,7 @@ use mathlib.Core.Option.{Option, none, some}
 use mathlib.Core.Path.{_≡_, refl, sym, ap, _∙_, subst}
 use native.Mathlib.Omega.{arith}
 use lib.Dec.{ltb, eqb}
-use lib.ListN.{getD, take, drop, length}
+use lib.ListN.{getD, take, drop, length, take-append-drop}
 use borrow.Author.Tests.{ltb-true}
 use Rattle.messages.specs.Words.{kind, operand}
 use Rattle.machine.proofs.Options.{and-inv}
@@ -34,11 +34,6 @@ drop-end [] zero m = refl
 drop-end [] (suc i) m = refl
 drop-end (x ∷ l) zero m = absurd (let z : ⊥ = omega arith in z)
 drop-end (x ∷ l) (suc i) m = drop-end l i (omega arith)
-
-take-drop : (i : ℕ) (l : List ℕ) → take i l ++ drop i l ≡ l
-take-drop zero l = refl
-take-drop (suc i) [] = refl
-take-drop (suc i) (x ∷ l) = ap (λ (k : List ℕ). x ∷ k) (take-drop i l)
 
 take-next : (l : List ℕ) (i : ℕ) (ws : List ℕ) → i < length l → take (suc i) l ++ ws ≡ take i l ++ (getD l i 0 ∷ ws)
 take-next [] i ws m = absurd (let z : ⊥ = omega arith in z)
@@ -77,7 +72,7 @@ module _ (script kinds starts : List ℕ) (n : ℕ) (moves : List ℕ) (s : Stat
   module _ (i : ℕ) (r : State) (G : Going i r) where
     -- the list, and its first i moves, by the machine that is reached
     whole : (weight spent : ℕ) (b : Closure) (q : Reached weight spent b i r) → closureRun n 0 moves (from b) ≡ closureRun n i (drop i moves) (q .machine)
-    whole weight spent b q = ap (λ (ws : List ℕ). closureRun n 0 ws (from b)) (sym (take-drop i moves)) ∙ q .goes (drop i moves)
+    whole weight spent b q = ap (λ (ws : List ℕ). closureRun n 0 ws (from b)) (sym (take-append-drop i moves)) ∙ q .goes (drop i moves)
 
     left : (weight spent : ℕ) (b : Closure) → Reached weight spent b i r → Left script kinds starts r weight (spent + i) (closureRun n 0 (take i moves) (from b))
     unfolding closureRun

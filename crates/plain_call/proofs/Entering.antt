@@ -1,7 +1,7 @@
 -- The questions before the moves: what follows where all are answered by yes, and where one is answered by no. Assumes
 -- nothing.
 use Prim.Native.Nat.{ℕ, _+_, _≤_}
-use mathlib.Core.Path.{_≡_, sym, _∙_}
+use mathlib.Core.Path.{_≡_, ap, _∙_}
 use native.Mathlib.Omega.{arith}
 use lib.Dec.{leb}
 use lib.ListN.{length}
@@ -73,3 +73,15 @@ module _ (c : Call) (s : Start) where
   pub door-within : Within 256 (door c s)
   unfolding door
   door-within = bind-within 256 (readWholeRule (partsOf s) (c .rule)) _ (rule-within (partsOf s) (c .rule)) (λ r e. bind-within 256 asks _ (terms-within 256 (c .patience) (s .made + length (c .moves))) (λ u d. tt))
+
+-- ---- from the script's own start, along whose line no move is made
+
+module _ (c : Call) (p : Script × Cursor) (r : Rule × Cursor) (e : readWholeRule (p .1 .number) (c .rule) ≡ got r) where
+  none : terms (c .patience) (0 + length (c .moves)) ≡ terms (c .patience) (length (c .moves))
+  none = let z : 0 + length (c .moves) ≡ length (c .moves) = omega arith in ap (terms (c .patience)) z
+
+  pub own-unasked : (q i : ℕ) → terms (c .patience) (length (c .moves)) ≡ refuse q i → door c (startOf (c .script) p) ≡ refuse q i
+  own-unasked q i d = door-unasked c (startOf (c .script) p) r e q i (none ∙ d)
+
+  pub own-got : terms (c .patience) (length (c .moves)) ≡ got tt → door c (startOf (c .script) p) ≡ got r
+  own-got d = door-got c (startOf (c .script) p) r e (none ∙ d)
