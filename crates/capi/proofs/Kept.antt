@@ -1,39 +1,72 @@
 -- What the call for C hands on of the call, with room for the answer and without; and that an answer's numbers fit words.
 -- Assumes nothing.
 use Prim.Native.Nat.{ℕ, _^_, _≤_, _<_}
+use mathlib.Core.Bool.{true, false}
 use mathlib.Core.List.{List, _++_}
 use mathlib.Core.Path.{_≡_, refl, sym, ap, _∙_, subst}
 use native.Mathlib.Omega.{arith}
-use lib.ListN.{length, drop}
+use lib.ListN.{length, drop, getD}
 use borrow.Author.Tests.{le-leb, lt-leb}
 use Rattle.plain_call.specs.Call.{Call, Verdict, accepted, refused, Answer, answer}
 use Rattle.checker.specs.Answering.{verdictOf, answerOf}
 use Rattle.checker.specs.declared.Answer as engine
-use Rattle.plain_call.specs.Standing.{Decides, MovesBounded, WeightHolds}
+use Rattle.plain_call.specs.Standing.{Decides, MovesBounded, WeightHolds, WeightBounded}
 use Rattle.checker.proofs.Concluding.{decides}
 use Rattle.plain_call.proofs.ClosureRuns.{moves-bounded}
 use Rattle.plain_call.proofs.Runs.{weight-holds}
-use Rattle.plain_call.proofs.Small.{PlaceWithin, Small, answer-small}
-use Rattle.answer_words.specs.Told.{placeOf, told}
-use Rattle.capi.specs.Told.{returned, answered, written}
+use Rattle.plain_call.proofs.Small.{PlaceWithin, Small, answer-small, weight-bounded}
+use Rattle.answer_words.specs.Told.{saidOf, placeOf, told}
+use Rattle.capi.specs.Told.{returned, answered, written, Decided}
 
--- what every call keeps to
-abbrev pub Keeps : Call → Type 0
-Keeps c = Decides c (answer c .verdict) × (MovesBounded (c .script) (answer c .moves) × WeightHolds c)
-
-pub keeps : (c : Call) → Keeps c
-keeps c = (decides c (answer c .verdict) refl, (moves-bounded c, weight-holds c))
+-- what is kept to where the call returns r and leaves those words for its answer
+abbrev pub Keeps : Call → (r : ℕ) → List ℕ → Type 0
+Keeps c r words = (r ≡ 1 → Decided c (getD words 0 0)) × ((r ≡ 1 → MovesBounded (c .script) (getD words 3 0)) × (WeightHolds c × (r ≡ 1 → WeightBounded (c .script) (getD words 6 0))))
 
 -- no room: nothing is done
-pub short : (c : Call) (words : List ℕ) → length words < 8 → (0 ≡ returned words) × ((words ≡ answered c words) × ((c .buffer ≡ written c words) × Keeps c))
-short c words l = (rw (lt-leb 8 (length words) l) refl, (rw (lt-leb 8 (length words) l) refl, (rw (lt-leb 8 (length words) l) refl, keeps c)))
+pub short : (c : Call) (words : List ℕ) → length words < 8 → (0 ≡ returned words) × ((words ≡ answered c words) × ((c .buffer ≡ written c words) × Keeps c 0 words))
+short c words l = (
+  rw (lt-leb 8 (length words) l) refl,
+  (
+    rw (lt-leb 8 (length words) l) refl,
+    (rw (lt-leb 8 (length words) l) refl, (λ e. absurd (zero-one e), (λ e. absurd (zero-one e), (weight-holds c, λ e. absurd (zero-one e))))),
+  ),
+)
+  where
+    zero-one : _≡_ {A = ℕ} 0 1 → ⊥
+    zero-one e = omega arith
+
+-- what the first word says of a verdict
+said-yes : (v : Verdict) → saidOf v ≡ 2 → v ≡ accepted true
+unfolding saidOf
+said-yes (accepted true) e = refl
+said-yes (accepted false) e = absurd (let z : ⊥ = omega arith in z)
+said-yes (refused q i) e = absurd (let z : ⊥ = omega arith in z)
+
+said-no : (v : Verdict) → saidOf v ≡ 1 → v ≡ accepted false
+unfolding saidOf
+said-no (accepted true) e = absurd (let z : ⊥ = omega arith in z)
+said-no (accepted false) e = refl
+said-no (refused q i) e = absurd (let z : ⊥ = omega arith in z)
+
+decided : (c : Call) → Decided c (saidOf (answer c .verdict))
+unfolding Decides
+decided c = (
+  λ e. decides c (accepted true) (said-yes (answer c .verdict) e),
+  λ e. decides c (accepted false) (said-no (answer c .verdict) e),
+)
+
+-- the words of an answer keep to it
+told-keeps : (c : Call) (rest : List ℕ) → Keeps c 1 (told (answer c) ++ rest)
+unfolding told
+told-keeps c rest = (λ e. decided c, (λ e. moves-bounded c, (weight-holds c, λ e. weight-bounded c)))
 
 -- room: the call's answer is told
 pub told-whole : (c : Call) (words : List ℕ) (r : engine.Answer) (out : List ℕ) {exit : List ℕ} → answerOf r out ≡ answer c → 8 ≤ length words → exit ≡ told (answerOf r out) ++ drop 8 words
-    → (1 ≡ returned words) × ((exit ≡ answered c words) × ((out ≡ written c words) × Keeps c))
+    → (1 ≡ returned words) × ((exit ≡ answered c words) × ((out ≡ written c words) × Keeps c 1 exit))
 unfolding answerOf
 told-whole c words r out e l t =
-    (rw (le-leb 8 (length words) l) refl, (rw (le-leb 8 (length words) l) (t ∙ ap (λ (a : Answer). told a ++ drop 8 words) e), (rw (le-leb 8 (length words) l) (ap (λ (a : Answer). a .buffer) e), keeps c)))
+    let x = t ∙ ap (λ (a : Answer). told a ++ drop 8 words) e in
+    (rw (le-leb 8 (length words) l) refl, (rw (le-leb 8 (length words) l) x, (rw (le-leb 8 (length words) l) (ap (λ (a : Answer). a .buffer) e), subst (Keeps c 1) (sym x) (told-keeps c (drop 8 words)))))
 
 -- place, moves and weight of a call's answer are words
 place-fits : (v : Verdict) → PlaceWithin 4096 v → placeOf v < 2 ^ 32

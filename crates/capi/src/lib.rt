@@ -2,10 +2,10 @@
 use answer_words::tell;
 use checker::call;
 ghost use mathlib.Core.Path.{_≡_};
-ghost use Rattle.plain_call.specs.Call.{answer as plainAnswer};
+ghost use lib.ListN.{getD};
 ghost use Rattle.checker.specs.Answering.{callOf};
-ghost use Rattle.plain_call.specs.Standing.{Decides, MovesBounded, WeightHolds};
-ghost use Rattle.capi.specs.Told.{returned, answered, written};
+ghost use Rattle.plain_call.specs.Standing.{MovesBounded, WeightHolds, WeightBounded};
+ghost use Rattle.capi.specs.Told.{returned, answered, written, Decided};
 
 // The whole call. Where `answer` has fewer than eight words, nothing is done.
 #[no_mangle]
@@ -20,9 +20,9 @@ pub extern "C" fn skycorbel_call<'a, 'b, 'c>(
     ensures returned { λ r. ⌜ r ≡ returned (now (answer .entry)) ⌝ }
     ensures answered { λ _. ⌜ now (answer .exit) ≡ answered (callOf (now (script .entry)) (now (moves .entry)) (now (rule .entry)) patience (now (out .entry))) (now (answer .entry)) ⌝ }
     ensures written { λ _. ⌜ now (out .exit) ≡ written (callOf (now (script .entry)) (now (moves .entry)) (now (rule .entry)) patience (now (out .entry))) (now (answer .entry)) ⌝ }
-    ensures decided { λ _. ⌜ Decides (callOf (now (script .entry)) (now (moves .entry)) (now (rule .entry)) patience (now (out .entry))) (plainAnswer (callOf (now (script .entry)) (now (moves .entry)) (now (rule .entry)) patience (now (out .entry))) .verdict) ⌝ }
-    ensures bounded { λ _. ⌜ MovesBounded (now (script .entry)) (plainAnswer (callOf (now (script .entry)) (now (moves .entry)) (now (rule .entry)) patience (now (out .entry))) .moves) ⌝ }
-    ensures weighed { λ _. ⌜ WeightHolds (callOf (now (script .entry)) (now (moves .entry)) (now (rule .entry)) patience (now (out .entry))) ⌝ }
+    ensures decided { λ r. ⌜ (r ≡ 1 → Decided (callOf (now (script .entry)) (now (moves .entry)) (now (rule .entry)) patience (now (out .entry))) (getD (now (answer .exit)) 0 0)) ⌝ }
+    ensures bounded { λ r. ⌜ (r ≡ 1 → MovesBounded (now (script .entry)) (getD (now (answer .exit)) 3 0)) ⌝ }
+    ensures weighed { λ r. ⌜ WeightHolds (callOf (now (script .entry)) (now (moves .entry)) (now (rule .entry)) patience (now (out .entry))) × (r ≡ 1 → WeightBounded (now (script .entry)) (getD (now (answer .exit)) 6 0)) ⌝ }
 {
     if answer.len() < 8 {
         return 0;

@@ -1,6 +1,6 @@
 -- The program's text is never longer than the buffer in which it is put. Assumes nothing.
 use Prim.Native.Nat.{ℕ, zero, suc, _+_, _*_, _-_, _/_, _%_, _≤_, min}
-use mathlib.Core.Bool.{Bool, true, false, cond, _&&_}
+use mathlib.Core.Bool.{Bool, true, false, cond}
 use mathlib.Core.List.{List, [], _∷_, _++_}
 use mathlib.Core.Option.{Option, none, some}
 use mathlib.Core.Path.{_≡_, refl, ap, _∙_}
@@ -9,14 +9,8 @@ use borrow.Author.Tests.{leb-true}
 use lib.Dec.{leb, ltb, lit≤}
 use lib.ListN.{length, take, drop, replicate, length-append, length-take, length-drop, length-replicate}
 use Rattle.io.specs.Counts.{Counts}
-use Rattle.messages.specs.Reading.{Cursor, Reading, refuse, got}
-use Rattle.scripts.specs.Script.{Script, readScript}
-use Rattle.machine.specs.PlainMachine.{Machine}
-use Rattle.rules.specs.Rule.{Rule}
-use Rattle.rules.specs.ReadRule.{readWholeRule}
-use Rattle.decision.specs.Walk.{Count, Walked, stopped, says, walkFrom}
-use Rattle.decision.specs.PlainWalk.{plainSpace}
-use Rattle.plain_call.specs.Call.{Call, Verdict, accepted, refused, Answer, answer, refusal, Ran, halted, moved, run, begun, written, finish, walked, setting, ruleRun, ruleRead, scriptRead}
+use Rattle.plain_call.specs.Call.{Call, Verdict, accepted, refused, Answer, answer, refusal, written}
+use Rattle.plain_call.proofs.Answers.{answer-ends}
 use Rattle.checker.specs.Answering.{callOf}
 use Rattle.digits.specs.Digits.{digit, hexadecimal, line, lines, decimalBy, decimal, Puts}
 use Rattle.text.specs.Text.{refusedText, atText, movesText, visitsText, deepestText, weightText, wordsText, refusalText, countsText, saidText, verdictText}
@@ -28,48 +22,19 @@ use Rattle.skycorbel.specs.Input.{reply}
 abbrev Long : Call → Answer → Type 0
 Long c a = length (a .buffer) ≡ length (c .buffer)
 
-either : (c : Call) (b : Bool) (x y : Answer) → Long c x → Long c y → Long c (cond b x y)
-either c true x y u v = u
-either c false x y u v = v
-
 over-long : (ws b : List ℕ) → length ws ≤ length b → length (ws ++ drop (length ws) b) ≡ length b
 over-long ws b l = let e : length ws + (length b - length ws) ≡ length b = omega arith in length-append ws (drop (length ws) b) ∙ ap (λ (k : ℕ). length ws + k) (length-drop (length ws) b) ∙ e
 
-finish-long : (c : Call) (m : Machine) (a : Bool) (n : Count) → Long c (finish c m a n)
-unfolding finish refusal
-finish-long c m a n = byTest (leb (length (written m)) (min (length (c .buffer)) 268435456)) refl
-  where
-    byTest : (b : Bool) → leb (length (written m)) (min (length (c .buffer)) 268435456) ≡ b → Long c (finish c m a n)
-    byTest true e = rw e (over-long (written m) (c .buffer) (omega (arith, leb-true (length (written m)) (min (length (c .buffer)) 268435456) e)))
-    byTest false e = rw e refl
-
-walked-long : (c : Call) (m : Machine) (w : Walked) → Long c (walked c m w)
-unfolding walked refusal
-walked-long c m (stopped q i v) = refl
-walked-long c m (says a n) = finish-long c m a n
-
-run-long : (c : Call) (n p : ℕ) (r : Rule) (x : Ran) → Long c (ruleRun c n p r x)
-unfolding ruleRun refusal
-run-long c n p r (halted q i) = refl
-run-long c n p r (moved m) = walked-long c m (walkFrom (plainSpace (n + p)) (setting c n) r (m .tree))
-
-rule-long : (c : Call) (b : Script) (n : ℕ) (x : Reading (Rule × Cursor)) → Long c (ruleRead c b n x)
-unfolding ruleRead refusal
-rule-long c b n (refuse q i) = refl
-rule-long c b n (got p) =
-    let x = ruleRun c n (p .1 .number) (p .0) (run n 0 (c .moves) (begun b)) in
-    let y = refusal 14 0 0 0 (c .buffer) in
-    let u : Long c (cond (leb (length (c .moves)) 4096) x y) = either c (leb (length (c .moves)) 4096) x y (run-long c n (p .1 .number) (p .0) (run n 0 (c .moves) (begun b))) refl in
-    either c (leb 1 (c .patience) && leb (c .patience) 16777216) (cond (leb (length (c .moves)) 4096) x y) (refusal 13 0 0 0 (c .buffer)) u refl
-
-script-long : (c : Call) (x : Reading (Script × Cursor)) → Long c (scriptRead c x)
-unfolding scriptRead refusal
-script-long c (refuse q i) = refl
-script-long c (got p) = rule-long c (p .0) (p .1 .number) (readWholeRule (p .1 .number) (c .rule))
-
 pub answer-long : (c : Call) → length (answer c .buffer) ≡ length (c .buffer)
-unfolding answer
-answer-long c = script-long c (readScript (c .script))
+unfolding refusal
+answer-long c = answer-ends c (Long c) (record {
+  unread = λ q i e. refl;
+  shut = λ s e q i d. refl;
+  stuck = λ s e r d q i h. refl;
+  tired = λ s q i v e. refl;
+  unfit = λ s a n e l. refl;
+  done = λ s a n e l. over-long (written (s .machine)) (c .buffer) (omega (arith, leb-true (length (written (s .machine))) (min (length (c .buffer)) 268435456) l));
+})
 
 -- ---- pieces
 
