@@ -18,8 +18,8 @@ use Rattle.plain_call.specs.Standing.{Standing}
 use Rattle.plain_call.proofs.Runs.{moved-is}
 
 -- question 19
-abbrev pub Roomy : Call → Machine → Bool
-Roomy c m = leb (length (written m)) (min (length (c .buffer)) 268435456)
+abbrev pub roomy : Call → Machine → Bool
+roomy c m = leb (length (written m)) (min (length (c .buffer)) 268435456)
 
 -- what a call answers that is accepted
 abbrev pub accepting : Call → Machine → Bool → Count → Answer
@@ -48,13 +48,13 @@ pub record Endings (c : Call) (P : Answer → Type 0) : Type 0 where
   -- questions 17 and 18
   pub tired : (s : Standing c) (q i v : ℕ) → walkOf c s ≡ stopped q i v → P (refusal q i (length (c .moves)) v (c .buffer))
   -- question 19
-  pub unfit : (s : Standing c) (a : Bool) (n : Count) → walkOf c s ≡ says a n → Roomy c (s .machine) ≡ false → P (refusal 19 0 (length (c .moves)) (n .visits) (c .buffer))
-  pub done : (s : Standing c) (a : Bool) (n : Count) → walkOf c s ≡ says a n → Roomy c (s .machine) ≡ true → P (accepting c (s .machine) a n)
+  pub unfit : (s : Standing c) (a : Bool) (n : Count) → walkOf c s ≡ says a n → roomy c (s .machine) ≡ false → P (refusal 19 0 (length (c .moves)) (n .visits) (c .buffer))
+  pub done : (s : Standing c) (a : Bool) (n : Count) → walkOf c s ≡ says a n → roomy c (s .machine) ≡ true → P (accepting c (s .machine) a n)
 
 module _ (c : Call) (P : Answer → Type 0) (E : Endings c P) where
   finish-ends : (s : Standing c) (a : Bool) (n : Count) → walkOf c s ≡ says a n → P (finish c (s .machine) a n)
   unfolding finish
-  finish-ends s a n e = byTest (Roomy c (s .machine)) (λ t. rw t (E .done s a n e t)) (λ t. rw t (E .unfit s a n e t))
+  finish-ends s a n e = byTest (roomy c (s .machine)) (λ t. rw t (E .done s a n e t)) (λ t. rw t (E .unfit s a n e t))
 
   walked-ends : (s : Standing c) (w : Walked) → walkOf c s ≡ w → P (walked c (s .machine) w)
   unfolding walked

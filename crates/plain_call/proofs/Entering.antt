@@ -3,7 +3,6 @@
 use Prim.Native.Nat.{ℕ, _+_, _≤_}
 use mathlib.Core.Path.{_≡_, ap, _∙_}
 use native.Mathlib.Omega.{arith}
-use lib.Dec.{leb}
 use lib.ListN.{length}
 use borrow.Author.Tests.{leb-true}
 use Rattle.messages.specs.Reading.{Cursor, Reading, refuse, got, ask}
@@ -35,11 +34,11 @@ module _ (c : Call) where
 
 pub terms-few : (p k : ℕ) (u : Unit {0}) → terms p k ≡ got u → k ≤ 4096
 unfolding terms
-terms-few p k u e = let x = bind-inv (ask 13 0 _) (λ v. ask 14 0 (leb k 4096)) u e in leb-true k 4096 (ask-inv 14 0 (leb k 4096) u (x .2))
+terms-few p k u e = let x = bind-inv (ask 13 0 _) (λ v. ask 14 0 _) u e in omega (arith, leb-true k _ (ask-inv 14 0 _ u (x .2)))
 
 terms-within : (x p k : ℕ) → Within x (terms p k)
 unfolding terms
-terms-within x p k = bind-within x (ask 13 0 _) (λ v. ask 14 0 (leb k 4096)) (ask-within x 13 0 _ (omega arith)) (λ u e. ask-within x 14 0 (leb k 4096) (omega arith))
+terms-within x p k = bind-within x (ask 13 0 _) (λ v. ask 14 0 _) (ask-within x 13 0 _ (omega arith)) (λ u e. ask-within x 14 0 _ (omega arith))
 
 -- ---- questions 7 to 14
 

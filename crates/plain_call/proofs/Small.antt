@@ -171,7 +171,7 @@ module _ (c : Call) where
       start-all c (λ t. run (partsOf t) 0 (c .moves) (t .machine) ≡ moved (s .machine) → weightOf (s .machine) ≤ parts (t .read .0))
       (λ p e x. run-weighed (p .1 .number) (c .moves) (p .0) (s .machine) x) (s .start) (s .starts) (s .moves-made)
 
-  abbrev few : (s : Standing c) → length (c .moves) ≤ 4096
+  few : (s : Standing c) → length (c .moves) ≤ 4096
   few s = let l = door-few c (s .start) (s .rule) (s .enters) in omega (arith, l)
 
   stops : (s : Standing c) → Stops 256 (walkOf c s)

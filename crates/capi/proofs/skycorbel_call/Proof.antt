@@ -7,7 +7,9 @@ use Rattle.capi.proofs.skycorbel_call.Statement.{statement}
 use Rattle.capi.proofs.skycorbel_call.Tie as tie
 
 returns : tie.Need-returns
-returns c = short (callOf (c .before .before .before .before .before .before .args .script .now) (c .before .before .before .before .before .before .args .moves .now) (c .before .before .before .before .before .before .args .rule .now) (c .before .before .before .before .before .before .args .patience) (c .before .before .before .before .before .before .args .out .now)) (c .before .before .before .before .before .before .args .answer .now) (c .if1 .taken)
+returns c =
+    let s = c .before .before .before .before .before .before in
+    short (callOf (s .args .script .now) (s .args .moves .now) (s .args .rule .now) (s .args .patience) (s .args .out .now)) (s .args .answer .now) (c .if1 .taken)
 
 tell-requires : tie.Need-tell-requires
 tell-requires c κs =
@@ -15,7 +17,10 @@ tell-requires c κs =
     (search needs, h .0, h .1, h .2)
 
 returns-2 : tie.Need-returns-2
-returns-2 c = told-whole (callOf (c .before .before .before .before .before .before .before .before .before .before .before .before .before .before .args .script .now) (c .before .before .before .before .before .before .before .before .before .before .before .before .before .before .args .moves .now) (c .before .before .before .before .before .before .before .before .before .before .before .before .before .before .args .rule .now) (c .before .before .before .before .before .before .before .before .before .before .before .before .before .before .args .patience) (c .before .before .before .before .before .before .before .before .before .before .before .before .before .before .args .out .now)) (c .before .before .before .before .before .before .before .before .before .before .before .before .before .before .args .answer .now) (c .before .before .before .before .before .before .call .result) _ (c .before .before .before .before .before .before .call .ensures .0) (c .before .before .before .before .before .before .before .before .if1 .left) (c .before .before .tell .ensures _)
+returns-2 c =
+    let a = c .before .before .before .before .before .before in
+    let s = a .before .before .before .before .before .before .before .before in
+    told-whole (callOf (s .args .script .now) (s .args .moves .now) (s .args .rule .now) (s .args .patience) (s .args .out .now)) (s .args .answer .now) (a .call .result) _ (a .call .ensures .0) (a .before .before .if1 .left) (c .before .before .tell .ensures _)
 
 pub skycorbel-call-spec : {M : Type 1} → statement M
 skycorbel-call-spec =

@@ -18,15 +18,24 @@ finish-requires-2 c κs = c .before .before .before .before .before .before .pre
 
 returns : tie.Need-returns
 unfolding walked walkedOf
-returns c list rule patience weight spent b em R = c .before .before .finish .ensures list rule patience weight spent b em R ∙ ap (λ (x : declared.Walked). walked (callOf (c .before .before .before .before .before .before .before .before .before .args .script .now) list rule patience (c .before .before .before .before .before .before .before .before .before .args .out .now)) (unfoldMachine (record { tree = b; bindings = boundIn (c .before .before .before .before .before .before .before .before .before .args .script .now) (c .before .before .before .before .before .before .before .before .before .args .state) })) (walkedOf x)) (sym (c .before .before .before .before .before .w .given .1))
+returns c list rule patience weight spent b em R =
+    let at-w = c .before .before .before .before .before in
+    let start = at-w .before .before .before .before in
+    c .before .before .finish .ensures list rule patience weight spent b em R ∙ ap (λ (x : declared.Walked). walked (callOf (start .args .script .now) list rule patience (start .args .out .now)) (unfoldMachine (record { tree = b; bindings = boundIn (start .args .script .now) (start .args .state) })) (walkedOf x)) (sym (at-w .w .given .1))
 
 returns-2 : tie.Need-returns-2
 unfolding walked walkedOf
-returns-2 c list rule patience weight spent b em R = c .before .before .finish2 .ensures list rule patience weight spent b em R ∙ ap (λ (x : declared.Walked). walked (callOf (c .before .before .before .before .before .before .before .before .before .args .script .now) list rule patience (c .before .before .before .before .before .before .before .before .before .args .out .now)) (unfoldMachine (record { tree = b; bindings = boundIn (c .before .before .before .before .before .before .before .before .before .args .script .now) (c .before .before .before .before .before .before .before .before .before .args .state) })) (walkedOf x)) (sym (c .before .before .before .before .before .w2 .given .1))
+returns-2 c list rule patience weight spent b em R =
+    let at-w2 = c .before .before .before .before .before in
+    let start = at-w2 .before .before .before .before in
+    c .before .before .finish2 .ensures list rule patience weight spent b em R ∙ ap (λ (x : declared.Walked). walked (callOf (start .args .script .now) list rule patience (start .args .out .now)) (unfoldMachine (record { tree = b; bindings = boundIn (start .args .script .now) (start .args .state) })) (walkedOf x)) (sym (at-w2 .w2 .given .1))
 
 returns-3 : tie.Need-returns-3
 unfolding walked walkedOf
-returns-3 c list rule patience weight spent b em R = c .refused .ensures (c .before .before .before .before .before .before .args .out .now) ∙ (λ i. refusal (c .before .before .w3 .given .0 .0) (c .before .before .w3 .given .0 .1 .0) (em i) (c .before .before .w3 .given .0 .1 .1 .0) (c .before .before .before .before .before .before .args .out .now)) ∙ ap (λ (x : declared.Walked). walked (callOf (c .before .before .before .before .before .before .args .script .now) list rule patience (c .before .before .before .before .before .before .args .out .now)) (unfoldMachine (record { tree = b; bindings = boundIn (c .before .before .before .before .before .before .args .script .now) (c .before .before .before .before .before .before .args .state) })) (walkedOf x)) (sym (c .before .before .w3 .given .1))
+returns-3 c list rule patience weight spent b em R =
+    let at-w3 = c .before .before in
+    let start = at-w3 .before .before .before .before in
+    c .refused .ensures (start .args .out .now) ∙ (λ i. refusal (at-w3 .w3 .given .0 .0) (at-w3 .w3 .given .0 .1 .0) (em i) (at-w3 .w3 .given .0 .1 .1 .0) (start .args .out .now)) ∙ ap (λ (x : declared.Walked). walked (callOf (start .args .script .now) list rule patience (start .args .out .now)) (unfoldMachine (record { tree = b; bindings = boundIn (start .args .script .now) (start .args .state) })) (walkedOf x)) (sym (at-w3 .w3 .given .1))
 
 pub after-walk-spec : {M : Type 1} → statement M
 after-walk-spec =

@@ -9,13 +9,22 @@ use Rattle.checker.proofs.call.Statement.{statement}
 use Rattle.checker.proofs.call.Tie as tie
 
 with-script-requires : tie.Need-with-script-requires
-with-script-requires c κs = script-held (c .before .before .before .before .before .before .before .before .args .script .now) (c .before .before .before .read-script .result) (c .before .before .before .read-script .ensures .0) (c .before .enum-told .given .0 .0) (c .before .enum-told .given .1) (c .before .before .before .read-script .ensures .1)
+with-script-requires c κs =
+    let at-read-script = c .before .before .before in
+    script-held (c .before .before .before .before .before .before .before .before .args .script .now) (at-read-script .read-script .result) (at-read-script .read-script .ensures .0) (c .before .enum-told .given .0 .0) (c .before .enum-told .given .1) (at-read-script .read-script .ensures .1)
 
 returns : tie.Need-returns
-returns c = call-kept (callOf (c .before .before .before .before .before .before .before .before .before .before .before .args .script .now) (c .before .before .before .before .before .before .before .before .before .before .before .args .moves .now) (c .before .before .before .before .before .before .before .before .before .before .before .args .rule .now) (c .before .before .before .before .before .before .before .before .before .before .before .args .patience) (c .before .before .before .before .before .before .before .before .before .before .before .args .out .now)) (c .before .before .with-script .result) _ (c .before .before .with-script .ensures)
+returns c =
+    let at-with-script = c .before .before in
+    let start = at-with-script .before .before .before .before .before .before .before .before .before in
+    call-kept (callOf (start .args .script .now) (start .args .moves .now) (start .args .rule .now) (start .args .patience) (start .args .out .now)) (at-with-script .with-script .result) _ (at-with-script .with-script .ensures)
 
 returns-2 : tie.Need-returns-2
-returns-2 c = call-kept (callOf (c .before .before .before .before .before .before .before .before .before .args .script .now) (c .before .before .before .before .before .before .before .before .before .args .moves .now) (c .before .before .before .before .before .before .before .before .before .args .rule .now) (c .before .before .before .before .before .before .before .before .before .args .patience) (c .before .before .before .before .before .before .before .before .before .args .out .now)) (c .refused .result) (c .before .before .before .before .before .before .before .before .before .args .out .now) (c .refused .ensures (c .before .before .before .before .before .before .before .before .before .args .out .now) ∙ sym (answers-script (callOf (c .before .before .before .before .before .before .before .before .before .args .script .now) (c .before .before .before .before .before .before .before .before .before .args .moves .now) (c .before .before .before .before .before .before .before .before .before .args .rule .now) (c .before .before .before .before .before .before .before .before .before .args .patience) (c .before .before .before .before .before .before .before .before .before .args .out .now)) (c .before .before .outcome .given .0 .0) (c .before .before .outcome .given .0 .1 .0) (script-refused (c .before .before .before .before .before .before .before .before .before .args .script .now) (c .before .before .before .before .read-script .result) (c .before .before .before .before .read-script .ensures .0) (c .before .before .outcome .given .0 .0) (c .before .before .outcome .given .0 .1 .0) (c .before .before .outcome .given .1))))
+returns-2 c =
+    let at-outcome = c .before .before in
+    let at-read-script = at-outcome .before .before in
+    let start = at-read-script .before .before .before .before .before in
+    call-kept (callOf (start .args .script .now) (start .args .moves .now) (start .args .rule .now) (start .args .patience) (start .args .out .now)) (c .refused .result) (start .args .out .now) (c .refused .ensures (start .args .out .now) ∙ sym (answers-script (callOf (start .args .script .now) (start .args .moves .now) (start .args .rule .now) (start .args .patience) (start .args .out .now)) (at-outcome .outcome .given .0 .0) (at-outcome .outcome .given .0 .1 .0) (script-refused (start .args .script .now) (at-read-script .read-script .result) (at-read-script .read-script .ensures .0) (at-outcome .outcome .given .0 .0) (at-outcome .outcome .given .0 .1 .0) (at-outcome .outcome .given .1))))
 
 pub call-spec : {M : Type 1} → statement M
 call-spec =

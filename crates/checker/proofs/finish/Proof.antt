@@ -32,15 +32,19 @@ weigh-requires c κs = c .before .before .before .before .before .before .before
 returns : tie.Need-returns
 unfolding unfoldMachine
 returns c list rule patience weight spent b em R =
-    let w = c .before .before .before .before .before .before .write-state .ensures weight spent b R in
-    ends-refused (callOf (c .before .before .before .before .before .before .before .before .before .before .args .script .now) list rule patience (c .before .before .before .before .before .before .before .before .before .before .args .out .now)) (unfoldMachine (record { tree = b; bindings = boundIn (c .before .before .before .before .before .before .before .before .before .before .args .script .now) (c .before .before .before .before .before .before .before .before .before .before .args .state) })) (c .before .before .before .before .before .before .before .before .before .before .args .yes) (record { visits = c .before .before .before .before .before .before .before .before .before .before .args .visits; deepest = c .before .before .before .before .before .before .before .before .before .before .args .deepest }) (c .refused .result) _ (w .1) _ _ (c .before .before .before .before .before .before .before .before .before .before .args .moves) em (sym (c .before .before .fitting .given .1) ∙ w .0) (c .refused .ensures)
+    let at-write-state = c .before .before .before .before .before .before in
+    let start = at-write-state .before .before .before .before in
+    let w = at-write-state .write-state .ensures weight spent b R in
+    ends-refused (callOf (start .args .script .now) list rule patience (start .args .out .now)) (unfoldMachine (record { tree = b; bindings = boundIn (start .args .script .now) (start .args .state) })) (start .args .yes) (record { visits = start .args .visits; deepest = start .args .deepest }) (c .refused .result) _ (w .1) _ _ (start .args .moves) em (sym (c .before .before .fitting .given .1) ∙ w .0) (c .refused .ensures)
 
 returns-2 : tie.Need-returns-2
 unfolding unfoldMachine
 returns-2 c list rule patience weight spent b em R =
-    let w = c .before .before .before .before .before .before .before .write-state .ensures weight spent b R in
-    ends-words (callOf (c .before .before .before .before .before .before .before .before .before .before .before .args .script .now) list rule patience (c .before .before .before .before .before .before .before .before .before .before .before .args .out .now)) (unfoldMachine (record { tree = b; bindings = boundIn (c .before .before .before .before .before .before .before .before .before .before .before .args .script .now) (c .before .before .before .before .before .before .before .before .before .before .before .args .state) })) (c .before .before .before .before .before .before .before .before .before .before .before .args .yes) (record { visits = c .before .before .before .before .before .before .before .before .before .before .before .args .visits; deepest = c .before .before .before .before .before .before .before .before .before .before .before .args .deepest }) _ _ (w .1) _ (sym (c .before .before .before .fitting2 .given .1) ∙ w .0) (c .before .said .ensures) em refl refl
-    (weighs-so (c .before .before .before .before .before .before .before .before .before .before .before .args .script .now) (c .before .before .before .before .before .before .before .before .before .before .before .args .state) b (long (c .before .before .before .before .before .before .before .before .before .before .before)) (c .before .before .before .before .before .before .before .before .before .before .before .pre .0 .bound) (c .weigh .result) (c .weigh .ensures (c .before .before .before .before .before .before .before .before .before .before .before .args .script .now) (c .before .before .before .before .before .before .before .before .before .before .before .args .kinds .now) (c .before .before .before .before .before .before .before .before .before .before .before .args .starts .now) weight spent b R)) refl
+    let at-write-state = c .before .before .before .before .before .before .before in
+    let start = at-write-state .before .before .before .before in
+    let w = at-write-state .write-state .ensures weight spent b R in
+    ends-words (callOf (start .args .script .now) list rule patience (start .args .out .now)) (unfoldMachine (record { tree = b; bindings = boundIn (start .args .script .now) (start .args .state) })) (start .args .yes) (record { visits = start .args .visits; deepest = start .args .deepest }) _ _ (w .1) _ (sym (c .before .before .before .fitting2 .given .1) ∙ w .0) (c .before .said .ensures) em refl refl
+    (weighs-so (start .args .script .now) (start .args .state) b (long start) (start .pre .0 .bound) (c .weigh .result) (c .weigh .ensures (start .args .script .now) (start .args .kinds .now) (start .args .starts .now) weight spent b R)) refl
 
 pub finish-spec : {M : Type 1} → statement M
 finish-spec =

@@ -12,8 +12,11 @@ walk-rule-requires c κs = (c .before .before .before .before .before .before .b
 
 returns : tie.Need-returns
 returns c list em S =
-    c .before .before .after-walk .ensures list (c .before .before .before .before .before .before .before .before .before .before .before .before .before .before .before .args .rule .now) (c .before .before .before .before .before .before .before .before .before .before .before .before .before .before .before .args .patience) (c .before .before .before .before .before .before .before .before .before .before .before .before .before .before .before .args .parts .count) (length list) (S .machine .tree) em (S .stands)
-    ∙ walk-answers (c .before .before .before .before .before .before .before .before .before .before .before .before .before .before .before .args .script .now) list (c .before .before .before .before .before .before .before .before .before .before .before .before .before .before .before .args .rule .now) (c .before .before .before .before .before .before .before .before .before .before .before .before .before .before .before .args .patience) (c .before .before .before .before .before .before .before .before .before .before .before .before .before .before .before .args .out .now) (c .before .before .before .before .before .before .before .before .before .before .before .before .before .before .before .args .parts) (c .before .before .before .before .before .before .before .before .before .before .before .before .before .before .before .args .table) (c .before .before .before .before .before .before .before .before .before .before .before .before .before .before .before .args .state) S (c .before .before .before .before .before .before .before .before .before .greatest .result) (c .before .before .before .before .before .before .before .before .before .greatest .ensures .0) (c .before .before .before .before .before .before .walk-rule .result) (c .before .before .before .before .before .before .walk-rule .ensures)
+    let at-walk-rule = c .before .before .before .before .before .before in
+    let at-greatest = at-walk-rule .before .before .before in
+    let start = at-greatest .before .before .before .before .before .before in
+    c .before .before .after-walk .ensures list (start .args .rule .now) (start .args .patience) (start .args .parts .count) (length list) (S .machine .tree) em (S .stands)
+    ∙ walk-answers (start .args .script .now) list (start .args .rule .now) (start .args .patience) (start .args .out .now) (start .args .parts) (start .args .table) (start .args .state) S (at-greatest .greatest .result) (at-greatest .greatest .ensures .0) (at-walk-rule .walk-rule .result) (at-walk-rule .walk-rule .ensures)
 
 pub with-moves-spec : {M : Type 1} → statement M
 with-moves-spec =

@@ -6,11 +6,18 @@ use Rattle.checker.proofs.with_script.Statement.{statement}
 use Rattle.checker.proofs.with_script.Tie as tie
 
 with-rule-requires : tie.Need-with-rule-requires
-with-rule-requires c κs = (c .before .before .before .before .before .before .before .before .pre, rule-held (c .before .before .before .before .before .before .before .before .args .parts .count) (c .before .before .before .before .before .before .before .before .args .rule .now) (c .before .before .before .read-whole-rule .result) (c .before .before .before .read-whole-rule .ensures .0) (c .before .enum-told .given .0 .0) (c .before .enum-told .given .1) (c .before .before .before .read-whole-rule .ensures .1))
+with-rule-requires c κs =
+    let at-read-whole-rule = c .before .before .before in
+    let start = at-read-whole-rule .before .before .before .before .before in
+    (start .pre, rule-held (start .args .parts .count) (start .args .rule .now) (at-read-whole-rule .read-whole-rule .result) (at-read-whole-rule .read-whole-rule .ensures .0) (c .before .enum-told .given .0 .0) (c .before .enum-told .given .1) (at-read-whole-rule .read-whole-rule .ensures .1))
 
 returns-2 : tie.Need-returns-2
-returns-2 c = c .refused .ensures (c .before .before .before .before .before .before .before .before .before .args .out .now)
-    ∙ sym (says-rule (c .before .before .before .before .before .before .before .before .before .args .script .now) (c .before .before .before .before .before .before .before .before .before .args .moves .now) (c .before .before .before .before .before .before .before .before .before .args .rule .now) (c .before .before .before .before .before .before .before .before .before .args .patience) (c .before .before .before .before .before .before .before .before .before .args .out .now) (c .before .before .before .before .before .before .before .before .before .args .parts) (c .before .before .before .before .before .before .before .before .before .pre) (c .before .before .outcome .given .0 .0) (c .before .before .outcome .given .0 .1 .0) (rule-refused (c .before .before .before .before .before .before .before .before .before .args .parts .count) (c .before .before .before .before .before .before .before .before .before .args .rule .now) (c .before .before .before .before .read-whole-rule .result) (c .before .before .before .before .read-whole-rule .ensures .0) (c .before .before .outcome .given .0 .0) (c .before .before .outcome .given .0 .1 .0) (c .before .before .outcome .given .1)))
+returns-2 c =
+    let at-outcome = c .before .before in
+    let at-read-whole-rule = at-outcome .before .before in
+    let start = at-read-whole-rule .before .before .before .before .before in
+    c .refused .ensures (start .args .out .now)
+    ∙ sym (says-rule (start .args .script .now) (start .args .moves .now) (start .args .rule .now) (start .args .patience) (start .args .out .now) (start .args .parts) (start .pre) (at-outcome .outcome .given .0 .0) (at-outcome .outcome .given .0 .1 .0) (rule-refused (start .args .parts .count) (start .args .rule .now) (at-read-whole-rule .read-whole-rule .result) (at-read-whole-rule .read-whole-rule .ensures .0) (at-outcome .outcome .given .0 .0) (at-outcome .outcome .given .0 .1 .0) (at-outcome .outcome .given .1)))
 
 pub with-script-spec : {M : Type 1} → statement M
 with-script-spec =

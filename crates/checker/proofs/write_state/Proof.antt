@@ -46,8 +46,11 @@ slice-aggregate-tail-4 c = sym (long-sizes (c .before .before .before .before .b
 slice-aggregate-tail-5 : tie.Need-slice-aggregate-tail-5
 slice-aggregate-tail-5 c = sym (long-bulks (c .before .before .before .before .before .before .before .before .before .before .before .before .before .before .before .before .before .before .before .before .before))
 
+abbrev start-of-write-tree-arg : tie.After-write-tree-arg → tie.Start
+start-of-write-tree-arg c = c .before .before .before .before .before .before .before .before .before .before .before .before .before .before .before .before .before .before .before .before .before .before .before
+
 write-tree-requires : tie.Need-write-tree-requires
-write-tree-requires c κs = (rw (c .before .before .before .before .before .before .before .before .before .tail .ensures, c .before .before .before .before .before .before .before .tail2 .ensures, c .before .before .before .before .before .tail3 .ensures, c .before .before .before .tail4 .ensures, c .before .tail5 .ensures) (c .before .before .before .before .before .before .before .before .before .before .before .before .before .before .before .before .before .before .before .before .before .before .before .pre .0 .bound .cached), c .before .before .before .before .before .before .before .before .before .before .before .before .before .before .before .before .before .before .before .before .before .before .before .pre .1)
+write-tree-requires c κs = (rw (c .before .before .before .before .before .before .before .before .before .tail .ensures, c .before .before .before .before .before .before .before .tail2 .ensures, c .before .before .before .before .before .tail3 .ensures, c .before .before .before .tail4 .ensures, c .before .tail5 .ensures) (start-of-write-tree-arg c .pre .0 .bound .cached), start-of-write-tree-arg c .pre .1)
 
 returns : tie.Need-returns
 unfolding bindingsOf
