@@ -19,7 +19,7 @@ use Rattle.plain_call.specs.Call.{Call, accepted, refused, refusal, Ran,
 use Rattle.plain_call.specs.Standing.{Standing}
 use Rattle.plain_call.proofs.Runs.{moved-is}
 
-refused≢accepted : {B : Type 0} {q i : ℕ} {a : Bool} → refused q i ≡ accepted a → B
+pub refused≢accepted : {B : Type 0} {q i : ℕ} {a : Bool} → refused q i ≡ accepted a → B
 refused≢accepted e = let z : _≡_ {A = ℕ} 0 1 = cc in absurd (let w : ⊥ = omega arith in w)
 
 accepted-is : {a b : Bool} → accepted a ≡ accepted b → a ≡ b

@@ -122,7 +122,7 @@ finish-moves : (c : Call) (m : Machine) (a : Bool) (n : Count) → finish c m a 
 unfolding finish refusal
 finish-moves c m a n = byTest (leb (length (written m)) (min (length (c .buffer)) 268435456)) (λ t. rw t) (λ t. rw t)
 
-walked-moves : (c : Call) (m : Machine) (w : Walked) → walked c m w .moves ≡ length (c .moves)
+pub walked-moves : (c : Call) (m : Machine) (w : Walked) → walked c m w .moves ≡ length (c .moves)
 unfolding walked refusal
 walked-moves c m (stopped q i v) = refl
 walked-moves c m (says a n) = finish-moves c m a n

@@ -1,5 +1,6 @@
--- What a call's yes or no is about (demand 2), and what its moves keep to (demand 3's weight and bound). Not the walk: the
--- script and the rule as read, and the tree that stands after the moves. Assumes nothing: these are definitions.
+-- What a call's yes or no is about (demand 2), what its moves are in the paper's calculus, and what they keep to (demand 3's
+-- weight and bound). Not the walk: the script and the rule as read, and the tree that stands after the moves. Assumes
+-- nothing: these are definitions.
 use Prim.Native.Nat.{ℕ, _≤_}
 use mathlib.Core.Bool.{true, false}
 use mathlib.Core.List.{List, []}
@@ -13,7 +14,8 @@ use Rattle.machine.specs.PlainMachine.{Machine, weightOf}
 use Rattle.rules.specs.Rule.{Rule}
 use Rattle.rules.specs.ReadRule.{readWholeRule}
 use Rattle.calculus.specs.Satisfaction.{Sat}
-use Rattle.calculus.specs.Calculus.{Satisfies, process}
+use Rattle.calculus.specs.Calculus.{Process, _≅_, Satisfies, process}
+use Rattle.calculus.specs.Written.{written, Steps}
 use Rattle.plain_call.specs.Call.{Call, Verdict, accepted, refused, moved, run, begun}
 
 -- what stands when the walk begins
@@ -43,6 +45,23 @@ Decides c (refused q i) = Unit {0}
 abbrev pub After : (c : Call) → Script × Cursor → ℕ → Machine → Type 0
 After c p k m = run (p .1 .number) 0 (take k (c .moves)) (begun (p .0)) ≡ moved m
 
+-- the first k moves of the list are made and are k reductions of the paper's, one after the other: they lead from the script
+-- as it is written to a process that is, up to structural congruence, the process of the tree that then stands
+pub record Reduced (c : Call) (p : Script × Cursor) (k : ℕ) (m : Machine) : Type 0 where
+  pub within : k ≤ length (c .moves)
+  pub made : After c p k m
+  pub last : Process
+  pub steps : Steps k (written (p .0)) last
+  pub stands : last ≅ process (m .tree)
+
+-- An answer's verdict and moves, in the paper's terms: "SOMETIME, some list of moves". Yes: the whole list leads from the
+-- script as written to a process that satisfies the rule; no: to one that does not; refused: what was made of the list, "the
+-- moves made are those before it", is a chain of reductions too.
+unfoldable pub Reduces : (c : Call) → Verdict → (moves : ℕ) → Type 0
+Reduces c (accepted true) k = (s : Standing c) × (x : Reduced c (s .script) k (s .machine)) × (k ≡ length (c .moves)) × Satisfies [] (x .last) (s .rule .0)
+Reduces c (accepted false) k = (s : Standing c) × (x : Reduced c (s .script) k (s .machine)) × (k ≡ length (c .moves)) × ¬ Satisfies [] (x .last) (s .rule .0)
+Reduces c (refused q i) k = (p : Script × Cursor) → readScript (c .script) ≡ got p → (m : Machine) × Reduced c p k m
+
 -- "parts in the tree plus twice the receipts made are at most the script's parts", before the first move and after each
 unfoldable pub WeightHolds : Call → Type 0
 WeightHolds c = (p : Script × Cursor) → readScript (c .script) ≡ got p → (k : ℕ) (m : Machine) → After c p k m → weightOf m ≤ parts (p .0)
@@ -58,5 +77,5 @@ MovesBounded ws n = (p : Script × Cursor) → readScript ws ≡ got p → n ≤
 
 -- To unfold this is to unfold every definition of this module: for a proof by computation.
 unfoldable pub computing : Unit {0}
-unfolding Decides WeightHolds MovesBounded
+unfolding Decides Reduces WeightHolds MovesBounded
 computing = tt
