@@ -5,3 +5,4 @@ pub mod Listed
 pub mod Deciding
 pub mod Related
 pub mod Closures
+pub mod Risen

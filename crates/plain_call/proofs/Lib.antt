@@ -9,3 +9,4 @@ pub mod ClosureRuns
 pub mod Called
 pub mod Small
 pub mod Reducing
+pub mod Risen
