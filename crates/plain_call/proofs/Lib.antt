@@ -10,3 +10,5 @@ pub mod Called
 pub mod Small
 pub mod Reducing
 pub mod Risen
+pub mod Rereading
+pub mod Returning
