@@ -22,7 +22,7 @@ use Rattle.slices.proofs.Tests.{byTest}
 use Rattle.machine.proofs.Everywhere.{Everywhere}
 use Rattle.message_writer.specs.Write.{Indices, newIndex, writeMessage, whole, writeHead, within, writeInside, write, writePart}
 use Rattle.message_writer.proofs.Trees.{write-part}
-use Rattle.calculus.specs.Calculus.{Process, ambient, action, input, output, _≅_, prefix, piece, process}
+use Rattle.calculus.specs.Calculus.{Process, _∣_, ambient, action, input, output, _≅_, prefix, piece, process}
 use Rattle.calculus.specs.Written.{writtenPart, written}
 use Rattle.calculus.proofs.Variables.{eqb-same, free}
 use Rattle.calculus.proofs.Shapes.{Shape, nil, cell, place, hear, say, _⊕_, chain, chain-append, same-eq}
@@ -62,3 +62,193 @@ unfolding whole
 whole-all P [] x = tt
 whole-all P (i ∷ []) x = x .0
 whole-all P (i ∷ (j ∷ is)) x = (x .0, whole-all P (j ∷ is) (x .1))
+
+-- ---- bodies
+
+close-word : partWord (word 0 0) ≡ Close
+unfolding partWord kind operand word
+close-word = refl
+
+ambient-word : partWord (word 1 0) ≡ Ambient
+unfolding partWord kind operand word
+ambient-word = refl
+
+action-word : partWord (word 2 0) ≡ Action
+unfolding partWord kind operand word
+action-word = refl
+
+receipt-word : partWord (word 3 0) ≡ Receipt
+unfolding partWord kind operand word
+receipt-word = refl
+
+output-word : partWord (word 4 0) ≡ Output
+unfolding partWord kind operand word
+output-word = refl
+
+close-all : (P : Script × Cursor → Type 0) (w : PartWord) (c : Cursor) (k : Reading (Script × Cursor)) → w ≡ Close → P (close, c) → (b : Script × Cursor) → orClose w c k ≡ got b → P b
+unfolding orClose
+close-all P w c k e h b x = got-all P (close, c) h b (rw e at x)
+
+-- the word of a part
+abbrev IsPart : PartWord → Type 0
+IsPart Close = ⊥
+IsPart Ambient = Unit {0}
+IsPart Action = Unit {0}
+IsPart Receipt = Unit {0}
+IsPart Output = Unit {0}
+IsPart (No q) = Unit {0}
+
+part-all : (w : PartWord) (c : Cursor) (k : Reading (Script × Cursor)) → IsPart w → orClose w c k ≡ k
+unfolding orClose
+part-all Close c k h = absurd h
+part-all Ambient c k h = refl
+part-all Action c k h = refl
+part-all Receipt c k h = refl
+part-all Output c k h = refl
+part-all (No q) c k h = refl
+
+-- a body whose first word is known: CLOSE, or the word of a part
+close-first : (P : Script × Cursor → Type 0) (f nest : ℕ) (around : List ℕ) (c : Cursor) (ws : List ℕ) → c .left ≡ word 0 0 ∷ ws
+    → ((d : Cursor) → d .left ≡ ws → d .index ≡ suc (c .index) → P (close, d)) → (p : Script × Cursor) → readBody f nest around c ≡ got p → P p
+unfolding readBody
+close-first P zero nest around c ws e h = λ p x. refuse≢got x
+close-first P (suc f) nest around c ws e h =
+    bind-all P (nextWord 5 c) _
+    (λ q x. bind-all P (ask 2 (c .index) (fits (partWord (q .0)))) _
+    (λ _ _. bind-all P (ask 4 (c .index) (leb nest 64)) _
+    (λ _ _.
+    let n = next 5 c q x in
+    let z : word 0 0 ∷ ws ≡ q .0 ∷ q .1 .left = sym e ∙ n .words in
+    close-all P (partWord (q .0)) (q .1) _ (ap partWord (sym (same-head z)) ∙ close-word) (h (q .1) (sym (same-rest z)) (n .index)))))
+
+part-first : (P : Script × Cursor → Type 0) (f nest : ℕ) (around : List ℕ) (c : Cursor) (w : ℕ) (ws : List ℕ) → c .left ≡ w ∷ ws → (W : PartWord) → partWord w ≡ W → IsPart W
+    → ((g : ℕ) (d : Cursor) → d .left ≡ ws → d .index ≡ suc (c .index) → (x : (Written × Script) × Cursor) → partFrom (readMessage g nest around) (readBody g (suc nest)) around W (c .index) d ≡ got x
+    → (r : Script × Cursor) → readBody g nest around (x .1) ≡ got r → P (part (c .number) (x .0 .0) (x .0 .1) (r .0), r .1))
+    → (p : Script × Cursor) → readBody f nest around c ≡ got p → P p
+unfolding readBody
+part-first P zero nest around c w ws e W t k h = λ p x. refuse≢got x
+part-first P (suc f) nest around c w ws e W t k h =
+    bind-all P (nextWord 5 c) _
+    (λ q x. bind-all P (ask 2 (c .index) (fits (partWord (q .0)))) _
+    (λ _ _. bind-all P (ask 4 (c .index) (leb nest 64)) _
+    (λ _ _ p y.
+    let n = next 5 c q x in
+    let z : w ∷ ws ≡ q .0 ∷ q .1 .left = sym e ∙ n .words in
+    let u : partWord (q .0) ≡ W = ap partWord (sym (same-head z)) ∙ t in
+    bind-all P (partFrom (readMessage f nest around) (readBody f (suc nest)) around (partWord (q .0)) (c .index) (nextPart (q .1))) _
+    (λ v e₁. bind-all P (readBody f nest around (v .1)) _
+    (λ r e₂. got-all P _
+    (h f (nextPart (q .1)) (sym (same-rest z)) (n .index) v
+    (subst (λ (o : PartWord). partFrom (readMessage f nest around) (readBody f (suc nest)) around o (c .index) (nextPart (q .1)) ≡ got v) u e₁) r e₂))) p
+    (sym (part-all (partWord (q .0)) (q .1) _ (subst IsPart (sym u) k)) ∙ y))))
+
+-- the new indices of the variables free in a process stand before i, and have the names that the variables have
+abbrev Alike : (i : ℕ) → Indices → (ρ σ : ℕ → ℕ) → Process → Type 0
+Alike i ix ρ σ p = (v : ℕ) → ¬ (free v p ≡ 0) → (newIndex ix v < i) × (ρ (newIndex ix v) ≡ σ v)
+
+alike-less : (i j : ℕ) (ix : Indices) (ρ σ : ℕ → ℕ) (p q : Process) → i ≤ j → ((v : ℕ) → free v q ≡ 0 → free v p ≡ 0) → Alike i ix ρ σ q → Alike j ix ρ σ p
+alike-less i j ix ρ σ p q l f a v d = let x = a v (λ z. d (f v z)) in let y : newIndex ix v < i = x .0 in (omega arith, x .1)
+
+-- what is read of a body that was written from the index i on: the words behind it are left, and the process of what is
+-- written has the shape of the tree's
+record Reread (ix : Indices) (i : ℕ) (b : Plain) (rest : List ℕ) (p : Script × Cursor) : Type 0 where
+  behind : Back i (length (write ix i b)) rest (p .1)
+  says : (n : ℕ) (ρ σ : ℕ → ℕ) → Alike i ix ρ σ (process b) → shape n ρ (written (p .0)) ≡ shape n σ (process b)
+
+abbrev BodyBack : Indices → Plain → Type 0
+BodyBack ix b = (f nest : ℕ) (around : List ℕ) (c : Cursor) (i : ℕ) (rest : List ℕ) → c .index ≡ i → c .left ≡ write ix i b ++ rest → i + length (c .left) ≤ 268435456
+    → (p : Script × Cursor) → readBody f nest around c ≡ got p → Reread ix i b rest p
+
+-- so wherever the receipts around stand
+abbrev AnyBack : Plain → Type 0
+AnyBack b = (ix : Indices) → Small ix → BodyBack ix b
+
+close-back : AnyBack close
+unfolding write process shape written
+close-back ix s f nest around c i rest ei e l =
+    close-first (Reread ix i close rest) f nest around c rest e
+    (λ d x y. record { behind = record { left = x; index = omega (arith, y, ei) }; says = λ n ρ σ a. refl })
+
+-- the shape of a part and of the parts beside it
+beside-says : (k : ℕ) (h : PlainHead) (b r : Plain) (ix : Indices) (i o : ℕ) → i ≤ o → (p q : Process)
+    → ((n : ℕ) (ρ σ : ℕ → ℕ) → Alike i ix ρ σ (piece h (process b)) → shape n ρ p ≡ shape n σ (piece h (process b)))
+    → ((n : ℕ) (ρ σ : ℕ → ℕ) → Alike o ix ρ σ (process r) → shape n ρ q ≡ shape n σ (process r))
+    → (n : ℕ) (ρ σ : ℕ → ℕ) → Alike i ix ρ σ (process (part k h b r)) → shape n ρ (p ∣ q) ≡ shape n σ (process (part k h b r))
+unfolding process shape free
+beside-says k h b r ix i o l p q x y n ρ σ a =
+    ap₂ _⊕_ (x n ρ σ (alike-less i i ix ρ σ (piece h (process b)) (piece h (process b) ∣ process r) (omega arith) (λ v z. omega arith) a))
+    (y n ρ σ (alike-less i o ix ρ σ (process r) (piece h (process b) ∣ process r) l (λ v z. omega arith) a))
+
+-- a part that has a message and a body: an ambient, an action
+module _ (F : Message → Head Message) (h : PlainHead) (m : Message) (wd : ℕ) (W : PartWord) (worded : partWord wd ≡ W) (parted : IsPart W)
+    (reads : (read : Cursor → Reading (Message × Cursor)) (inside : List ℕ → Cursor → Reading (Script × Cursor)) (around : List ℕ) (i : ℕ) (c : Cursor)
+    → partFrom read inside around W i c ≡ guardedFrom F read inside around i c)
+    (writes : (ix : Indices) (i : ℕ) (b : Plain) → writePart ix i h b ≡ (wd ∷ writeMessage ix m) ++ write ix (i + length (wd ∷ writeMessage ix m)) b)
+    (shaped : (n : ℕ) (ρ σ τ : ℕ → ℕ) (p q : Process) → ((v : ℕ) → ¬ (mentions v m ≡ 0) → ρ (τ v) ≡ σ v) → shape n ρ p ≡ shape n σ q
+    → shape n ρ (writtenPart (F (renamed τ m)) p) ≡ shape n σ (piece h q))
+    (frees : (v : ℕ) (p : Process) → free v (piece h p) ≡ mentions v m + free v p) (names : MessageAll Fitting m) where
+  guarded-says : (b : Plain) (ix : Indices) (i j : ℕ) → i ≤ j → (x : Message) → x ≡ renamed (newIndex ix) m → (p : Process)
+      → ((n : ℕ) (ρ σ : ℕ → ℕ) → Alike j ix ρ σ (process b) → shape n ρ p ≡ shape n σ (process b))
+      → (n : ℕ) (ρ σ : ℕ → ℕ) → Alike i ix ρ σ (piece h (process b)) → shape n ρ (writtenPart (F x) p) ≡ shape n σ (piece h (process b))
+  guarded-says b ix i j l x e p f n ρ σ a =
+      ap (λ (z : Message). shape n ρ (writtenPart (F z) p)) e
+      ∙ shaped n ρ σ (newIndex ix) p (process b) (λ v d. a v (λ z. d (omega (arith, frees v (process b)))) .1)
+      (f n ρ σ (alike-less i j ix ρ σ (process b) (piece h (process b)) l (λ v z. omega (arith, frees v (process b))) a))
+
+  guarded-back : (k : ℕ) (b r : Plain) → AnyBack b → AnyBack r → AnyBack (part k h b r)
+  unfolding written
+  guarded-back k b r B R ix s f nest around c i rest ei e l =
+      part-first (Reread ix i (part k h b r) rest) f nest around c wd (M ++ (inner ++ (outer ++ rest))) spelled W worded parted
+      (λ g d dl di x xe.
+      bind-all (Q g) (readMessage g nest around d) _
+      (λ q y. bind-all (Q g) (readBody g (suc nest) around (q .1)) _
+      (λ t z. got-all (Q g) _ (λ rr w.
+      let u = message-back ix s m names g nest around d (inner ++ (outer ++ rest)) dl q y in
+      let qi : q .1 .index ≡ j = omega (arith, u .1 .index) in
+      let ql : j + length (q .1 .left) ≤ 268435456 = subst (λ (v : List ℕ). j + length v ≤ 268435456) (sym (u .1 .left)) room-inside in
+      let b₁ = B ix s g (suc nest) around (q .1) j (outer ++ rest) qi (u .1 .left) ql t z in
+      let ti : t .1 .index ≡ o = omega (arith, b₁ .behind .index, long) in
+      let tl : o + length (t .1 .left) ≤ 268435456 = subst (λ (v : List ℕ). o + length v ≤ 268435456) (sym (b₁ .behind .left)) room-beside in
+      let r₁ = R ix s g nest around (t .1) o rest ti (b₁ .behind .left) tl rr w in
+      record {
+        behind = record { left = r₁ .behind .left; index = omega (arith, r₁ .behind .index, longer) };
+        says = beside-says k h b r ix i o (omega arith) (writtenPart (F (q .0)) (written (t .0))) (written (rr .0)) (guarded-says b ix i j (omega arith) (q .0) (u .0) (written (t .0)) (b₁ .says)) (r₁ .says);
+      }))) x (sym (reads (readMessage g nest around) (readBody g (suc nest)) around (c .index) d) ∙ xe))
+    where
+      M : List ℕ
+      M = writeMessage ix m
+
+      j : ℕ
+      j = i + length (wd ∷ M)
+
+      inner : List ℕ
+      inner = write ix j b
+
+      o : ℕ
+      o = i + length (writePart ix i h b)
+
+      outer : List ℕ
+      outer = write ix o r
+
+      Q : ℕ → (Written × Script) × Cursor → Type 0
+      Q g x = (rr : Script × Cursor) → readBody g nest around (x .1) ≡ got rr → Reread ix i (part k h b r) rest (part (c .number) (x .0 .0) (x .0 .1) (rr .0), rr .1)
+
+      spelled : c .left ≡ wd ∷ (M ++ (inner ++ (outer ++ rest)))
+      spelled =
+          e ∙ ap (λ (v : List ℕ). v ++ rest) (sym (write-part ix i k h b r)) ∙ append-assoc (writePart ix i h b) outer rest
+          ∙ ap (λ (v : List ℕ). v ++ (outer ++ rest)) (writes ix i b) ∙ append-assoc (wd ∷ M) inner (outer ++ rest)
+
+      long : length (writePart ix i h b) ≡ length (wd ∷ M) + length inner
+      long = ap length (writes ix i b) ∙ length-append (wd ∷ M) inner
+
+      longer : length (write ix i (part k h b r)) ≡ length (writePart ix i h b) + length outer
+      longer = sym (ap length (write-part ix i k h b r)) ∙ length-append (writePart ix i h b) outer
+
+      all : length (c .left) ≡ suc (length M + (length inner + length (outer ++ rest)))
+      all = ap length spelled ∙ ap suc (length-append M (inner ++ (outer ++ rest)) ∙ ap (λ (v : ℕ). length M + v) (length-append inner (outer ++ rest)))
+
+      room-inside : j + length (inner ++ (outer ++ rest)) ≤ 268435456
+      room-inside = omega (arith, all, length-append inner (outer ++ rest))
+
+      room-beside : o + length (outer ++ rest) ≤ 268435456
+      room-beside = omega (arith, all, long)
