@@ -7,7 +7,7 @@ use mathlib.Core.Path.{_≡_, refl, sym, ap, ap₂, _∙_, subst}
 use native.Mathlib.Omega.{arith}
 use lib.Dec.{leb, eqb}
 use lib.ListN.{length, length-append}
-use borrow.Author.Tests.{eqb-true, ne-eqb}
+use borrow.Author.Tests.{eqb-true, eq-eqb, ne-eqb}
 use Rattle.messages.specs.Words.{kind, operand, word}
 use Rattle.messages.specs.Reading.{Cursor, cursor, Reading, got, ask, nextWord, nextPart, isEmpty}
 use Rattle.messages.specs.Message.{Message, name, variable, enter, exit, opens, empty, path, items, mentions}
@@ -24,7 +24,7 @@ use Rattle.message_writer.specs.Write.{Indices, newIndex, writeMessage, whole, 
 use Rattle.message_writer.proofs.Trees.{write-part}
 use Rattle.calculus.specs.Calculus.{Process, _∣_, ambient, action, input, output, _≅_, prefix, piece, process}
 use Rattle.calculus.specs.Written.{writtenPart, written}
-use Rattle.calculus.proofs.Variables.{eqb-same, free}
+use Rattle.calculus.proofs.Variables.{eqb-same, eqb-flip, free, free-other}
 use Rattle.calculus.proofs.Shapes.{Shape, nil, cell, place, hear, say, _⊕_, chain, chain-append, same-eq}
 use Rattle.calculus.proofs.Congruences.{renamed, bound, own, shape, complete, top, top-below}
 use Rattle.decision.proofs.Fits.{MessageAll, ItemsAll, HeadAll, Fits}
@@ -252,3 +252,114 @@ module _ (F : Message → Head Message) (h : PlainHead) (m : Message) (wd : ℕ)
 
       room-beside : o + length (outer ++ rest) ≤ 268435456
       room-beside = omega (arith, all, long)
+
+-- a receipt
+new-hit : (v u i : ℕ) (ix : Indices) → eqb v u ≡ true → newIndex ((v, i) ∷ ix) u ≡ i
+unfolding newIndex
+new-hit v u i ix t = rw t
+
+new-miss : (v u i : ℕ) (ix : Indices) → eqb v u ≡ false → newIndex ((v, i) ∷ ix) u ≡ newIndex ix u
+unfolding newIndex
+new-miss v u i ix t = rw t
+
+small-more : (v i : ℕ) (ix : Indices) → Fitting i → Small ix → Small ((v, i) ∷ ix)
+small-more v i ix l s u = byTest (eqb v u)
+    (λ t. subst Fitting (sym (new-hit v u i ix t)) l)
+    (λ t. subst Fitting (sym (new-miss v u i ix t)) (s u))
+
+bound-hit : (ρ : ℕ → ℕ) (x n z : ℕ) → eqb z x ≡ true → bound ρ x n z ≡ n
+unfolding bound
+bound-hit ρ x n z t = rw t
+
+bound-miss : (ρ : ℕ → ℕ) (x n z : ℕ) → eqb z x ≡ false → bound ρ x n z ≡ ρ z
+unfolding bound
+bound-miss ρ x n z t = rw t
+
+-- inside a receipt of v whose word has the index i, v is i
+receipt-alike : (v i j n : ℕ) (ix : Indices) (ρ σ : ℕ → ℕ) (p : Process) → i < j → Alike i ix ρ σ (input v p) → Alike j ((v, i) ∷ ix) (bound ρ i n) (bound σ v n) p
+receipt-alike v i j n ix ρ σ p l a u d = byTest (eqb v u)
+    (λ t.
+    let e : newIndex ((v, i) ∷ ix) u ≡ i = new-hit v u i ix t in
+    let w : eqb u v ≡ true = eq-eqb u v (sym (eqb-true v u t)) in
+    (omega (arith, e), ap (bound ρ i n) e ∙ bound-hit ρ i n i (eqb-same i) ∙ sym (bound-hit σ v n u w)))
+    (λ t.
+    let e : newIndex ((v, i) ∷ ix) u ≡ newIndex ix u = new-miss v u i ix t in
+    let x = a u (λ z. d (sym (free-other v u p t) ∙ z)) in
+    let y : newIndex ix u < i = x .0 in
+    let w : eqb (newIndex ix u) i ≡ false = ne-eqb (newIndex ix u) i (λ z. omega arith) in
+    (omega (arith, e), ap (bound ρ i n) e ∙ bound-miss ρ i n (newIndex ix u) w ∙ x .1 ∙ sym (bound-miss σ v n u (eqb-flip v u t))))
+
+receipt-says : (v : ℕ) (b : Plain) (ix : Indices) (i j : ℕ) → i < j → (x : ℕ) → x ≡ i → (p : Process)
+    → ((n : ℕ) (ρ σ : ℕ → ℕ) → Alike j ((v, i) ∷ ix) ρ σ (process b) → shape n ρ p ≡ shape n σ (process b))
+    → (n : ℕ) (ρ σ : ℕ → ℕ) → Alike i ix ρ σ (piece (Head.receipt v) (process b)) → shape n ρ (writtenPart (Head.receipt x) p) ≡ shape n σ (piece (Head.receipt v) (process b))
+unfolding piece writtenPart shape
+receipt-says v b ix i j l x e p f n ρ σ a =
+    ap (λ (z : ℕ). cell (hear n) (shape (suc n) (bound ρ z n) p) nil) e
+    ∙ ap (λ (z : Shape). cell (hear n) z nil) (f (suc n) (bound ρ i n) (bound σ v n) (receipt-alike v i j n ix ρ σ (process b) l a))
+
+receipt-written : (ix : Indices) (i v : ℕ) (b : Plain) → writePart ix i (Head.receipt v) b ≡ word 3 0 ∷ write ((v, i) ∷ ix) (i + 1) b
+unfolding writePart writeHead writeInside within
+receipt-written ix i v b = refl
+
+receipt-back : (v k : ℕ) (b r : Plain) → AnyBack b → AnyBack r → AnyBack (part k (Head.receipt v) b r)
+unfolding written partFrom
+receipt-back v k b r B R ix s f nest around c i rest ei e l =
+    part-first (Reread ix i (part k h b r) rest) f nest around c (word 3 0) (inner ++ (outer ++ rest)) spelled Receipt receipt-word tt
+    (λ g d dl di x xe.
+    bind-all (Q g) (readBody g (suc nest) (c .index ∷ around) d) _
+    (λ t z. got-all (Q g) _ (λ rr w.
+    let dj : d .index ≡ j = omega (arith, di, ei) in
+    let room : j + length (d .left) ≤ 268435456 = subst (λ (v : List ℕ). j + length v ≤ 268435456) (sym dl) room-inside in
+    let b₁ = B ((v, i) ∷ ix) (small-more v i ix fitting s) g (suc nest) (c .index ∷ around) d j (outer ++ rest) dj dl room t z in
+    let ti : t .1 .index ≡ o = omega (arith, b₁ .behind .index, long) in
+    let tl : o + length (t .1 .left) ≤ 268435456 = subst (λ (v : List ℕ). o + length v ≤ 268435456) (sym (b₁ .behind .left)) room-beside in
+    let r₁ = R ix s g nest around (t .1) o rest ti (b₁ .behind .left) tl rr w in
+    record {
+      behind = record { left = r₁ .behind .left; index = omega (arith, r₁ .behind .index, longer) };
+      says = beside-says k h b r ix i o (omega arith) (writtenPart (Head.receipt (c .index)) (written (t .0))) (written (rr .0))
+          (receipt-says v b ix i j (omega arith) (c .index) ei (written (t .0)) (b₁ .says)) (r₁ .says);
+    })) x xe)
+  where
+    h : PlainHead
+    h = Head.receipt v
+
+    j : ℕ
+    j = i + 1
+
+    inner : List ℕ
+    inner = write ((v, i) ∷ ix) j b
+
+    o : ℕ
+    o = i + length (writePart ix i (Head.receipt v) b)
+
+    outer : List ℕ
+    outer = write ix o r
+
+    Q : ℕ → (Written × Script) × Cursor → Type 0
+    Q g x = (rr : Script × Cursor) → readBody g nest around (x .1) ≡ got rr → Reread ix i (part k (Head.receipt v) b r) rest (part (c .number) (x .0 .0) (x .0 .1) (rr .0), rr .1)
+
+    writes : writePart ix i (Head.receipt v) b ≡ word 3 0 ∷ inner
+    writes = receipt-written ix i v b
+
+    spelled : c .left ≡ word 3 0 ∷ (inner ++ (outer ++ rest))
+    spelled =
+        e ∙ ap (λ (v : List ℕ). v ++ rest) (sym (write-part ix i k (Head.receipt v) b r)) ∙ append-assoc (writePart ix i (Head.receipt v) b) outer rest
+        ∙ ap (λ (v : List ℕ). v ++ (outer ++ rest)) writes
+
+    long : length (writePart ix i (Head.receipt v) b) ≡ suc (length inner)
+    long = ap length writes
+
+    longer : length (write ix i (part k (Head.receipt v) b r)) ≡ length (writePart ix i (Head.receipt v) b) + length outer
+    longer = sym (ap length (write-part ix i k (Head.receipt v) b r)) ∙ length-append (writePart ix i (Head.receipt v) b) outer
+
+    all : length (c .left) ≡ suc (length inner + length (outer ++ rest))
+    all = ap length spelled ∙ ap suc (length-append inner (outer ++ rest))
+
+    fitting : Fitting i
+    fitting = omega (arith, all)
+
+    room-inside : j + length (inner ++ (outer ++ rest)) ≤ 268435456
+    room-inside = omega (arith, all, length-append inner (outer ++ rest))
+
+    room-beside : o + length (outer ++ rest) ≤ 268435456
+    room-beside = omega (arith, all, long)
