@@ -22,7 +22,7 @@ use Rattle.slices.proofs.Tests.{byTest}
 use Rattle.machine.proofs.Everywhere.{Everywhere}
 use Rattle.message_writer.specs.Write.{Indices, newIndex, writeMessage, whole, writeHead, within, writeInside, write, writePart}
 use Rattle.message_writer.proofs.Trees.{write-part}
-use Rattle.calculus.specs.Calculus.{Process, _∣_, ambient, action, input, output, _≅_, prefix, piece, process}
+use Rattle.calculus.specs.Calculus.{Process, 𝟎, _∣_, ambient, action, input, output, _≅_, prefix, piece, process}
 use Rattle.calculus.specs.Written.{writtenPart, written}
 use Rattle.calculus.proofs.Variables.{eqb-same, eqb-flip, free, free-other}
 use Rattle.calculus.proofs.Shapes.{Shape, nil, cell, place, hear, say, _⊕_, chain, chain-append, same-eq}
@@ -363,3 +363,104 @@ receipt-back v k b r B R ix s f nest around c i rest ei e l =
 
     room-beside : o + length (outer ++ rest) ≤ 268435456
     room-beside = omega (arith, all, long)
+
+-- an output
+output-written : (ix : Indices) (i : ℕ) (m : Message) (b : Plain) → writePart ix i (Head.output m) b ≡ word 4 0 ∷ writeMessage ix m
+unfolding writePart writeHead writeInside
+output-written ix i m b = append-nil (word 4 0 ∷ writeMessage ix m)
+
+output-says : (m : Message) (b : Plain) (ix : Indices) (i : ℕ) (x : Message) → x ≡ renamed (newIndex ix) m → (p : Process)
+    → (n : ℕ) (ρ σ : ℕ → ℕ) → Alike i ix ρ σ (piece (Head.output m) (process b)) → shape n ρ (writtenPart (Head.output x) p) ≡ shape n σ (piece (Head.output m) (process b))
+unfolding piece writtenPart shape free
+output-says m b ix i x e p n ρ σ a =
+    ap (λ (z : Message). cell (say (renamed ρ z)) nil nil) e ∙ ap (λ (z : Message). cell (say z) nil nil) (renamed-twice (newIndex ix) ρ σ m (λ v d. a v d .1))
+
+output-back : (m : Message) → MessageAll Fitting m → (k : ℕ) (b r : Plain) → AnyBack r → AnyBack (part k (Head.output m) b r)
+unfolding written partFrom
+output-back m names k b r R ix s f nest around c i rest ei e l =
+    part-first (Reread ix i (part k (Head.output m) b r) rest) f nest around c (word 4 0) (M ++ (outer ++ rest)) spelled Output output-word tt
+    (λ g d dl di x xe.
+    bind-all (Q g) (readMessage g nest around d) _
+    (λ q y. got-all (Q g) _ (λ rr w.
+    let u = message-back ix s m names g nest around d (outer ++ rest) dl q y in
+    let qi : q .1 .index ≡ o = omega (arith, u .1 .index, long) in
+    let ql : o + length (q .1 .left) ≤ 268435456 = subst (λ (v : List ℕ). o + length v ≤ 268435456) (sym (u .1 .left)) room-beside in
+    let r₁ = R ix s g nest around (q .1) o rest qi (u .1 .left) ql rr w in
+    record {
+      behind = record { left = r₁ .behind .left; index = omega (arith, r₁ .behind .index, longer) };
+      says = beside-says k (Head.output m) b r ix i o (omega arith) (writtenPart (Head.output (q .0)) 𝟎) (written (rr .0)) (output-says m b ix i (q .0) (u .0) 𝟎) (r₁ .says);
+    })) x xe)
+  where
+    M : List ℕ
+    M = writeMessage ix m
+
+    o : ℕ
+    o = i + length (writePart ix i (Head.output m) b)
+
+    outer : List ℕ
+    outer = write ix o r
+
+    Q : ℕ → (Written × Script) × Cursor → Type 0
+    Q g x = (rr : Script × Cursor) → readBody g nest around (x .1) ≡ got rr → Reread ix i (part k (Head.output m) b r) rest (part (c .number) (x .0 .0) (x .0 .1) (rr .0), rr .1)
+
+    spelled : c .left ≡ word 4 0 ∷ (M ++ (outer ++ rest))
+    spelled =
+        e ∙ ap (λ (v : List ℕ). v ++ rest) (sym (write-part ix i k (Head.output m) b r)) ∙ append-assoc (writePart ix i (Head.output m) b) outer rest
+        ∙ ap (λ (v : List ℕ). v ++ (outer ++ rest)) (output-written ix i m b)
+
+    long : length (writePart ix i (Head.output m) b) ≡ suc (length M)
+    long = ap length (output-written ix i m b)
+
+    longer : length (write ix i (part k (Head.output m) b r)) ≡ length (writePart ix i (Head.output m) b) + length outer
+    longer = sym (ap length (write-part ix i k (Head.output m) b r)) ∙ length-append (writePart ix i (Head.output m) b) outer
+
+    all : length (c .left) ≡ suc (length M + length (outer ++ rest))
+    all = ap length spelled ∙ ap suc (length-append M (outer ++ rest))
+
+    room-beside : o + length (outer ++ rest) ≤ 268435456
+    room-beside = omega (arith, all, long)
+
+-- an ambient and an action
+ambient-back : (m : Message) → MessageAll Fitting m → (k : ℕ) (b r : Plain) → AnyBack b → AnyBack r → AnyBack (part k (Head.ambient m) b r)
+ambient-back m names = guarded-back Head.ambient (Head.ambient m) m (word 1 0) Ambient ambient-word tt reads writes shaped frees names
+  where
+    reads : (read : Cursor → Reading (Message × Cursor)) (inside : List ℕ → Cursor → Reading (Script × Cursor)) (around : List ℕ) (i : ℕ) (c : Cursor)
+        → partFrom read inside around Ambient i c ≡ guardedFrom Head.ambient read inside around i c
+    reads read inside around i c = unfold partFrom in refl
+
+    writes : (ix : Indices) (i : ℕ) (b : Plain) → writePart ix i (Head.ambient m) b ≡ (word 1 0 ∷ writeMessage ix m) ++ write ix (i + length (word 1 0 ∷ writeMessage ix m)) b
+    writes ix i b = unfold writePart writeHead writeInside within in refl
+
+    shaped : (n : ℕ) (ρ σ τ : ℕ → ℕ) (p q : Process) → ((v : ℕ) → ¬ (mentions v m ≡ 0) → ρ (τ v) ≡ σ v) → shape n ρ p ≡ shape n σ q
+        → shape n ρ (writtenPart (Head.ambient (renamed τ m)) p) ≡ shape n σ (piece (Head.ambient m) q)
+    shaped n ρ σ τ p q a e = unfold shape writtenPart piece in ap₂ (λ (z : Message) (t : Shape). cell (place z) t nil) (renamed-twice τ ρ σ m a) e
+
+    frees : (v : ℕ) (p : Process) → free v (piece (Head.ambient m) p) ≡ mentions v m + free v p
+    frees v p = unfold free piece in refl
+
+action-back : (is : List Message) → ItemsAll Fitting is → (k : ℕ) (b r : Plain) → AnyBack b → AnyBack r → AnyBack (part k (Head.action is) b r)
+action-back is names = guarded-back Head.action (Head.action is) (whole is) (word 2 0) Action action-word tt reads writes shaped frees (whole-all Fitting is names)
+  where
+    reads : (read : Cursor → Reading (Message × Cursor)) (inside : List ℕ → Cursor → Reading (Script × Cursor)) (around : List ℕ) (i : ℕ) (c : Cursor)
+        → partFrom read inside around Action i c ≡ guardedFrom Head.action read inside around i c
+    reads read inside around i c = unfold partFrom in refl
+
+    writes : (ix : Indices) (i : ℕ) (b : Plain) → writePart ix i (Head.action is) b ≡ (word 2 0 ∷ writeMessage ix (whole is)) ++ write ix (i + length (word 2 0 ∷ writeMessage ix (whole is))) b
+    writes ix i b = unfold writePart writeHead writeInside within in refl
+
+    shaped : (n : ℕ) (ρ σ τ : ℕ → ℕ) (p q : Process) → ((v : ℕ) → ¬ (mentions v (whole is) ≡ 0) → ρ (τ v) ≡ σ v) → shape n ρ p ≡ shape n σ q
+        → shape n ρ (writtenPart (Head.action (renamed τ (whole is))) p) ≡ shape n σ (piece (Head.action is) q)
+    shaped n ρ σ τ p q a e =
+        unfold shape writtenPart piece in
+        ap₂ (λ (z : Message) (t : Shape). chain (items z) t) (renamed-twice τ ρ σ (whole is) a) e ∙ whole-shape n σ is q
+
+    frees : (v : ℕ) (p : Process) → free v (piece (Head.action is) p) ≡ mentions v (whole is) + free v p
+    frees v p = unfold piece in whole-free v is p
+
+-- THEOREM: what is read of a body that was written, whatever stands behind it and whatever receipts around it.
+body-back : (K : ℕ → Type 0) (b : Plain) → Fits K Fitting b → AnyBack b
+body-back K close x = close-back
+body-back K (part k (Head.ambient m) b r) x = ambient-back m (x .0 .1) k b r (body-back K b (x .1)) (body-back K r (x .2))
+body-back K (part k (Head.action is) b r) x = action-back is (x .0 .1) k b r (body-back K b (x .1)) (body-back K r (x .2))
+body-back K (part k (Head.receipt v) b r) x = receipt-back v k b r (body-back K b (x .1)) (body-back K r (x .2))
+body-back K (part k (Head.output m) b r) x = output-back m (x .0 .1) k b r (body-back K r (x .2))
