@@ -6,7 +6,7 @@ use mathlib.Core.List.{List, [], _∷_, _++_, append-nil, append-assoc}
 use mathlib.Core.Path.{_≡_, refl, sym, ap, ap₂, _∙_, subst}
 use native.Mathlib.Omega.{arith}
 use lib.Dec.{leb, eqb}
-use lib.ListN.{length, length-append}
+use lib.ListN.{length, length-append, take}
 use borrow.Author.Tests.{eqb-true, eq-eqb, ne-eqb}
 use Rattle.messages.specs.Words.{kind, operand, word}
 use Rattle.messages.specs.Reading.{Cursor, cursor, Reading, got, ask, nextWord, nextPart, isEmpty}
@@ -17,6 +17,7 @@ use Rattle.scripts.specs.Tree.{Head, close, part, PlainHead, Plain}
 use Rattle.scripts.specs.Script.{Written, Script, partWord, fits, guardedFrom, partFrom, orClose, readBody, readScript}
 use Rattle.scripts.specs.declared.PartWord.{PartWord}
 use Rattle.scripts.specs.declared.PartWord.the-variants.{Close, Ambient, Action, Receipt, Output, No}
+use Rattle.scripts.specs.Measures.{greatestName}
 use Rattle.scripts.proofs.Laws.{short}
 use Rattle.slices.proofs.Tests.{byTest}
 use Rattle.machine.proofs.Everywhere.{Everywhere}
@@ -26,8 +27,15 @@ use Rattle.calculus.specs.Calculus.{Process, 𝟎, _∣_, ambient, action, inpu
 use Rattle.calculus.specs.Written.{writtenPart, written}
 use Rattle.calculus.proofs.Variables.{eqb-same, eqb-flip, free, free-other}
 use Rattle.calculus.proofs.Shapes.{Shape, nil, cell, place, hear, say, _⊕_, chain, chain-append, same-eq}
+use Rattle.calculus.proofs.Substitutions.{Closed}
 use Rattle.calculus.proofs.Congruences.{renamed, bound, own, shape, complete, top, top-below}
-use Rattle.decision.proofs.Fits.{MessageAll, ItemsAll, HeadAll, Fits}
+use Rattle.calculus.proofs.Kept.{Good, good-move}
+use Rattle.decision.proofs.Fits.{MessageAll, ItemsAll, Fits, fits-more, move-fits}
+use Rattle.plain_call.specs.Call.{Call, begun}
+use Rattle.plain_call.specs.Standing.{Returns}
+use Rattle.plain_call.proofs.Runs.{run-keeps}
+use Rattle.plain_call.proofs.Door.{script-fits}
+use Rattle.plain_call.proofs.Begun.{script-good}
 use Rattle.plain_call.proofs.Rereading.{same-head, same-rest, Fitting, Back, Small, message-back}
 
 -- ---- shapes
@@ -464,3 +472,45 @@ body-back K (part k (Head.ambient m) b r) x = ambient-back m (x .0 .1) k b r (bo
 body-back K (part k (Head.action is) b r) x = action-back is (x .0 .1) k b r (body-back K b (x .1)) (body-back K r (x .2))
 body-back K (part k (Head.receipt v) b r) x = receipt-back v k b r (body-back K b (x .1)) (body-back K r (x .2))
 body-back K (part k (Head.output m) b r) x = output-back m (x .0 .1) k b r (body-back K r (x .2))
+
+-- THEOREM (the round trip): a tree without free variables that is written, and whose words are read again as a script, is the
+-- process that this script says as it is written, up to structural congruence.
+pub read-back : (K : ℕ → Type 0) (b : Plain) → Fits K Fitting b → Closed (process b) → (p : Script × Cursor) → readScript (write [] 0 b) ≡ got p → written (p .0) ≅ process b
+unfolding readScript newIndex
+read-back K b x o =
+    bind-all P (ask 1 0 (leb 1 (length ws) && leb (length ws) 1024)) _
+    (λ u e₁. bind-all P (readBody (length ws) 0 [] (cursor 0 0 ws)) _
+    (λ q e₂. bind-all P (ask 5 (q .1 .index) (isEmpty (q .1 .left))) _
+    (λ _ _. bind-all P (ask 6 0 (leb (q .1 .number) 64)) _
+    (λ _ _. got-all P q
+    (let few : 0 + length ws ≤ 268435456 = omega (arith, short ws u e₁) in
+    let y = body-back K b x [] (λ v. let z : 0 < 268435456 = omega arith in z) (length ws) 0 [] (cursor 0 0 ws) 0 [] refl (sym (append-nil ws)) few q e₂ in
+    let n : ℕ = top (written (q .0)) + top (process b) in
+    complete n (top-below (written (q .0)) n (omega arith)) (top-below (process b) n (omega arith)) (same-eq (y .says n own own (λ v d. absurd (d (o v))))))))))
+  where
+    ws : List ℕ
+    ws = write [] 0 b
+
+    P : Script × Cursor → Type 0
+    P p = written (p .0) ≅ process b
+
+-- ---- the call
+
+operand-fits : (w : ℕ) → Fitting (operand w)
+unfolding operand
+operand-fits w = omega arith
+
+greatest-fits : (ws : List ℕ) → Fitting (greatestName ws)
+unfolding greatestName
+greatest-fits [] = omega arith
+greatest-fits (w ∷ ws) = byTest (eqb (kind w) 8) (λ t. rw t (omega (arith, operand-fits w, greatest-fits ws))) (λ t. rw t (greatest-fits ws))
+
+-- THEOREM: so of every tree that stands in a call, before the first move and after each.
+pub returns : (c : Call) → Returns c
+unfolding Returns
+returns c p e k m a =
+    let K : ℕ → Type 0 = λ n. n < p .1 .number in
+    let N : ℕ → Type 0 = λ n. n ≤ greatestName (c .script) in
+    let good = run-keeps (λ l. Good (p .1 .number) (l .tree)) (λ x y l s g d. good-move (p .1 .number) (l .tree) x y s g d) (p .1 .number) 0 (take k (c .moves)) (begun (p .0)) m (script-good (c .script) p e) a in
+    let named = run-keeps (λ l. Fits K N (l .tree)) (λ x y l s g d. move-fits K N x y (l .tree) s d g .2) (p .1 .number) 0 (take k (c .moves)) (begun (p .0)) m (script-fits (c .script) p e) a in
+    read-back K (m .tree) (fits-more K K N Fitting (λ n h. h) (λ n h. omega (arith, greatest-fits (c .script))) (m .tree) named) (good .unbound)

@@ -17,6 +17,7 @@ use Rattle.calculus.specs.Satisfaction.{Sat}
 use Rattle.calculus.specs.Calculus.{Process, _≅_, Satisfies, process}
 use Rattle.calculus.specs.Written.{written, Steps}
 use Rattle.plain_call.specs.Call.{Call, Verdict, accepted, refused, moved, run, begun}
+use Rattle.plain_call.specs.Call as call
 
 -- what stands when the walk begins
 pub record Standing (c : Call) : Type 0 where
@@ -62,6 +63,13 @@ Reduces c (accepted true) k = (s : Standing c) × (x : Reduced c (s .script) k (
 Reduces c (accepted false) k = (s : Standing c) × (x : Reduced c (s .script) k (s .machine)) × (k ≡ length (c .moves)) × ¬ Satisfies [] (x .last) (s .rule .0)
 Reduces c (refused q i) k = (p : Script × Cursor) → readScript (c .script) ≡ got p → (m : Machine) × Reduced c p k m
 
+-- "The tree is written in the script's form": the words of a tree that stands before the first move or after any, read again,
+-- where questions 1 to 6 let them in, are a script that says, as it is written, the process of that tree up to structural
+-- congruence
+unfoldable pub Returns : Call → Type 0
+Returns c = (p : Script × Cursor) → readScript (c .script) ≡ got p → (k : ℕ) (m : Machine) → After c p k m
+    → (q : Script × Cursor) → readScript (call.written m) ≡ got q → written (q .0) ≅ process (m .tree)
+
 -- "parts in the tree plus twice the receipts made are at most the script's parts", before the first move and after each
 unfoldable pub WeightHolds : Call → Type 0
 WeightHolds c = (p : Script × Cursor) → readScript (c .script) ≡ got p → (k : ℕ) (m : Machine) → After c p k m → weightOf m ≤ parts (p .0)
@@ -77,5 +85,5 @@ MovesBounded ws n = (p : Script × Cursor) → readScript ws ≡ got p → n ≤
 
 -- To unfold this is to unfold every definition of this module: for a proof by computation.
 unfoldable pub computing : Unit {0}
-unfolding Decides Reduces WeightHolds MovesBounded
+unfolding Decides Reduces Returns WeightHolds MovesBounded
 computing = tt
