@@ -1,7 +1,6 @@
 -- The process of the plain machine's first tree is congruent to the script's as it is written; and what is known of counted
 -- reductions. Assumes nothing.
-use Prim.Native.Nat.{ℕ, suc, _+_}
-use mathlib.Core.Path.{_≡_, refl}
+use Prim.Native.Nat.{ℕ, suc}
 use Rattle.messages.specs.Message.{Message}
 use Rattle.scripts.specs.Tree.{Head, close, part, mapHeads}
 use Rattle.scripts.specs.Script.{Script, holdHead, hold, started}

@@ -1,17 +1,17 @@
 -- A rule that question 9 lets through mentions only SOMEs around it, and so a name that AT or PLACED looks up is always one
 -- that was chosen: `lookup` never comes to its end. Assumes nothing.
 use Prim.Native.Nat.{ℕ}
-use mathlib.Core.Bool.{Bool, true, false, _||_, false≢true}
-use mathlib.Core.List.{List, [], _∷_, map, List·Memᴰ, List·Memᴰ·head, List·Memᴰ·tail}
-use mathlib.Core.Path.{_≡_, refl, sym, ap, subst}
+use mathlib.Core.Bool.{true, false, false≢true}
+use mathlib.Core.List.{List, [], _∷_, map, List·Memᴰ·head, List·Memᴰ·tail}
+use mathlib.Core.Path.{_≡_, refl, sym, ap}
 use lib.Dec.{eqb}
-use borrow.Author.Tests.{eqb-true, eq-eqb, eqb-false, ne-eqb}
+use borrow.Author.Tests.{eqb-true, eqb-false, ne-eqb}
 use Rattle.messages.specs.Words.{member, operand}
 use Rattle.messages.specs.Reading.{Cursor, got}
 use Rattle.slices.proofs.Tests.{byTest}
 use Rattle.rules.specs.Rule.{Term, constant, chosen, Names, lookup, Rule, always, negation, either, void, at, beside, some-name, sometime, somewhere, placed}
 use Rattle.rules.specs.ReadRule.{termOf, termBound, readWholeRule}
-use Rattle.rules.proofs.Cases.{Operand, Cases, whole-rule-case}
+use Rattle.rules.proofs.Cases.{Cases, whole-rule-case}
 use Rattle.decision.specs.Closed.{TermClosed, RuleClosed, Chosen, TermNamed, RuleNamed}
 
 -- ---- question 9

@@ -1,6 +1,6 @@
 -- Every operation on a tree and every move keep its bodies in rising order, and so does what the walk asks about: divisions,
 -- insides, PLACED. The divisions of a body that rises come by rising sum of 2^number over the share's parts. Assumes nothing.
-use Prim.Native.Nat.{ℕ, suc, _+_, _*_, _^_, _≤_, _<_}
+use Prim.Native.Nat.{ℕ, suc, _+_, _^_, _≤_}
 use mathlib.Core.Bool.{Bool, false}
 use mathlib.Core.List.{List, [], _∷_, map, List·Memᴰ}
 use mathlib.Core.Path.{_≡_, refl, sym, subst}

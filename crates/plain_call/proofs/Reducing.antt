@@ -1,6 +1,6 @@
 -- A list of moves is a chain of the paper's reductions, as long as the list, from the script as it is written: for every call,
 -- of the whole list where it is accepted and of what was made of it where it is refused. Assumes nothing.
-use Prim.Native.Nat.{ℕ, zero, suc, _+_, _≤_, min}
+use Prim.Native.Nat.{ℕ, suc, _+_, _≤_}
 use mathlib.Core.Bool.{Bool, true, false, _&&_}
 use mathlib.Core.List.{List, [], _∷_}
 use mathlib.Core.Option.{Option, none, some}
@@ -19,16 +19,16 @@ use Rattle.rules.specs.Rule.{Rule}
 use Rattle.rules.specs.ReadRule.{readWholeRule}
 use Rattle.decision.specs.Walk.{walkFrom}
 use Rattle.decision.specs.PlainWalk.{plainSpace}
-use Rattle.calculus.specs.Calculus.{Process, _≅_, Refl, Symm, Satisfies, process}
-use Rattle.calculus.specs.Written.{Steps, stop, Leads}
+use Rattle.calculus.specs.Calculus.{Refl, Symm, process}
+use Rattle.calculus.specs.Written.{stop, Leads}
 use Rattle.calculus.specs.Written as calculus
 use Rattle.calculus.proofs.Writings.{leads-congruent, leads-step}
 use Rattle.calculus.proofs.Reductions.{move-reduces}
 use Rattle.calculus.proofs.Kept.{Good, good-move}
 use Rattle.calculus.proofs.Agreement.{congruent-satisfies}
 use Rattle.plain_call.specs.Call.{Call, Verdict, accepted, refused, Ran, halted, moved, actor, target, moveFits, afterMove, ifMade, run, begun, refusal, walked, setting, ruleRun, ruleRead, scriptRead, answer}
-use Rattle.plain_call.specs.Standing.{Standing, Holds, After, Reduced, Reduces}
-use Rattle.plain_call.proofs.Runs.{moved-is, run-none, run-step}
+use Rattle.plain_call.specs.Standing.{Standing, After, Reduced, Reduces}
+use Rattle.plain_call.proofs.Runs.{run-none, run-step}
 use Rattle.plain_call.proofs.Begun.{script-written, script-good}
 use Rattle.plain_call.proofs.ClosureRuns.{walked-moves}
 use Rattle.plain_call.proofs.Answers.{refused≢accepted}

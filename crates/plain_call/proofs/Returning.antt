@@ -1,7 +1,7 @@
 -- What is read of the words of a tree that was written: a script whose process has the shape of the tree's. So the round trip:
 -- a tree that is written and read again stands for the same process. Assumes nothing.
 use Prim.Native.Nat.{ℕ, zero, suc, _+_, _≤_, _<_}
-use mathlib.Core.Bool.{Bool, true, false, cond, _&&_}
+use mathlib.Core.Bool.{true, false, _&&_}
 use mathlib.Core.List.{List, [], _∷_, _++_, append-nil, append-assoc}
 use mathlib.Core.Path.{_≡_, refl, sym, ap, ap₂, _∙_, subst}
 use native.Mathlib.Omega.{arith}
@@ -12,7 +12,7 @@ use Rattle.messages.specs.Words.{kind, operand, word}
 use Rattle.messages.specs.Reading.{Cursor, cursor, Reading, got, ask, nextWord, nextPart, isEmpty}
 use Rattle.messages.specs.Message.{Message, name, variable, enter, exit, opens, empty, path, items, mentions}
 use Rattle.messages.specs.ReadMessage.{readMessage}
-use Rattle.messages.proofs.Readings.{refuse≢got, bind-all, got-all, Next, next}
+use Rattle.messages.proofs.Readings.{refuse≢got, bind-all, got-all, next}
 use Rattle.scripts.specs.Tree.{Head, close, part, PlainHead, Plain}
 use Rattle.scripts.specs.Script.{Written, Script, partWord, fits, guardedFrom, partFrom, orClose, readBody, readScript}
 use Rattle.scripts.specs.declared.PartWord.{PartWord}
@@ -20,10 +20,9 @@ use Rattle.scripts.specs.declared.PartWord.the-variants.{Close, Ambient, Action
 use Rattle.scripts.specs.Measures.{greatestName}
 use Rattle.scripts.proofs.Laws.{short}
 use Rattle.slices.proofs.Tests.{byTest}
-use Rattle.machine.proofs.Everywhere.{Everywhere}
 use Rattle.message_writer.specs.Write.{Indices, newIndex, writeMessage, whole, writeHead, within, writeInside, write, writePart}
 use Rattle.message_writer.proofs.Trees.{write-part}
-use Rattle.calculus.specs.Calculus.{Process, 𝟎, _∣_, ambient, action, input, output, _≅_, prefix, piece, process}
+use Rattle.calculus.specs.Calculus.{Process, 𝟎, _∣_, input, _≅_, prefix, piece, process}
 use Rattle.calculus.specs.Written.{writtenPart, written}
 use Rattle.calculus.proofs.Variables.{eqb-same, eqb-flip, free, free-other}
 use Rattle.calculus.proofs.Shapes.{Shape, nil, cell, place, hear, say, _⊕_, chain, chain-append, same-eq}
