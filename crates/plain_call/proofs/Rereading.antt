@@ -29,31 +29,31 @@ word-told k n l = (omega arith, omega arith)
 abbrev pub Fitting : ℕ → Type 0
 Fitting n = n < 268435456
 
-name-word : (n : ℕ) → Fitting n → messageWord (word 8 n) ≡ cond (nameFits n) (Name n) Unfit
+pub name-word : (n : ℕ) → Fitting n → messageWord (word 8 n) ≡ cond (nameFits n) (Name n) Unfit
 unfolding messageWord
 name-word n l = let e = word-told 8 n l in rw (e .0, e .1) refl
 
-variable-word : (v : ℕ) → Fitting v → messageWord (word 9 v) ≡ Variable v
+pub variable-word : (v : ℕ) → Fitting v → messageWord (word 9 v) ≡ Variable v
 unfolding messageWord
 variable-word v l = let e = word-told 9 v l in rw (e .0, e .1) refl
 
-enter-word : messageWord (word 10 0) ≡ Enter
+pub enter-word : messageWord (word 10 0) ≡ Enter
 unfolding messageWord kind operand word
 enter-word = refl
 
-exit-word : messageWord (word 11 0) ≡ Exit
+pub exit-word : messageWord (word 11 0) ≡ Exit
 unfolding messageWord kind operand word
 exit-word = refl
 
-open-word : messageWord (word 12 0) ≡ Open
+pub open-word : messageWord (word 12 0) ≡ Open
 unfolding messageWord kind operand word
 open-word = refl
 
-empty-word : messageWord (word 13 0) ≡ Empty
+pub empty-word : messageWord (word 13 0) ≡ Empty
 unfolding messageWord kind operand word
 empty-word = refl
 
-path-word : messageWord (word 14 0) ≡ Path
+pub path-word : messageWord (word 14 0) ≡ Path
 unfolding messageWord kind operand word
 path-word = refl
 

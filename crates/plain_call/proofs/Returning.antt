@@ -13,7 +13,7 @@ use Rattle.messages.specs.Reading.{Cursor, cursor, Reading, got, ask, nextWord,
 use Rattle.messages.specs.Message.{Message, name, variable, enter, exit, opens, empty, path, items, mentions}
 use Rattle.messages.specs.ReadMessage.{readMessage}
 use Rattle.messages.proofs.Readings.{refuse≢got, bind-all, got-all, next}
-use Rattle.scripts.specs.Tree.{Head, close, part, PlainHead, Plain}
+use Rattle.scripts.specs.Tree.{Head, close, part, sum, parts, PlainHead, Plain}
 use Rattle.scripts.specs.Script.{Written, Script, partWord, fits, guardedFrom, partFrom, orClose, readBody, readScript}
 use Rattle.scripts.specs.declared.PartWord.{PartWord}
 use Rattle.scripts.specs.declared.PartWord.the-variants.{Close, Ambient, Action, Receipt, Output, No}
@@ -58,13 +58,13 @@ whole-shape n σ (i ∷ []) p = refl
 whole-shape n σ (i ∷ (j ∷ is)) p =
     chain-append (items (renamed σ i)) (items (renamed σ (whole (j ∷ is)))) (shape n σ p) ∙ ap (chain (items (renamed σ i))) (whole-shape n σ (j ∷ is) p)
 
-whole-free : (v : ℕ) (is : List Message) (p : Process) → free v (prefix is p) ≡ mentions v (whole is) + free v p
+pub whole-free : (v : ℕ) (is : List Message) (p : Process) → free v (prefix is p) ≡ mentions v (whole is) + free v p
 unfolding whole prefix free mentions
 whole-free v [] p = omega arith
 whole-free v (i ∷ []) p = refl
 whole-free v (i ∷ (j ∷ is)) p = omega (arith, whole-free v (j ∷ is) p)
 
-whole-all : (P : ℕ → Type 0) (is : List Message) → ItemsAll P is → MessageAll P (whole is)
+pub whole-all : (P : ℕ → Type 0) (is : List Message) → ItemsAll P is → MessageAll P (whole is)
 unfolding whole
 whole-all P [] x = tt
 whole-all P (i ∷ []) x = x .0
@@ -72,23 +72,23 @@ whole-all P (i ∷ (j ∷ is)) x = (x .0, whole-all P (j ∷ is) (x .1))
 
 -- ---- bodies
 
-close-word : partWord (word 0 0) ≡ Close
+pub close-word : partWord (word 0 0) ≡ Close
 unfolding partWord kind operand word
 close-word = refl
 
-ambient-word : partWord (word 1 0) ≡ Ambient
+pub ambient-word : partWord (word 1 0) ≡ Ambient
 unfolding partWord kind operand word
 ambient-word = refl
 
-action-word : partWord (word 2 0) ≡ Action
+pub action-word : partWord (word 2 0) ≡ Action
 unfolding partWord kind operand word
 action-word = refl
 
-receipt-word : partWord (word 3 0) ≡ Receipt
+pub receipt-word : partWord (word 3 0) ≡ Receipt
 unfolding partWord kind operand word
 receipt-word = refl
 
-output-word : partWord (word 4 0) ≡ Output
+pub output-word : partWord (word 4 0) ≡ Output
 unfolding partWord kind operand word
 output-word = refl
 
@@ -97,7 +97,7 @@ unfolding orClose
 close-all P w c k e h b x = got-all P (close, c) h b (rw e at x)
 
 -- the word of a part
-abbrev IsPart : PartWord → Type 0
+abbrev pub IsPart : PartWord → Type 0
 IsPart Close = ⊥
 IsPart Ambient = Unit {0}
 IsPart Action = Unit {0}
@@ -105,7 +105,7 @@ IsPart Receipt = Unit {0}
 IsPart Output = Unit {0}
 IsPart (No q) = Unit {0}
 
-part-all : (w : PartWord) (c : Cursor) (k : Reading (Script × Cursor)) → IsPart w → orClose w c k ≡ k
+pub part-all : (w : PartWord) (c : Cursor) (k : Reading (Script × Cursor)) → IsPart w → orClose w c k ≡ k
 unfolding orClose
 part-all Close c k h = absurd h
 part-all Ambient c k h = refl
@@ -156,25 +156,26 @@ Alike i ix ρ σ p = (v : ℕ) → ¬ (free v p ≡ 0) → (newIndex ix v < i) �
 alike-less : (i j : ℕ) (ix : Indices) (ρ σ : ℕ → ℕ) (p q : Process) → i ≤ j → ((v : ℕ) → free v q ≡ 0 → free v p ≡ 0) → Alike i ix ρ σ q → Alike j ix ρ σ p
 alike-less i j ix ρ σ p q l f a v d = let x = a v (λ z. d (f v z)) in let y : newIndex ix v < i = x .0 in (omega arith, x .1)
 
--- what is read of a body that was written from the index i on: the words behind it are left, and the process of what is
--- written has the shape of the tree's
-record Reread (ix : Indices) (i : ℕ) (b : Plain) (rest : List ℕ) (p : Script × Cursor) : Type 0 where
-  behind : Back i (length (write ix i b)) rest (p .1)
-  says : (n : ℕ) (ρ σ : ℕ → ℕ) → Alike i ix ρ σ (process b) → shape n ρ (written (p .0)) ≡ shape n σ (process b)
+-- what is read of a body that was written from the index i on: the words behind it are left, there are no more parts, and the
+-- process of what is written has the shape of the tree's
+pub record Reread (ix : Indices) (i : ℕ) (b : Plain) (rest : List ℕ) (p : Script × Cursor) : Type 0 where
+  pub behind : Back i (length (write ix i b)) rest (p .1)
+  pub few : parts (p .0) ≤ parts b
+  pub says : (n : ℕ) (ρ σ : ℕ → ℕ) → Alike i ix ρ σ (process b) → shape n ρ (written (p .0)) ≡ shape n σ (process b)
 
-abbrev BodyBack : Indices → Plain → Type 0
+abbrev pub BodyBack : Indices → Plain → Type 0
 BodyBack ix b = (f nest : ℕ) (around : List ℕ) (c : Cursor) (i : ℕ) (rest : List ℕ) → c .index ≡ i → c .left ≡ write ix i b ++ rest → i + length (c .left) ≤ 268435456
     → (p : Script × Cursor) → readBody f nest around c ≡ got p → Reread ix i b rest p
 
 -- so wherever the receipts around stand
-abbrev AnyBack : Plain → Type 0
+abbrev pub AnyBack : Plain → Type 0
 AnyBack b = (ix : Indices) → Small ix → BodyBack ix b
 
 close-back : AnyBack close
-unfolding write process shape written
+unfolding write process shape written sum
 close-back ix s f nest around c i rest ei e l =
     close-first (Reread ix i close rest) f nest around c rest e
-    (λ d x y. record { behind = record { left = x; index = omega (arith, y, ei) }; says = λ n ρ σ a. refl })
+    (λ d x y. record { behind = record { left = x; index = omega (arith, y, ei) }; few = omega arith; says = λ n ρ σ a. refl })
 
 -- the shape of a part and of the parts beside it
 beside-says : (k : ℕ) (h : PlainHead) (b r : Plain) (ix : Indices) (i o : ℕ) → i ≤ o → (p q : Process)
@@ -203,7 +204,7 @@ module _ (F : Message → Head Message) (h : PlainHead) (m : Message) (wd : ℕ)
       (f n ρ σ (alike-less i j ix ρ σ (process b) (piece h (process b)) l (λ v z. omega (arith, frees v (process b))) a))
 
   guarded-back : (k : ℕ) (b r : Plain) → AnyBack b → AnyBack r → AnyBack (part k h b r)
-  unfolding written
+  unfolding written sum
   guarded-back k b r B R ix s f nest around c i rest ei e l =
       part-first (Reread ix i (part k h b r) rest) f nest around c wd (M ++ (inner ++ (outer ++ rest))) spelled W worded parted
       (λ g d dl di x xe.
@@ -219,6 +220,7 @@ module _ (F : Message → Head Message) (h : PlainHead) (m : Message) (wd : ℕ)
       let r₁ = R ix s g nest around (t .1) o rest ti (b₁ .behind .left) tl rr w in
       record {
         behind = record { left = r₁ .behind .left; index = omega (arith, r₁ .behind .index, longer) };
+        few = omega (arith, b₁ .few, r₁ .few);
         says = beside-says k h b r ix i o (omega arith) (writtenPart (F (q .0)) (written (t .0))) (written (rr .0)) (guarded-says b ix i j (omega arith) (q .0) (u .0) (written (t .0)) (b₁ .says)) (r₁ .says);
       }))) x (sym (reads (readMessage g nest around) (readBody g (suc nest)) around (c .index) d) ∙ xe))
     where
@@ -261,15 +263,15 @@ module _ (F : Message → Head Message) (h : PlainHead) (m : Message) (wd : ℕ)
       room-beside = omega (arith, all, long)
 
 -- a receipt
-new-hit : (v u i : ℕ) (ix : Indices) → eqb v u ≡ true → newIndex ((v, i) ∷ ix) u ≡ i
+pub new-hit : (v u i : ℕ) (ix : Indices) → eqb v u ≡ true → newIndex ((v, i) ∷ ix) u ≡ i
 unfolding newIndex
 new-hit v u i ix t = rw t
 
-new-miss : (v u i : ℕ) (ix : Indices) → eqb v u ≡ false → newIndex ((v, i) ∷ ix) u ≡ newIndex ix u
+pub new-miss : (v u i : ℕ) (ix : Indices) → eqb v u ≡ false → newIndex ((v, i) ∷ ix) u ≡ newIndex ix u
 unfolding newIndex
 new-miss v u i ix t = rw t
 
-small-more : (v i : ℕ) (ix : Indices) → Fitting i → Small ix → Small ((v, i) ∷ ix)
+pub small-more : (v i : ℕ) (ix : Indices) → Fitting i → Small ix → Small ((v, i) ∷ ix)
 small-more v i ix l s u = byTest (eqb v u)
     (λ t. subst Fitting (sym (new-hit v u i ix t)) l)
     (λ t. subst Fitting (sym (new-miss v u i ix t)) (s u))
@@ -304,12 +306,12 @@ receipt-says v b ix i j l x e p f n ρ σ a =
     ap (λ (z : ℕ). cell (hear n) (shape (suc n) (bound ρ z n) p) nil) e
     ∙ ap (λ (z : Shape). cell (hear n) z nil) (f (suc n) (bound ρ i n) (bound σ v n) (receipt-alike v i j n ix ρ σ (process b) l a))
 
-receipt-written : (ix : Indices) (i v : ℕ) (b : Plain) → writePart ix i (Head.receipt v) b ≡ word 3 0 ∷ write ((v, i) ∷ ix) (i + 1) b
+pub receipt-written : (ix : Indices) (i v : ℕ) (b : Plain) → writePart ix i (Head.receipt v) b ≡ word 3 0 ∷ write ((v, i) ∷ ix) (i + 1) b
 unfolding writePart writeHead writeInside within
 receipt-written ix i v b = refl
 
 receipt-back : (v k : ℕ) (b r : Plain) → AnyBack b → AnyBack r → AnyBack (part k (Head.receipt v) b r)
-unfolding written partFrom
+unfolding written partFrom sum
 receipt-back v k b r B R ix s f nest around c i rest ei e l =
     part-first (Reread ix i (part k h b r) rest) f nest around c (word 3 0) (inner ++ (outer ++ rest)) spelled Receipt receipt-word tt
     (λ g d dl di x xe.
@@ -323,6 +325,7 @@ receipt-back v k b r B R ix s f nest around c i rest ei e l =
     let r₁ = R ix s g nest around (t .1) o rest ti (b₁ .behind .left) tl rr w in
     record {
       behind = record { left = r₁ .behind .left; index = omega (arith, r₁ .behind .index, longer) };
+      few = omega (arith, b₁ .few, r₁ .few);
       says = beside-says k h b r ix i o (omega arith) (writtenPart (Head.receipt (c .index)) (written (t .0))) (written (rr .0))
           (receipt-says v b ix i j (omega arith) (c .index) ei (written (t .0)) (b₁ .says)) (r₁ .says);
     })) x xe)
@@ -372,7 +375,7 @@ receipt-back v k b r B R ix s f nest around c i rest ei e l =
     room-beside = omega (arith, all, long)
 
 -- an output
-output-written : (ix : Indices) (i : ℕ) (m : Message) (b : Plain) → writePart ix i (Head.output m) b ≡ word 4 0 ∷ writeMessage ix m
+pub output-written : (ix : Indices) (i : ℕ) (m : Message) (b : Plain) → writePart ix i (Head.output m) b ≡ word 4 0 ∷ writeMessage ix m
 unfolding writePart writeHead writeInside
 output-written ix i m b = append-nil (word 4 0 ∷ writeMessage ix m)
 
@@ -383,7 +386,7 @@ output-says m b ix i x e p n ρ σ a =
     ap (λ (z : Message). cell (say (renamed ρ z)) nil nil) e ∙ ap (λ (z : Message). cell (say z) nil nil) (renamed-twice (newIndex ix) ρ σ m (λ v d. a v d .1))
 
 output-back : (m : Message) → MessageAll Fitting m → (k : ℕ) (b r : Plain) → AnyBack r → AnyBack (part k (Head.output m) b r)
-unfolding written partFrom
+unfolding written partFrom sum
 output-back m names k b r R ix s f nest around c i rest ei e l =
     part-first (Reread ix i (part k (Head.output m) b r) rest) f nest around c (word 4 0) (M ++ (outer ++ rest)) spelled Output output-word tt
     (λ g d dl di x xe.
@@ -395,6 +398,7 @@ output-back m names k b r R ix s f nest around c i rest ei e l =
     let r₁ = R ix s g nest around (q .1) o rest qi (u .1 .left) ql rr w in
     record {
       behind = record { left = r₁ .behind .left; index = omega (arith, r₁ .behind .index, longer) };
+      few = omega (arith, r₁ .few);
       says = beside-says k (Head.output m) b r ix i o (omega arith) (writtenPart (Head.output (q .0)) 𝟎) (written (rr .0)) (output-says m b ix i (q .0) (u .0) 𝟎) (r₁ .says);
     })) x xe)
   where
@@ -465,7 +469,7 @@ action-back is names = guarded-back Head.action (Head.action is) (whole is) (wor
     frees v p = unfold piece in whole-free v is p
 
 -- THEOREM: what is read of a body that was written, whatever stands behind it and whatever receipts around it.
-body-back : (K : ℕ → Type 0) (b : Plain) → Fits K Fitting b → AnyBack b
+pub body-back : (K : ℕ → Type 0) (b : Plain) → Fits K Fitting b → AnyBack b
 body-back K close x = close-back
 body-back K (part k (Head.ambient m) b r) x = ambient-back m (x .0 .1) k b r (body-back K b (x .1)) (body-back K r (x .2))
 body-back K (part k (Head.action is) b r) x = action-back is (x .0 .1) k b r (body-back K b (x .1)) (body-back K r (x .2))
