@@ -12,3 +12,4 @@ pub mod Reducing
 pub mod Risen
 pub mod Rereading
 pub mod Returning
+pub mod Readmitting

@@ -1,0 +1,202 @@
+-- Of the words of a tree that stands, no question but 1 (too many words) and 4 (nested too deep) is answered by no: the names
+-- fit, each VAR names a REC around it, the body ends at the last word, and there are no more parts than the script has.
+-- Assumes nothing.
+use Prim.Native.Nat.{ℕ, zero, suc, _+_, _≤_, _<_}
+use mathlib.Core.Bool.{Bool, true, false, _&&_, _||_, cond, false≢true}
+use mathlib.Core.List.{List, [], _∷_, _++_, append-nil, append-assoc}
+use mathlib.Core.Path.{_≡_, refl, sym, ap, _∙_, subst}
+use mathlib.Core.Logic.{_⊎_, inl, inr}
+use native.Mathlib.Omega.{arith}
+use lib.Dec.{leb, eqb}
+use lib.ListN.{length, length-append, take}
+use borrow.Author.Tests.{leb-true}
+use Rattle.messages.specs.Words.{kind, operand, word, nameFits, member}
+use Rattle.messages.specs.Reading.{Cursor, cursor, Reading, refuse, got, _>>=_, ask, split, nextWord, nextPart, isEmpty}
+use Rattle.messages.specs.Message.{Message, name, variable, enter, exit, opens, empty, path, mentions}
+use Rattle.messages.specs.ReadMessage.{ifZero, messageKind, messageWord, fits, bound, messageFrom, readMessage}
+use Rattle.messages.specs.declared.MessageWord.{MessageWord}
+use Rattle.messages.specs.declared.MessageWord.the-variants.{Name, Variable, Enter, Exit, Open, Empty, Path, Unfit}
+use Rattle.messages.proofs.Readings.{refuse≢got, Next, next}
+use Rattle.messages.proofs.Cases as message
+use Rattle.scripts.specs.Tree.{Head, ambient, action, receipt, output, bare, settle}
+use Rattle.scripts.specs.Script.{Written, Script, readScript, holdHead, hold, started}
+use Rattle.scripts.proofs.Cases as body
+use Rattle.slices.proofs.Tests.{byTest}
+use Rattle.machine.proofs.Everywhere.{Everywhere, map-everywhere, settle-everywhere}
+use Rattle.message_writer.specs.Write.{Indices, newIndex, writeMessage}
+use Rattle.calculus.proofs.Variables.{eqb-same}
+use Rattle.decision.proofs.Fits.{MessageAll, ItemsAll, Fit, Fits}
+use Rattle.plain_call.proofs.Door.{WrittenAll, Inked, held-all}
+use Rattle.plain_call.proofs.Rereading.{same-head, same-rest, Fitting, Small, name-word, variable-word, enter-word, exit-word, open-word, empty-word, path-word, message-back}
+
+-- ---- the names
+
+-- "8 NAME, operand 1 to 255"
+abbrev Sound : ℕ → Type 0
+Sound n = nameFits n ≡ true
+
+sound-fits : (n : ℕ) → Sound n → Fitting n
+unfolding nameFits
+sound-fits n h = byTest (leb n 255) (λ t. omega (arith, leb-true n 255 t)) (λ t. byTest (leb 1 n) (λ u. absurd (false≢true (rw (u, t) at h))) (λ u. absurd (false≢true (rw u at h))))
+
+abbrev SoundWord : MessageWord → Type 0
+SoundWord (Name n) = Sound n
+SoundWord (Variable v) = Unit {0}
+SoundWord Enter = Unit {0}
+SoundWord Exit = Unit {0}
+SoundWord Open = Unit {0}
+SoundWord Empty = Unit {0}
+SoundWord Path = Unit {0}
+SoundWord Unfit = Unit {0}
+
+zero-sound : (o : ℕ) (w : MessageWord) → SoundWord w → SoundWord (ifZero o w)
+zero-sound o w x = byTest (eqb o 0) (λ t. rw t x) (λ t. rw t tt)
+
+kind-sound : (k o : ℕ) → SoundWord (messageKind k o)
+kind-sound k o =
+    byTest (eqb k 8) (λ t. rw t (byTest (nameFits o) (λ u. rw u u) (λ u. rw u tt)))
+    (λ t₈. rw t₈ (byTest (eqb k 9) (λ t. rw t tt)
+    (λ t₉. rw t₉ (byTest (eqb k 10) (λ t. rw t (zero-sound o Enter tt))
+    (λ t₁. rw t₁ (byTest (eqb k 11) (λ t. rw t (zero-sound o Exit tt))
+    (λ t₂. rw t₂ (byTest (eqb k 12) (λ t. rw t (zero-sound o Open tt))
+    (λ t₃. rw t₃ (byTest (eqb k 13) (λ t. rw t (zero-sound o Empty tt))
+    (λ t₄. rw t₄ (byTest (eqb k 14) (λ t. rw t (zero-sound o Path tt)) (λ t₅. rw t₅ tt)))))))))))))
+
+word-sound : (w n : ℕ) → messageWord w ≡ Name n → Sound n
+unfolding messageWord
+word-sound w n e = subst SoundWord e (kind-sound (kind w) (operand w))
+
+abbrev SoundMessage : List ℕ → Cursor → Message × Cursor → Type 0
+SoundMessage around c p = MessageAll Sound (p .0)
+
+message-sound : message.Cases SoundMessage
+message-sound = record {
+  names = λ around c q n x e. word-sound (q .0) n e;
+  variables = λ around c q v x e. tt;
+  wraps = λ around c q p x h. (h, h, h);
+  empties = λ around c q x. tt;
+  paths = λ around c q p r x h g. (h, g);
+}
+
+-- every number will do
+abbrev Any : ℕ → Type 0
+Any k = Unit {0}
+
+abbrev SoundBody : List ℕ → Cursor → Script × Cursor → Type 0
+SoundBody around c p = Everywhere (Inked Any Sound) (p .0)
+
+body-sound : body.Cases SoundMessage SoundBody
+body-sound = record {
+  messages = message.message-case SoundMessage message-sound;
+  closed = λ around c q x. tt;
+  ambients = λ around c q m b r x h g f. ((tt, h), g, f);
+  actions = λ around c q m b r x h g f. ((tt, h), g, f);
+  receipts = λ around c q b r x g f. ((tt, tt), g, f);
+  outputs = λ around c q m r x h f. ((tt, h), tt, f);
+}
+
+-- THEOREM: every name in the tree that a script begins with is 1 to 255.
+pub script-sound : (ws : List ℕ) (p : Script × Cursor) → readScript ws ≡ got p → Fits Any Sound (started (p .0))
+unfolding started hold settle
+script-sound ws p e =
+    settle-everywhere (Fit Any Sound) bare (hold (p .0))
+    (map-everywhere (Inked Any Sound) (Fit Any Sound) (λ (w : Written). holdHead (w .head)) (λ k w x. (tt, held-all Sound (w .head) (x .1))) (p .0)
+    (body.script-case SoundMessage SoundBody body-sound ws p e))
+
+-- ---- refusals
+
+abbrev questionOf : {A : Type 0} → Reading A → ℕ
+questionOf (refuse q i) = q
+questionOf (got a) = 0
+
+-- a reading that is refused is refused by its first part, or by what follows
+refused-all : {A B : Type 0} (P : ℕ → Type 0) (x : Reading A) (k : A → Reading B) → ((q j : ℕ) → x ≡ refuse q j → P q) → ((a : A) → x ≡ got a → (q j : ℕ) → k a ≡ refuse q j → P q)
+    → (q j : ℕ) → (x >>= k) ≡ refuse q j → P q
+unfolding _>>=_
+refused-all P (refuse r i) k f g q j e = subst P (ap questionOf e) (f r i refl)
+refused-all P (got a) k f g q j e = g a refl q j e
+
+got≢refuse : {A : Type 0} (P : ℕ → Type 0) (a : A) (q j : ℕ) → _≡_ {A = Reading A} (got a) (refuse q j) → P q
+got≢refuse P a q j e = refuse≢got (sym e)
+
+ask-passes : (P : ℕ → Type 0) (n i : ℕ) (t : Bool) → t ≡ true → (q j : ℕ) → ask n i t ≡ refuse q j → P q
+unfolding ask
+ask-passes P n i t e q j x = got≢refuse P tt q j (rw e at x)
+
+ask-stops : (n i : ℕ) (t : Bool) (q j : ℕ) → ask n i t ≡ refuse q j → q ≡ n
+unfolding ask
+ask-stops n i true q j x = refuse≢got (sym x)
+ask-stops n i false q j x = sym (ap questionOf x)
+
+abbrev Four : ℕ → Type 0
+Four q = q ≡ 4
+
+word-there : (P : ℕ → Type 0) (n : ℕ) (c : Cursor) (w : ℕ) (ws : List ℕ) → c .left ≡ w ∷ ws → (q j : ℕ) → nextWord n c ≡ refuse q j → P q
+unfolding split
+word-there P n c w ws e q j x = got≢refuse P (w, cursor (suc (c .index)) (c .number) ws) q j (rw e at x)
+
+-- ---- messages
+
+-- a message whose first word is known to fit and to be bound
+message-first : (f nest : ℕ) (around : List ℕ) (c : Cursor) (w : ℕ) (ws : List ℕ) → c .left ≡ w ∷ ws → length (c .left) ≤ f → fits (messageWord w) ≡ true → bound around (messageWord w) ≡ true
+    → ((g : ℕ) (d : Cursor) → d .left ≡ ws → length (d .left) ≤ g → (q j : ℕ) → messageFrom (readMessage g (suc nest) around) (messageWord w) d ≡ refuse q j → Four q)
+    → (q j : ℕ) → readMessage f nest around c ≡ refuse q j → Four q
+unfolding readMessage
+message-first zero nest around c w ws e l t u h = λ q j x. absurd (let z : ⊥ = omega (arith, ap length e) in z)
+message-first (suc f) nest around c w ws e l t u h =
+    refused-all Four (nextWord 5 c) _ (word-there Four 5 c w ws e)
+    (λ a x.
+    let n = next 5 c a x in
+    let z : w ∷ ws ≡ a .0 ∷ a .1 .left = sym e ∙ n .words in
+    let v : w ≡ a .0 = same-head z in
+    let s : length (a .1 .left) ≤ f = omega (arith, ap length (n .words)) in
+    refused-all Four (ask 2 (c .index) (fits (messageWord (a .0)))) _ (ask-passes Four 2 (c .index) _ (subst (λ (o : ℕ). fits (messageWord o) ≡ true) v t))
+    (λ _ _. refused-all Four (ask 3 (c .index) (bound around (messageWord (a .0)))) _ (ask-passes Four 3 (c .index) _ (subst (λ (o : ℕ). bound around (messageWord o) ≡ true) v u))
+    (λ _ _. refused-all Four (ask 4 (c .index) (leb nest 64)) _ (ask-stops 4 (c .index) (leb nest 64))
+    (λ _ _ q j y. h f (a .1) (sym (same-rest z)) s q j (subst (λ (o : ℕ). messageFrom (readMessage f (suc nest) around) (messageWord o) (a .1) ≡ refuse q j) (sym v) y)))))
+
+one-refused : (F : Message → Message) (read : Cursor → Reading (Message × Cursor)) (d : Cursor) → ((q j : ℕ) → read d ≡ refuse q j → Four q)
+    → (q j : ℕ) → _≡_ {A = Reading (Message × Cursor)} (read d >>= λ p. got (F (p .0), p .1)) (refuse q j) → Four q
+one-refused F read d h = refused-all Four (read d) _ h (λ a x q j y. got≢refuse Four (F (a .0), a .1) q j y)
+
+sound-message : (m : Message) → MessageAll Sound m → MessageAll Fitting m
+sound-message (name n) x = sound-fits n x
+sound-message (variable v) x = tt
+sound-message (enter m) x = sound-message m x
+sound-message (exit m) x = sound-message m x
+sound-message (opens m) x = sound-message m x
+sound-message empty x = tt
+sound-message (path m k) x = (sound-message m (x .0), sound-message k (x .1))
+
+-- THEOREM: of the words of a message whose variables' receipts stand around, only question 4 is answered by no.
+message-only : (ix : Indices) → Small ix → (around : List ℕ) (m : Message) → MessageAll Sound m → ((v : ℕ) → ¬ (mentions v m ≡ 0) → member (newIndex ix v) around ≡ true)
+    → (f nest : ℕ) (c : Cursor) (rest : List ℕ) → c .left ≡ writeMessage ix m ++ rest → length (c .left) ≤ f → (q j : ℕ) → readMessage f nest around c ≡ refuse q j → Four q
+unfolding writeMessage messageFrom fits bound mentions
+message-only ix s around (name n) a b f nest c rest e l =
+    let z : messageWord (word 8 n) ≡ Name n = name-word n (sound-fits n a) ∙ rw a in
+    message-first f nest around c (word 8 n) rest e l (rw z refl) (rw z refl) (λ g d dl k q j x. got≢refuse Four (name n, d) q j (rw z at x))
+message-only ix s around (variable v) a b f nest c rest e l =
+    let z : messageWord (word 9 (newIndex ix v)) ≡ Variable (newIndex ix v) = variable-word (newIndex ix v) (s v) in
+    let w : member (newIndex ix v) around ≡ true = b v (λ y. let o : _≡_ {A = ℕ} 1 0 = rw (eqb-same v) at y in absurd (let u : ⊥ = omega arith in u)) in
+    message-first f nest around c (word 9 (newIndex ix v)) rest e l (rw z refl) (rw z w) (λ g d dl k q j x. got≢refuse Four (variable (newIndex ix v), d) q j (rw z at x))
+message-only ix s around (enter m) a b f nest c rest e l =
+    message-first f nest around c (word 10 0) (writeMessage ix m ++ rest) e l (rw enter-word refl) (rw enter-word refl)
+    (λ g d dl k q j x. one-refused enter (readMessage g (suc nest) around) d (message-only ix s around m a b g (suc nest) d rest dl k) q j (rw enter-word at x))
+message-only ix s around (exit m) a b f nest c rest e l =
+    message-first f nest around c (word 11 0) (writeMessage ix m ++ rest) e l (rw exit-word refl) (rw exit-word refl)
+    (λ g d dl k q j x. one-refused exit (readMessage g (suc nest) around) d (message-only ix s around m a b g (suc nest) d rest dl k) q j (rw exit-word at x))
+message-only ix s around (opens m) a b f nest c rest e l =
+    message-first f nest around c (word 12 0) (writeMessage ix m ++ rest) e l (rw open-word refl) (rw open-word refl)
+    (λ g d dl k q j x. one-refused opens (readMessage g (suc nest) around) d (message-only ix s around m a b g (suc nest) d rest dl k) q j (rw open-word at x))
+message-only ix s around empty a b f nest c rest e l =
+    message-first f nest around c (word 13 0) rest e l (rw empty-word refl) (rw empty-word refl) (λ g d dl k q j x. got≢refuse Four (empty, d) q j (rw empty-word at x))
+message-only ix s around (path m n) a b f nest c rest e l =
+    message-first f nest around c (word 14 0) (writeMessage ix m ++ (writeMessage ix n ++ rest))
+    (e ∙ ap (λ (o : List ℕ). word 14 0 ∷ o) (append-assoc (writeMessage ix m) (writeMessage ix n) rest)) l (rw path-word refl) (rw path-word refl)
+    (λ g d dl k q j x.
+    refused-all Four (readMessage g (suc nest) around d) _ (message-only ix s around m (a .0) (λ v o. b v (λ z. o (omega arith))) g (suc nest) d (writeMessage ix n ++ rest) dl k)
+    (λ p y.
+    let u = message-back ix s m (sound-message m (a .0)) g (suc nest) around d (writeMessage ix n ++ rest) dl p y in
+    let w : length (p .1 .left) ≤ g = omega (arith, ap length (u .1 .left), ap length dl, length-append (writeMessage ix m) (writeMessage ix n ++ rest)) in
+    refused-all Four (readMessage g (suc nest) around (p .1)) _ (message-only ix s around n (a .1) (λ v o. b v (λ z. o (omega arith))) g (suc nest) (p .1) rest (u .1 .left) w)
+    (λ r o q₁ j₁ z. got≢refuse Four (path (p .0) (r .0), r .1) q₁ j₁ z)) q j (rw path-word at x))
