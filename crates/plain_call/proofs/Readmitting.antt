@@ -16,18 +16,24 @@ use Rattle.messages.specs.Message.{Message, name, variable, enter, exit, opens,
 use Rattle.messages.specs.ReadMessage.{ifZero, messageKind, messageWord, fits, bound, messageFrom, readMessage}
 use Rattle.messages.specs.declared.MessageWord.{MessageWord}
 use Rattle.messages.specs.declared.MessageWord.the-variants.{Name, Variable, Enter, Exit, Open, Empty, Path, Unfit}
-use Rattle.messages.proofs.Readings.{refuse≢got, Next, next}
+use Rattle.messages.proofs.Readings.{refuse≢got, bind-all, got-all, next}
 use Rattle.messages.proofs.Cases as message
-use Rattle.scripts.specs.Tree.{Head, ambient, action, receipt, output, bare, settle}
-use Rattle.scripts.specs.Script.{Written, Script, readScript, holdHead, hold, started}
+use Rattle.scripts.specs.Tree.{Head, close, part, bare, settle, PlainHead, Plain}
+use Rattle.scripts.specs.Script.{Written, Script, partWord, guardedFrom, partFrom, orClose, readBody, readScript, holdHead, hold, started}
+use Rattle.scripts.specs.Script as script
+use Rattle.scripts.specs.declared.PartWord.{PartWord}
+use Rattle.scripts.specs.declared.PartWord.the-variants.{Close, Ambient, Action, Receipt, Output}
 use Rattle.scripts.proofs.Cases as body
 use Rattle.slices.proofs.Tests.{byTest}
 use Rattle.machine.proofs.Everywhere.{Everywhere, map-everywhere, settle-everywhere}
-use Rattle.message_writer.specs.Write.{Indices, newIndex, writeMessage}
-use Rattle.calculus.proofs.Variables.{eqb-same}
+use Rattle.message_writer.specs.Write.{Indices, newIndex, writeMessage, whole, writeHead, within, writeInside, write, writePart}
+use Rattle.message_writer.proofs.Trees.{write-part}
+use Rattle.calculus.specs.Calculus.{Process, piece, process}
+use Rattle.calculus.proofs.Variables.{eqb-same, free, free-other}
 use Rattle.decision.proofs.Fits.{MessageAll, ItemsAll, Fit, Fits}
 use Rattle.plain_call.proofs.Door.{WrittenAll, Inked, held-all}
 use Rattle.plain_call.proofs.Rereading.{same-head, same-rest, Fitting, Small, name-word, variable-word, enter-word, exit-word, open-word, empty-word, path-word, message-back}
+use Rattle.plain_call.proofs.Returning.{whole-free, whole-all, close-word, ambient-word, action-word, receipt-word, output-word, IsPart, part-all, AnyBack, body-back, new-hit, new-miss, small-more, receipt-written, output-written}
 
 -- ---- the names
 
@@ -200,3 +206,130 @@ message-only ix s around (path m n) a b f nest c rest e l =
     let w : length (p .1 .left) ≤ g = omega (arith, ap length (u .1 .left), ap length dl, length-append (writeMessage ix m) (writeMessage ix n ++ rest)) in
     refused-all Four (readMessage g (suc nest) around (p .1)) _ (message-only ix s around n (a .1) (λ v o. b v (λ z. o (omega arith))) g (suc nest) (p .1) rest (u .1 .left) w)
     (λ r o q₁ j₁ z. got≢refuse Four (path (p .0) (r .0), r .1) q₁ j₁ z)) q j (rw path-word at x))
+
+-- ---- bodies
+
+-- the receipts of the variables that are free in a process stand around
+abbrev Scoped : Indices → (around : List ℕ) → Process → Type 0
+Scoped ix around p = (v : ℕ) → ¬ (free v p ≡ 0) → member (newIndex ix v) around ≡ true
+
+scoped-less : (ix : Indices) (around : List ℕ) (p q : Process) → ((v : ℕ) → free v q ≡ 0 → free v p ≡ 0) → Scoped ix around q → Scoped ix around p
+scoped-less ix around p q f b v d = b v (λ z. d (f v z))
+
+close-refused : (w : PartWord) (c : Cursor) (k : Reading (Script × Cursor)) → w ≡ Close → (q j : ℕ) → orClose w c k ≡ refuse q j → Four q
+unfolding orClose
+close-refused w c k e q j x = got≢refuse Four (close, c) q j (rw e at x)
+
+-- a body whose first word is known to fit
+close-first : (f nest : ℕ) (around : List ℕ) (c : Cursor) (ws : List ℕ) → c .left ≡ word 0 0 ∷ ws → length (c .left) ≤ f → (q j : ℕ) → readBody f nest around c ≡ refuse q j → Four q
+unfolding readBody script.fits
+close-first zero nest around c ws e l = λ q j x. absurd (let z : ⊥ = omega (arith, ap length e) in z)
+close-first (suc f) nest around c ws e l =
+    refused-all Four (nextWord 5 c) _ (word-there Four 5 c (word 0 0) ws e)
+    (λ a x.
+    let n = next 5 c a x in
+    let z : word 0 0 ∷ ws ≡ a .0 ∷ a .1 .left = sym e ∙ n .words in
+    let u : partWord (a .0) ≡ Close = ap partWord (sym (same-head z)) ∙ close-word in
+    refused-all Four (ask 2 (c .index) (script.fits (partWord (a .0)))) _ (ask-passes Four 2 (c .index) _ (ap script.fits u))
+    (λ _ _. refused-all Four (ask 4 (c .index) (leb nest 64)) _ (ask-stops 4 (c .index) (leb nest 64))
+    (λ _ _. close-refused (partWord (a .0)) (a .1) _ u)))
+
+part-first : (f nest : ℕ) (around : List ℕ) (c : Cursor) (w : ℕ) (ws : List ℕ) → c .left ≡ w ∷ ws → length (c .left) ≤ f → (W : PartWord) → partWord w ≡ W → IsPart W → script.fits W ≡ true
+    → ((g : ℕ) (d : Cursor) → d .left ≡ ws → d .index ≡ suc (c .index) → length (d .left) ≤ g
+    → ((q j : ℕ) → partFrom (readMessage g nest around) (readBody g (suc nest)) around W (c .index) d ≡ refuse q j → Four q)
+    × ((x : (Written × Script) × Cursor) → partFrom (readMessage g nest around) (readBody g (suc nest)) around W (c .index) d ≡ got x → (q j : ℕ) → readBody g nest around (x .1) ≡ refuse q j → Four q))
+    → (q j : ℕ) → readBody f nest around c ≡ refuse q j → Four q
+unfolding readBody
+part-first zero nest around c w ws e l W t k fit h = λ q j x. absurd (let z : ⊥ = omega (arith, ap length e) in z)
+part-first (suc f) nest around c w ws e l W t k fit h =
+    refused-all Four (nextWord 5 c) _ (word-there Four 5 c w ws e)
+    (λ a x.
+    let n = next 5 c a x in
+    let z : w ∷ ws ≡ a .0 ∷ a .1 .left = sym e ∙ n .words in
+    let u : partWord (a .0) ≡ W = ap partWord (sym (same-head z)) ∙ t in
+    let s : length (a .1 .left) ≤ f = omega (arith, ap length (n .words)) in
+    let H = h f (nextPart (a .1)) (sym (same-rest z)) (n .index) s in
+    refused-all Four (ask 2 (c .index) (script.fits (partWord (a .0)))) _ (ask-passes Four 2 (c .index) _ (ap script.fits u ∙ fit))
+    (λ _ _. refused-all Four (ask 4 (c .index) (leb nest 64)) _ (ask-stops 4 (c .index) (leb nest 64))
+    (λ _ _ q j y.
+    refused-all Four (partFrom (readMessage f nest around) (readBody f (suc nest)) around (partWord (a .0)) (c .index) (nextPart (a .1))) _
+    (λ q₁ j₁ y₁. H .0 q₁ j₁ (subst (λ (o : PartWord). partFrom (readMessage f nest around) (readBody f (suc nest)) around o (c .index) (nextPart (a .1)) ≡ refuse q₁ j₁) u y₁))
+    (λ v y₁. refused-all Four (readBody f nest around (v .1)) _
+    (H .1 v (subst (λ (o : PartWord). partFrom (readMessage f nest around) (readBody f (suc nest)) around o (c .index) (nextPart (a .1)) ≡ got v) u y₁))
+    (λ r y₂ q₁ j₁ y₃. got≢refuse Four (part (c .number) (v .0 .0) (v .0 .1) (r .0), r .1) q₁ j₁ y₃)) q j
+    (sym (part-all (partWord (a .0)) (a .1) _ (subst IsPart (sym u) k)) ∙ y))))
+
+-- of the words of a body whose variables' receipts stand around, only question 4 is answered by no
+abbrev BodyOnly : Plain → Type 0
+BodyOnly b = (ix : Indices) → Small ix → (around : List ℕ) → Scoped ix around (process b) → (f nest : ℕ) (c : Cursor) (i : ℕ) (rest : List ℕ) → c .index ≡ i → c .left ≡ write ix i b ++ rest
+    → i + length (c .left) ≤ 268435456 → length (c .left) ≤ f → (q j : ℕ) → readBody f nest around c ≡ refuse q j → Four q
+
+close-only : BodyOnly close
+unfolding write
+close-only ix s around b f nest c i rest ei e l m = close-first f nest around c rest e m
+
+-- a part that has a message and a body
+module _ (F : Message → Head Message) (h : PlainHead) (m : Message) (wd : ℕ) (W : PartWord) (worded : partWord wd ≡ W) (parted : IsPart W) (fitted : script.fits W ≡ true)
+    (reads : (read : Cursor → Reading (Message × Cursor)) (inside : List ℕ → Cursor → Reading (Script × Cursor)) (around : List ℕ) (i : ℕ) (c : Cursor)
+    → partFrom read inside around W i c ≡ guardedFrom F read inside around i c)
+    (writes : (ix : Indices) (i : ℕ) (b : Plain) → writePart ix i h b ≡ (wd ∷ writeMessage ix m) ++ write ix (i + length (wd ∷ writeMessage ix m)) b)
+    (frees : (v : ℕ) (p : Process) → free v (piece h p) ≡ mentions v m + free v p) (names : MessageAll Sound m) where
+  guarded-only : (k : ℕ) (b r : Plain) → AnyBack b → BodyOnly b → BodyOnly r → BodyOnly (part k h b r)
+  unfolding process free
+  guarded-only k b r A B R ix s around sc f nest c i rest ei e l n =
+      part-first f nest around c wd (M ++ (inner ++ (outer ++ rest))) spelled n W worded parted fitted
+      (λ g d dl di dn. (
+        (λ q j x. refused-all Four (readMessage g nest around d) _ (message-only ix s around m names (λ v o. sc v (λ z. o (omega (arith, frees v (process b))))) g nest d (inner ++ (outer ++ rest)) dl dn)
+        (λ p y.
+        let u = message-back ix s m (sound-message m names) g nest around d (inner ++ (outer ++ rest)) dl p y in
+        refused-all Four (readBody g (suc nest) around (p .1)) _
+        (B ix s around (λ v o. sc v (λ z. o (omega (arith, frees v (process b))))) g (suc nest) (p .1) j₀ (outer ++ rest) (omega (arith, u .1 .index)) (u .1 .left)
+        (subst (λ (v : List ℕ). j₀ + length v ≤ 268435456) (sym (u .1 .left)) room-inside) (omega (arith, ap length (u .1 .left), ap length dl, length-append M (inner ++ (outer ++ rest)))))
+        (λ t z q₁ j₁ w. got≢refuse Four ((record { index = c .index; head = F (p .0) }, t .0), t .1) q₁ j₁ w)) q j
+        (sym (reads (readMessage g nest around) (readBody g (suc nest)) around (c .index) d) ∙ x)),
+        (λ x xe. bind-all (Q g) (readMessage g nest around d) _
+        (λ p y. bind-all (Q g) (readBody g (suc nest) around (p .1)) _
+        (λ t z. got-all (Q g) _
+        (let u = message-back ix s m (sound-message m names) g nest around d (inner ++ (outer ++ rest)) dl p y in
+        let pl : j₀ + length (p .1 .left) ≤ 268435456 = subst (λ (v : List ℕ). j₀ + length v ≤ 268435456) (sym (u .1 .left)) room-inside in
+        let b₁ = A ix s g (suc nest) around (p .1) j₀ (outer ++ rest) (omega (arith, u .1 .index)) (u .1 .left) pl t z in
+        R ix s around (λ v o. sc v (λ w. o (omega arith))) g nest (t .1) o₀ rest (omega (arith, b₁ .behind .index, long)) (b₁ .behind .left)
+        (subst (λ (v : List ℕ). o₀ + length v ≤ 268435456) (sym (b₁ .behind .left)) room-beside)
+        (omega (arith, ap length (b₁ .behind .left), ap length dl, length-append M (inner ++ (outer ++ rest)), length-append inner (outer ++ rest)))))) x
+        (sym (reads (readMessage g nest around) (readBody g (suc nest)) around (c .index) d) ∙ xe)),
+      ))
+    where
+      M : List ℕ
+      M = writeMessage ix m
+
+      j₀ : ℕ
+      j₀ = i + length (wd ∷ M)
+
+      inner : List ℕ
+      inner = write ix j₀ b
+
+      o₀ : ℕ
+      o₀ = i + length (writePart ix i h b)
+
+      outer : List ℕ
+      outer = write ix o₀ r
+
+      Q : ℕ → (Written × Script) × Cursor → Type 0
+      Q g x = (q j : ℕ) → readBody g nest around (x .1) ≡ refuse q j → Four q
+
+      spelled : c .left ≡ wd ∷ (M ++ (inner ++ (outer ++ rest)))
+      spelled =
+          e ∙ ap (λ (v : List ℕ). v ++ rest) (sym (write-part ix i k h b r)) ∙ append-assoc (writePart ix i h b) outer rest
+          ∙ ap (λ (v : List ℕ). v ++ (outer ++ rest)) (writes ix i b) ∙ append-assoc (wd ∷ M) inner (outer ++ rest)
+
+      long : length (writePart ix i h b) ≡ length (wd ∷ M) + length inner
+      long = ap length (writes ix i b) ∙ length-append (wd ∷ M) inner
+
+      all : length (c .left) ≡ suc (length M + (length inner + length (outer ++ rest)))
+      all = ap length spelled ∙ ap suc (length-append M (inner ++ (outer ++ rest)) ∙ ap (λ (v : ℕ). length M + v) (length-append inner (outer ++ rest)))
+
+      room-inside : j₀ + length (inner ++ (outer ++ rest)) ≤ 268435456
+      room-inside = omega (arith, all, length-append inner (outer ++ rest))
+
+      room-beside : o₀ + length (outer ++ rest) ≤ 268435456
+      room-beside = omega (arith, all, long)
