@@ -28,9 +28,9 @@ use Rattle.slices.proofs.Tests.{byTest}
 use Rattle.machine.proofs.Everywhere.{Everywhere, map-everywhere, settle-everywhere}
 use Rattle.message_writer.specs.Write.{Indices, newIndex, writeMessage, whole, writeHead, within, writeInside, write, writePart}
 use Rattle.message_writer.proofs.Trees.{write-part}
-use Rattle.calculus.specs.Calculus.{Process, piece, process}
+use Rattle.calculus.specs.Calculus.{Process, input, piece, process}
 use Rattle.calculus.proofs.Variables.{eqb-same, free, free-other}
-use Rattle.decision.proofs.Fits.{MessageAll, ItemsAll, Fit, Fits}
+use Rattle.decision.proofs.Fits.{MessageAll, ItemsAll, Fit, Fits, fits-more}
 use Rattle.plain_call.proofs.Door.{WrittenAll, Inked, held-all}
 use Rattle.plain_call.proofs.Rereading.{same-head, same-rest, Fitting, Small, name-word, variable-word, enter-word, exit-word, open-word, empty-word, path-word, message-back}
 use Rattle.plain_call.proofs.Returning.{whole-free, whole-all, close-word, ambient-word, action-word, receipt-word, output-word, IsPart, part-all, AnyBack, body-back, new-hit, new-miss, small-more, receipt-written, output-written}
@@ -333,3 +333,161 @@ module _ (F : Message → Head Message) (h : PlainHead) (m : Message) (wd : ℕ)
 
       room-beside : o₀ + length (outer ++ rest) ≤ 268435456
       room-beside = omega (arith, all, long)
+
+-- a receipt
+or-right : (a b : Bool) → b ≡ true → (a || b) ≡ true
+or-right true b e = refl
+or-right false b e = e
+
+member-own : (i : ℕ) (around : List ℕ) → member i (i ∷ around) ≡ true
+unfolding member
+member-own i around = rw (eqb-same i)
+
+member-more : (v i : ℕ) (around : List ℕ) → member v around ≡ true → member v (i ∷ around) ≡ true
+unfolding member
+member-more v i around e = or-right (eqb v i) (member v around) e
+
+receipt-scoped : (ix : Indices) (around : List ℕ) (v i : ℕ) (p : Process) → Scoped ix around (input v p) → Scoped ((v, i) ∷ ix) (i ∷ around) p
+receipt-scoped ix around v i p sc u d = byTest (eqb v u)
+    (λ t. subst (λ (o : ℕ). member o (i ∷ around) ≡ true) (sym (new-hit v u i ix t)) (member-own i around))
+    (λ t. subst (λ (o : ℕ). member o (i ∷ around) ≡ true) (sym (new-miss v u i ix t)) (member-more (newIndex ix u) i around (sc u (λ z. d (sym (free-other v u p t) ∙ z)))))
+
+receipt-only : (v k : ℕ) (b r : Plain) → AnyBack b → BodyOnly b → BodyOnly r → BodyOnly (part k (Head.receipt v) b r)
+unfolding process piece free partFrom script.fits
+receipt-only v k b r A B R ix s around sc f nest c i rest ei e l n =
+    part-first f nest around c (word 3 0) (inner ++ (outer ++ rest)) spelled n Receipt receipt-word tt refl
+    (λ g d dl di dn.
+    let room : j₀ + length (d .left) ≤ 268435456 = subst (λ (o : List ℕ). j₀ + length o ≤ 268435456) (sym dl) room-inside in
+    let dj : d .index ≡ j₀ = omega (arith, di, ei) in (
+      (λ q j x. refused-all Four (readBody g (suc nest) (c .index ∷ around) d) _
+      (B ((v, i) ∷ ix) (small-more v i ix fitting s) (c .index ∷ around)
+      (subst (λ (o : ℕ). Scoped ((v, i) ∷ ix) (o ∷ around) (process b)) (sym ei) (receipt-scoped ix around v i (process b) (λ u o. sc u (λ z. o (omega arith)))))
+      g (suc nest) d j₀ (outer ++ rest) dj dl room dn)
+      (λ t z q₁ j₁ w. got≢refuse Four ((record { index = c .index; head = Head.receipt (c .index) }, t .0), t .1) q₁ j₁ w) q j x),
+      (λ x xe. bind-all (Q g) (readBody g (suc nest) (c .index ∷ around) d) _
+      (λ t z. got-all (Q g) _
+      (let b₁ = A ((v, i) ∷ ix) (small-more v i ix fitting s) g (suc nest) (c .index ∷ around) d j₀ (outer ++ rest) dj dl room t z in
+      R ix s around (λ u o. sc u (λ w. o (omega arith))) g nest (t .1) o₀ rest (omega (arith, b₁ .behind .index, long)) (b₁ .behind .left)
+      (subst (λ (o : List ℕ). o₀ + length o ≤ 268435456) (sym (b₁ .behind .left)) room-beside)
+      (omega (arith, ap length (b₁ .behind .left), ap length dl, length-append inner (outer ++ rest))))) x xe),
+    ))
+  where
+    j₀ : ℕ
+    j₀ = i + 1
+
+    inner : List ℕ
+    inner = write ((v, i) ∷ ix) j₀ b
+
+    o₀ : ℕ
+    o₀ = i + length (writePart ix i (Head.receipt v) b)
+
+    outer : List ℕ
+    outer = write ix o₀ r
+
+    Q : ℕ → (Written × Script) × Cursor → Type 0
+    Q g x = (q j : ℕ) → readBody g nest around (x .1) ≡ refuse q j → Four q
+
+    spelled : c .left ≡ word 3 0 ∷ (inner ++ (outer ++ rest))
+    spelled =
+        e ∙ ap (λ (o : List ℕ). o ++ rest) (sym (write-part ix i k (Head.receipt v) b r)) ∙ append-assoc (writePart ix i (Head.receipt v) b) outer rest
+        ∙ ap (λ (o : List ℕ). o ++ (outer ++ rest)) (receipt-written ix i v b)
+
+    long : length (writePart ix i (Head.receipt v) b) ≡ suc (length inner)
+    long = ap length (receipt-written ix i v b)
+
+    all : length (c .left) ≡ suc (length inner + length (outer ++ rest))
+    all = ap length spelled ∙ ap suc (length-append inner (outer ++ rest))
+
+    fitting : Fitting i
+    fitting = omega (arith, all)
+
+    room-inside : j₀ + length (inner ++ (outer ++ rest)) ≤ 268435456
+    room-inside = omega (arith, all, length-append inner (outer ++ rest))
+
+    room-beside : o₀ + length (outer ++ rest) ≤ 268435456
+    room-beside = omega (arith, all, long)
+
+-- an output
+output-only : (m : Message) → MessageAll Sound m → (k : ℕ) (b r : Plain) → BodyOnly r → BodyOnly (part k (Head.output m) b r)
+unfolding process piece free partFrom script.fits
+output-only m names k b r R ix s around sc f nest c i rest ei e l n =
+    part-first f nest around c (word 4 0) (M ++ (outer ++ rest)) spelled n Output output-word tt refl
+    (λ g d dl di dn. (
+      (λ q j x. refused-all Four (readMessage g nest around d) _ (message-only ix s around m names (λ v o. sc v (λ z. o (omega arith))) g nest d (outer ++ rest) dl dn)
+      (λ p y q₁ j₁ w. got≢refuse Four ((record { index = c .index; head = Head.output (p .0) }, close), p .1) q₁ j₁ w) q j x),
+      (λ x xe. bind-all (Q g) (readMessage g nest around d) _
+      (λ p y. got-all (Q g) _
+      (let u = message-back ix s m (sound-message m names) g nest around d (outer ++ rest) dl p y in
+      R ix s around (λ v o. sc v (λ w. o (omega arith))) g nest (p .1) o₀ rest (omega (arith, u .1 .index, long)) (u .1 .left)
+      (subst (λ (o : List ℕ). o₀ + length o ≤ 268435456) (sym (u .1 .left)) room-beside)
+      (omega (arith, ap length (u .1 .left), ap length dl, length-append M (outer ++ rest))))) x xe),
+    ))
+  where
+    M : List ℕ
+    M = writeMessage ix m
+
+    o₀ : ℕ
+    o₀ = i + length (writePart ix i (Head.output m) b)
+
+    outer : List ℕ
+    outer = write ix o₀ r
+
+    Q : ℕ → (Written × Script) × Cursor → Type 0
+    Q g x = (q j : ℕ) → readBody g nest around (x .1) ≡ refuse q j → Four q
+
+    spelled : c .left ≡ word 4 0 ∷ (M ++ (outer ++ rest))
+    spelled =
+        e ∙ ap (λ (o : List ℕ). o ++ rest) (sym (write-part ix i k (Head.output m) b r)) ∙ append-assoc (writePart ix i (Head.output m) b) outer rest
+        ∙ ap (λ (o : List ℕ). o ++ (outer ++ rest)) (output-written ix i m b)
+
+    long : length (writePart ix i (Head.output m) b) ≡ suc (length M)
+    long = ap length (output-written ix i m b)
+
+    all : length (c .left) ≡ suc (length M + length (outer ++ rest))
+    all = ap length spelled ∙ ap suc (length-append M (outer ++ rest))
+
+    room-beside : o₀ + length (outer ++ rest) ≤ 268435456
+    room-beside = omega (arith, all, long)
+
+-- an ambient and an action
+ambient-only : (m : Message) → MessageAll Sound m → (k : ℕ) (b r : Plain) → AnyBack b → BodyOnly b → BodyOnly r → BodyOnly (part k (Head.ambient m) b r)
+ambient-only m names = guarded-only Head.ambient (Head.ambient m) m (word 1 0) Ambient ambient-word tt fitted reads writes frees names
+  where
+    fitted : script.fits Ambient ≡ true
+    fitted = unfold script.fits in refl
+
+    reads : (read : Cursor → Reading (Message × Cursor)) (inside : List ℕ → Cursor → Reading (Script × Cursor)) (around : List ℕ) (i : ℕ) (c : Cursor)
+        → partFrom read inside around Ambient i c ≡ guardedFrom Head.ambient read inside around i c
+    reads read inside around i c = unfold partFrom in refl
+
+    writes : (ix : Indices) (i : ℕ) (b : Plain) → writePart ix i (Head.ambient m) b ≡ (word 1 0 ∷ writeMessage ix m) ++ write ix (i + length (word 1 0 ∷ writeMessage ix m)) b
+    writes ix i b = unfold writePart writeHead writeInside within in refl
+
+    frees : (v : ℕ) (p : Process) → free v (piece (Head.ambient m) p) ≡ mentions v m + free v p
+    frees v p = unfold free piece in refl
+
+action-only : (is : List Message) → ItemsAll Sound is → (k : ℕ) (b r : Plain) → AnyBack b → BodyOnly b → BodyOnly r → BodyOnly (part k (Head.action is) b r)
+action-only is names = guarded-only Head.action (Head.action is) (whole is) (word 2 0) Action action-word tt fitted reads writes frees (whole-all Sound is names)
+  where
+    fitted : script.fits Action ≡ true
+    fitted = unfold script.fits in refl
+
+    reads : (read : Cursor → Reading (Message × Cursor)) (inside : List ℕ → Cursor → Reading (Script × Cursor)) (around : List ℕ) (i : ℕ) (c : Cursor)
+        → partFrom read inside around Action i c ≡ guardedFrom Head.action read inside around i c
+    reads read inside around i c = unfold partFrom in refl
+
+    writes : (ix : Indices) (i : ℕ) (b : Plain) → writePart ix i (Head.action is) b ≡ (word 2 0 ∷ writeMessage ix (whole is)) ++ write ix (i + length (word 2 0 ∷ writeMessage ix (whole is))) b
+    writes ix i b = unfold writePart writeHead writeInside within in refl
+
+    frees : (v : ℕ) (p : Process) → free v (piece (Head.action is) p) ≡ mentions v (whole is) + free v p
+    frees v p = unfold piece in whole-free v is p
+
+fitting-all : (b : Plain) → Fits Any Sound b → Fits Any Fitting b
+fitting-all b x = fits-more Any Any Sound Fitting (λ n h. h) sound-fits b x
+
+body-only : (b : Plain) → Fits Any Sound b → BodyOnly b
+body-only close x = close-only
+body-only (part k (Head.ambient m) b r) x = ambient-only m (x .0 .1) k b r (body-back Any b (fitting-all b (x .1))) (body-only b (x .1)) (body-only r (x .2))
+body-only (part k (Head.action is) b r) x = action-only is (x .0 .1) k b r (body-back Any b (fitting-all b (x .1))) (body-only b (x .1)) (body-only r (x .2))
+body-only (part k (Head.receipt v) b r) x = receipt-only v k b r (body-back Any b (fitting-all b (x .1))) (body-only b (x .1)) (body-only r (x .2))
+body-only (part k (Head.output m) b r) x = output-only m (x .0 .1) k b r (body-only r (x .2))
