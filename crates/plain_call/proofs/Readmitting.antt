@@ -1,15 +1,15 @@
 -- Of the words of a tree that stands, no question but 1 (too many words) and 4 (nested too deep) is answered by no: the names
 -- fit, each VAR names a REC around it, the body ends at the last word, and there are no more parts than the script has.
 -- Assumes nothing.
-use Prim.Native.Nat.{ℕ, zero, suc, _+_, _≤_, _<_}
-use mathlib.Core.Bool.{Bool, true, false, _&&_, _||_, cond, false≢true}
+use Prim.Native.Nat.{ℕ, zero, suc, _+_, _*_, _≤_, _<_}
+use mathlib.Core.Bool.{Bool, true, false, _&&_, _||_, false≢true}
 use mathlib.Core.List.{List, [], _∷_, _++_, append-nil, append-assoc}
 use mathlib.Core.Path.{_≡_, refl, sym, ap, _∙_, subst}
 use mathlib.Core.Logic.{_⊎_, inl, inr}
 use native.Mathlib.Omega.{arith}
 use lib.Dec.{leb, eqb}
 use lib.ListN.{length, length-append, take}
-use borrow.Author.Tests.{leb-true}
+use borrow.Author.Tests.{leb-true, le-leb}
 use Rattle.messages.specs.Words.{kind, operand, word, nameFits, member}
 use Rattle.messages.specs.Reading.{Cursor, cursor, Reading, refuse, got, _>>=_, ask, split, nextWord, nextPart, isEmpty}
 use Rattle.messages.specs.Message.{Message, name, variable, enter, exit, opens, empty, path, mentions}
@@ -18,20 +18,29 @@ use Rattle.messages.specs.declared.MessageWord.{MessageWord}
 use Rattle.messages.specs.declared.MessageWord.the-variants.{Name, Variable, Enter, Exit, Open, Empty, Path, Unfit}
 use Rattle.messages.proofs.Readings.{refuse≢got, bind-all, got-all, next}
 use Rattle.messages.proofs.Cases as message
-use Rattle.scripts.specs.Tree.{Head, close, part, bare, settle, PlainHead, Plain}
+use Rattle.scripts.specs.Tree.{Head, close, part, parts, bare, settle, PlainHead, Plain}
 use Rattle.scripts.specs.Script.{Written, Script, partWord, guardedFrom, partFrom, orClose, readBody, readScript, holdHead, hold, started}
 use Rattle.scripts.specs.Script as script
 use Rattle.scripts.specs.declared.PartWord.{PartWord}
 use Rattle.scripts.specs.declared.PartWord.the-variants.{Close, Ambient, Action, Receipt, Output}
 use Rattle.scripts.proofs.Cases as body
+use Rattle.scripts.proofs.Laws.{body-advances, short}
+use Rattle.scripts.proofs.Tabled.{script-tabled}
+use Rattle.machine.specs.PlainMachine.{weightOf}
 use Rattle.slices.proofs.Tests.{byTest}
 use Rattle.machine.proofs.Everywhere.{Everywhere, map-everywhere, settle-everywhere}
 use Rattle.message_writer.specs.Write.{Indices, newIndex, writeMessage, whole, writeHead, within, writeInside, write, writePart}
 use Rattle.message_writer.proofs.Trees.{write-part}
 use Rattle.calculus.specs.Calculus.{Process, input, piece, process}
 use Rattle.calculus.proofs.Variables.{eqb-same, free, free-other}
-use Rattle.decision.proofs.Fits.{MessageAll, ItemsAll, Fit, Fits, fits-more}
-use Rattle.plain_call.proofs.Door.{WrittenAll, Inked, held-all}
+use Rattle.calculus.proofs.Substitutions.{Closed}
+use Rattle.calculus.proofs.Kept.{Good, good-move}
+use Rattle.decision.proofs.Fits.{MessageAll, ItemsAll, Fit, Fits, fits-more, move-fits}
+use Rattle.plain_call.specs.Call.{Call, begun}
+use Rattle.plain_call.specs.Standing.{Readmits}
+use Rattle.plain_call.proofs.Runs.{run-keeps, run-weighed}
+use Rattle.plain_call.proofs.Begun.{script-good}
+use Rattle.plain_call.proofs.Door.{Inked, held-all}
 use Rattle.plain_call.proofs.Rereading.{same-head, same-rest, Fitting, Small, name-word, variable-word, enter-word, exit-word, open-word, empty-word, path-word, message-back}
 use Rattle.plain_call.proofs.Returning.{whole-free, whole-all, close-word, ambient-word, action-word, receipt-word, output-word, IsPart, part-all, AnyBack, body-back, new-hit, new-miss, small-more, receipt-written, output-written}
 
@@ -213,9 +222,6 @@ message-only ix s around (path m n) a b f nest c rest e l =
 abbrev Scoped : Indices → (around : List ℕ) → Process → Type 0
 Scoped ix around p = (v : ℕ) → ¬ (free v p ≡ 0) → member (newIndex ix v) around ≡ true
 
-scoped-less : (ix : Indices) (around : List ℕ) (p q : Process) → ((v : ℕ) → free v q ≡ 0 → free v p ≡ 0) → Scoped ix around q → Scoped ix around p
-scoped-less ix around p q f b v d = b v (λ z. d (f v z))
-
 close-refused : (w : PartWord) (c : Cursor) (k : Reading (Script × Cursor)) → w ≡ Close → (q j : ℕ) → orClose w c k ≡ refuse q j → Four q
 unfolding orClose
 close-refused w c k e q j x = got≢refuse Four (close, c) q j (rw e at x)
@@ -280,23 +286,23 @@ module _ (F : Message → Head Message) (h : PlainHead) (m : Message) (wd : ℕ)
       part-first f nest around c wd (M ++ (inner ++ (outer ++ rest))) spelled n W worded parted fitted
       (λ g d dl di dn. (
         (λ q j x. refused-all Four (readMessage g nest around d) _ (message-only ix s around m names (λ v o. sc v (λ z. o (omega (arith, frees v (process b))))) g nest d (inner ++ (outer ++ rest)) dl dn)
-        (λ p y.
-        let u = message-back ix s m (sound-message m names) g nest around d (inner ++ (outer ++ rest)) dl p y in
-        refused-all Four (readBody g (suc nest) around (p .1)) _
-        (B ix s around (λ v o. sc v (λ z. o (omega (arith, frees v (process b))))) g (suc nest) (p .1) j₀ (outer ++ rest) (omega (arith, u .1 .index)) (u .1 .left)
-        (subst (λ (v : List ℕ). j₀ + length v ≤ 268435456) (sym (u .1 .left)) room-inside) (omega (arith, ap length (u .1 .left), ap length dl, length-append M (inner ++ (outer ++ rest)))))
-        (λ t z q₁ j₁ w. got≢refuse Four ((record { index = c .index; head = F (p .0) }, t .0), t .1) q₁ j₁ w)) q j
-        (sym (reads (readMessage g nest around) (readBody g (suc nest)) around (c .index) d) ∙ x)),
+            (λ p y.
+            let u = message-back ix s m (sound-message m names) g nest around d (inner ++ (outer ++ rest)) dl p y in
+            refused-all Four (readBody g (suc nest) around (p .1)) _
+            (B ix s around (λ v o. sc v (λ z. o (omega (arith, frees v (process b))))) g (suc nest) (p .1) j₀ (outer ++ rest) (omega (arith, u .1 .index)) (u .1 .left)
+            (subst (λ (v : List ℕ). j₀ + length v ≤ 268435456) (sym (u .1 .left)) room-inside) (omega (arith, ap length (u .1 .left), ap length dl, length-append M (inner ++ (outer ++ rest)))))
+            (λ t z q₁ j₁ w. got≢refuse Four ((record { index = c .index; head = F (p .0) }, t .0), t .1) q₁ j₁ w)) q j
+            (sym (reads (readMessage g nest around) (readBody g (suc nest)) around (c .index) d) ∙ x)),
         (λ x xe. bind-all (Q g) (readMessage g nest around d) _
-        (λ p y. bind-all (Q g) (readBody g (suc nest) around (p .1)) _
-        (λ t z. got-all (Q g) _
-        (let u = message-back ix s m (sound-message m names) g nest around d (inner ++ (outer ++ rest)) dl p y in
-        let pl : j₀ + length (p .1 .left) ≤ 268435456 = subst (λ (v : List ℕ). j₀ + length v ≤ 268435456) (sym (u .1 .left)) room-inside in
-        let b₁ = A ix s g (suc nest) around (p .1) j₀ (outer ++ rest) (omega (arith, u .1 .index)) (u .1 .left) pl t z in
-        R ix s around (λ v o. sc v (λ w. o (omega arith))) g nest (t .1) o₀ rest (omega (arith, b₁ .behind .index, long)) (b₁ .behind .left)
-        (subst (λ (v : List ℕ). o₀ + length v ≤ 268435456) (sym (b₁ .behind .left)) room-beside)
-        (omega (arith, ap length (b₁ .behind .left), ap length dl, length-append M (inner ++ (outer ++ rest)), length-append inner (outer ++ rest)))))) x
-        (sym (reads (readMessage g nest around) (readBody g (suc nest)) around (c .index) d) ∙ xe)),
+            (λ p y. bind-all (Q g) (readBody g (suc nest) around (p .1)) _
+            (λ t z. got-all (Q g) _
+            (let u = message-back ix s m (sound-message m names) g nest around d (inner ++ (outer ++ rest)) dl p y in
+            let pl : j₀ + length (p .1 .left) ≤ 268435456 = subst (λ (v : List ℕ). j₀ + length v ≤ 268435456) (sym (u .1 .left)) room-inside in
+            let b₁ = A ix s g (suc nest) around (p .1) j₀ (outer ++ rest) (omega (arith, u .1 .index)) (u .1 .left) pl t z in
+            R ix s around (λ v o. sc v (λ w. o (omega arith))) g nest (t .1) o₀ rest (omega (arith, b₁ .behind .index, long)) (b₁ .behind .left)
+            (subst (λ (v : List ℕ). o₀ + length v ≤ 268435456) (sym (b₁ .behind .left)) room-beside)
+            (omega (arith, ap length (b₁ .behind .left), ap length dl, length-append M (inner ++ (outer ++ rest)), length-append inner (outer ++ rest)))))) x
+            (sym (reads (readMessage g nest around) (readBody g (suc nest)) around (c .index) d) ∙ xe)),
       ))
     where
       M : List ℕ
@@ -360,16 +366,16 @@ receipt-only v k b r A B R ix s around sc f nest c i rest ei e l n =
     let room : j₀ + length (d .left) ≤ 268435456 = subst (λ (o : List ℕ). j₀ + length o ≤ 268435456) (sym dl) room-inside in
     let dj : d .index ≡ j₀ = omega (arith, di, ei) in (
       (λ q j x. refused-all Four (readBody g (suc nest) (c .index ∷ around) d) _
-      (B ((v, i) ∷ ix) (small-more v i ix fitting s) (c .index ∷ around)
-      (subst (λ (o : ℕ). Scoped ((v, i) ∷ ix) (o ∷ around) (process b)) (sym ei) (receipt-scoped ix around v i (process b) (λ u o. sc u (λ z. o (omega arith)))))
-      g (suc nest) d j₀ (outer ++ rest) dj dl room dn)
-      (λ t z q₁ j₁ w. got≢refuse Four ((record { index = c .index; head = Head.receipt (c .index) }, t .0), t .1) q₁ j₁ w) q j x),
+          (B ((v, i) ∷ ix) (small-more v i ix fitting s) (c .index ∷ around)
+          (subst (λ (o : ℕ). Scoped ((v, i) ∷ ix) (o ∷ around) (process b)) (sym ei) (receipt-scoped ix around v i (process b) (λ u o. sc u (λ z. o (omega arith)))))
+          g (suc nest) d j₀ (outer ++ rest) dj dl room dn)
+          (λ t z q₁ j₁ w. got≢refuse Four ((record { index = c .index; head = Head.receipt (c .index) }, t .0), t .1) q₁ j₁ w) q j x),
       (λ x xe. bind-all (Q g) (readBody g (suc nest) (c .index ∷ around) d) _
-      (λ t z. got-all (Q g) _
-      (let b₁ = A ((v, i) ∷ ix) (small-more v i ix fitting s) g (suc nest) (c .index ∷ around) d j₀ (outer ++ rest) dj dl room t z in
-      R ix s around (λ u o. sc u (λ w. o (omega arith))) g nest (t .1) o₀ rest (omega (arith, b₁ .behind .index, long)) (b₁ .behind .left)
-      (subst (λ (o : List ℕ). o₀ + length o ≤ 268435456) (sym (b₁ .behind .left)) room-beside)
-      (omega (arith, ap length (b₁ .behind .left), ap length dl, length-append inner (outer ++ rest))))) x xe),
+          (λ t z. got-all (Q g) _
+          (let b₁ = A ((v, i) ∷ ix) (small-more v i ix fitting s) g (suc nest) (c .index ∷ around) d j₀ (outer ++ rest) dj dl room t z in
+          R ix s around (λ u o. sc u (λ w. o (omega arith))) g nest (t .1) o₀ rest (omega (arith, b₁ .behind .index, long)) (b₁ .behind .left)
+          (subst (λ (o : List ℕ). o₀ + length o ≤ 268435456) (sym (b₁ .behind .left)) room-beside)
+          (omega (arith, ap length (b₁ .behind .left), ap length dl, length-append inner (outer ++ rest))))) x xe),
     ))
   where
     j₀ : ℕ
@@ -414,13 +420,13 @@ output-only m names k b r R ix s around sc f nest c i rest ei e l n =
     part-first f nest around c (word 4 0) (M ++ (outer ++ rest)) spelled n Output output-word tt refl
     (λ g d dl di dn. (
       (λ q j x. refused-all Four (readMessage g nest around d) _ (message-only ix s around m names (λ v o. sc v (λ z. o (omega arith))) g nest d (outer ++ rest) dl dn)
-      (λ p y q₁ j₁ w. got≢refuse Four ((record { index = c .index; head = Head.output (p .0) }, close), p .1) q₁ j₁ w) q j x),
+          (λ p y q₁ j₁ w. got≢refuse Four ((record { index = c .index; head = Head.output (p .0) }, close), p .1) q₁ j₁ w) q j x),
       (λ x xe. bind-all (Q g) (readMessage g nest around d) _
-      (λ p y. got-all (Q g) _
-      (let u = message-back ix s m (sound-message m names) g nest around d (outer ++ rest) dl p y in
-      R ix s around (λ v o. sc v (λ w. o (omega arith))) g nest (p .1) o₀ rest (omega (arith, u .1 .index, long)) (u .1 .left)
-      (subst (λ (o : List ℕ). o₀ + length o ≤ 268435456) (sym (u .1 .left)) room-beside)
-      (omega (arith, ap length (u .1 .left), ap length dl, length-append M (outer ++ rest))))) x xe),
+          (λ p y. got-all (Q g) _
+          (let u = message-back ix s m (sound-message m names) g nest around d (outer ++ rest) dl p y in
+          R ix s around (λ v o. sc v (λ w. o (omega arith))) g nest (p .1) o₀ rest (omega (arith, u .1 .index, long)) (u .1 .left)
+          (subst (λ (o : List ℕ). o₀ + length o ≤ 268435456) (sym (u .1 .left)) room-beside)
+          (omega (arith, ap length (u .1 .left), ap length dl, length-append M (outer ++ rest))))) x xe),
     ))
   where
     M : List ℕ
@@ -491,3 +497,41 @@ body-only (part k (Head.ambient m) b r) x = ambient-only m (x .0 .1) k b r (body
 body-only (part k (Head.action is) b r) x = action-only is (x .0 .1) k b r (body-back Any b (fitting-all b (x .1))) (body-only b (x .1)) (body-only r (x .2))
 body-only (part k (Head.receipt v) b r) x = receipt-only v k b r (body-back Any b (fitting-all b (x .1))) (body-only b (x .1)) (body-only r (x .2))
 body-only (part k (Head.output m) b r) x = output-only m (x .0 .1) k b r (body-only r (x .2))
+
+-- ---- the call
+
+abbrev OneOrFour : ℕ → Type 0
+OneOrFour q = (q ≡ 1) ⊎ (q ≡ 4)
+
+-- THEOREM: the words of a tree without free variables, whose names are 1 to 255 and which has at most 64 parts, are let in but
+-- for questions 1 and 4.
+pub read-only : (b : Plain) → Fits Any Sound b → Closed (process b) → parts b ≤ 64 → (q j : ℕ) → readScript (write [] 0 b) ≡ refuse q j → OneOrFour q
+unfolding readScript newIndex
+read-only b x o l =
+    refused-all OneOrFour (ask 1 0 (leb 1 (length ws) && leb (length ws) 1024)) _ (λ q j y. inl (ask-stops 1 0 (leb 1 (length ws) && leb (length ws) 1024) q j y))
+    (λ u e₁.
+    let few : 0 + length ws ≤ 268435456 = omega (arith, short ws u e₁) in
+    refused-all OneOrFour (readBody (length ws) 0 [] (cursor 0 0 ws)) _
+    (λ q j y. inr (body-only b x [] small [] (λ v d. absurd (d (o v))) (length ws) 0 (cursor 0 0 ws) 0 [] refl (sym (append-nil ws)) few (omega arith) q j y))
+    (λ p e₂.
+    let r = body-back Any b (fitting-all b x) [] small (length ws) 0 [] (cursor 0 0 ws) 0 [] refl (sym (append-nil ws)) few p e₂ in
+    let n : p .1 .number ≤ 64 = omega (arith, r .few, body-advances (length ws) 0 [] (cursor 0 0 ws) p e₂ .numbers) in
+    refused-all OneOrFour (ask 5 (p .1 .index) (isEmpty (p .1 .left))) _ (ask-passes OneOrFour 5 (p .1 .index) _ (ap isEmpty (r .behind .left)))
+    (λ _ _. refused-all OneOrFour (ask 6 0 (leb (p .1 .number) 64)) _ (ask-passes OneOrFour 6 0 _ (le-leb (p .1 .number) 64 n))
+    (λ _ _ q j y. got≢refuse OneOrFour p q j y))))
+  where
+    ws : List ℕ
+    ws = write [] 0 b
+
+    small : Small []
+    small v = let z : 0 < 268435456 = omega arith in z
+
+-- THEOREM: so of every tree that stands in a call, before the first move and after each.
+pub readmits : (c : Call) → Readmits c
+unfolding Readmits weightOf
+readmits c p e k m a =
+    let T = script-tabled (c .script) p e in
+    let good = run-keeps (λ l. Good (p .1 .number) (l .tree)) (λ x y l s g d. good-move (p .1 .number) (l .tree) x y s g d) (p .1 .number) 0 (take k (c .moves)) (begun (p .0)) m (script-good (c .script) p e) a in
+    let named = run-keeps (λ l. Fits Any Sound (l .tree)) (λ x y l s g d. move-fits Any Sound x y (l .tree) s d g .2) (p .1 .number) 0 (take k (c .moves)) (begun (p .0)) m (script-sound (c .script) p e) a in
+    let w : parts (m .tree) + 2 * m .receipts ≤ parts (p .0) = run-weighed (p .1 .number) (take k (c .moves)) (p .0) m a in
+    read-only (m .tree) named (good .unbound) (omega (arith, T .few, T .counted))

@@ -5,8 +5,9 @@ use Prim.Native.Nat.{ℕ, _≤_}
 use mathlib.Core.Bool.{true, false}
 use mathlib.Core.List.{List, []}
 use mathlib.Core.Path.{_≡_}
+use mathlib.Core.Logic.{_⊎_}
 use lib.ListN.{length, take}
-use Rattle.messages.specs.Reading.{Cursor, got}
+use Rattle.messages.specs.Reading.{Cursor, refuse, got}
 use Rattle.scripts.specs.Script.{Script, readScript}
 use Rattle.scripts.specs.Measures.{movesBound}
 use Rattle.scripts.specs.Tree.{parts}
@@ -70,6 +71,11 @@ unfoldable pub Returns : Call → Type 0
 Returns c = (p : Script × Cursor) → readScript (c .script) ≡ got p → (k : ℕ) (m : Machine) → After c p k m
     → (q : Script × Cursor) → readScript (call.written m) ≡ got q → written (q .0) ≅ process (m .tree)
 
+-- and of the questions 1 to 6 only two can be answered by no for the words of such a tree: "1. Has the script 1 to 1,024
+-- words?" and "4. Is nesting at most 64?"
+unfoldable pub Readmits : Call → Type 0
+Readmits c = (p : Script × Cursor) → readScript (c .script) ≡ got p → (k : ℕ) (m : Machine) → After c p k m → (q i : ℕ) → readScript (call.written m) ≡ refuse q i → (q ≡ 1) ⊎ (q ≡ 4)
+
 -- "parts in the tree plus twice the receipts made are at most the script's parts", before the first move and after each
 unfoldable pub WeightHolds : Call → Type 0
 WeightHolds c = (p : Script × Cursor) → readScript (c .script) ≡ got p → (k : ℕ) (m : Machine) → After c p k m → weightOf m ≤ parts (p .0)
@@ -85,5 +91,5 @@ MovesBounded ws n = (p : Script × Cursor) → readScript ws ≡ got p → n ≤
 
 -- To unfold this is to unfold every definition of this module: for a proof by computation.
 unfoldable pub computing : Unit {0}
-unfolding Decides Reduces Returns WeightHolds MovesBounded
+unfolding Decides Reduces Returns Readmits WeightHolds MovesBounded
 computing = tt
