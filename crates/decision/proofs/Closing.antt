@@ -1,17 +1,20 @@
 -- A rule that question 9 lets through mentions only SOMEs around it, and so a name that AT or PLACED looks up is always one
--- that was chosen: `lookup` never comes to its end. Assumes nothing.
+-- that was chosen: `lookup` never comes to its end, and what it answers there says nothing. Assumes nothing.
 use Prim.Native.Nat.{ℕ}
 use mathlib.Core.Bool.{true, false, false≢true}
-use mathlib.Core.List.{List, [], _∷_, map, List·Memᴰ·head, List·Memᴰ·tail}
-use mathlib.Core.Path.{_≡_, refl, sym, ap}
+use mathlib.Core.List.{List, [], _∷_, _++_, map, List·Memᴰ·head, List·Memᴰ·tail}
+use mathlib.Core.Path.{_≡_, refl, sym, ap, subst}
+use mathlib.Core.Logic.{inl, inr, _↔_}
 use lib.Dec.{eqb}
 use borrow.Author.Tests.{eqb-true, eqb-false, ne-eqb}
 use Rattle.messages.specs.Words.{member, operand}
 use Rattle.messages.specs.Reading.{Cursor, got}
+use Rattle.messages.specs.Message.{name}
 use Rattle.slices.proofs.Tests.{byTest}
-use Rattle.rules.specs.Rule.{Term, constant, chosen, Names, lookup, Rule, always, negation, either, void, at, beside, some-name, sometime, somewhere, placed}
+use Rattle.rules.specs.Rule.{Term, constant, chosen, Names, lookup, termName, Rule, always, negation, either, void, at, beside, some-name, sometime, somewhere, placed}
 use Rattle.rules.specs.ReadRule.{termOf, termBound, readWholeRule}
 use Rattle.rules.proofs.Cases.{Cases, whole-rule-case}
+use Rattle.calculus.specs.Calculus.{Process, ambient, _≅_, Satisfies}
 use Rattle.decision.specs.Closed.{TermClosed, RuleClosed, Chosen, TermNamed, RuleNamed}
 
 -- ---- question 9
@@ -75,3 +78,53 @@ closed-named e (placed i j t r) h = (term-named e t (h .0), closed-named e r (h 
 -- THEOREM: so of every rule that is read, from its first word on.
 pub rule-named : (n : ℕ) (ws : List ℕ) (p : Rule × Cursor) → readWholeRule n ws ≡ got p → RuleNamed [] (p .0)
 rule-named n ws p e = closed-named [] (p .0) (rule-closed n ws p e)
+
+-- ---- names outside
+
+lookup-outside : (e d : Names) (i : ℕ) → member i (chosenBy e) ≡ true → lookup e i ≡ lookup (e ++ d) i
+unfolding member lookup
+lookup-outside [] d i h = absurd (false≢true h)
+lookup-outside (p ∷ e) d i h = byTest (eqb (p .0) i)
+    (λ t. rw t refl)
+    (λ t. let u : eqb i (p .0) ≡ false = ne-eqb i (p .0) (λ z. eqb-false (p .0) i t (sym z)) in rw t (lookup-outside e d i (rw u at h)))
+
+term-outside : (e d : Names) (t : Term) → TermClosed (chosenBy e) t → termName e t ≡ termName (e ++ d) t
+unfolding termName
+term-outside e d (constant n) h = refl
+term-outside e d (chosen i) h = lookup-outside e d i h
+
+-- THEOREM: where every SOME around has chosen, names behind those chosen say nothing to the paper's relation: so neither does
+-- what `lookup` answers at its end.
+pub names-outside : (d e : Names) (r : Rule) → RuleClosed (chosenBy e) r → (p : Process) → Satisfies e p r ↔ Satisfies (e ++ d) p r
+unfolding Satisfies
+names-outside d e (always i) h p = (λ x. x, λ x. x)
+names-outside d e (negation i r) h p = let a = names-outside d e r h p in (λ x y. x (a .1 y), λ x y. x (a .0 y))
+names-outside d e (either i r q) h p =
+    let a = names-outside d e r (h .0) p in
+    let b = names-outside d e q (h .1) p in
+    (λ x. elim x [ inl y ↦ inl (a .0 y) | inr y ↦ inr (b .0 y) ], λ x. elim x [ inl y ↦ inl (a .1 y) | inr y ↦ inr (b .1 y) ])
+names-outside d e (void i) h p = (λ x. x, λ x. x)
+names-outside d e (at i t r) h p =
+    let n : termName e t ≡ termName (e ++ d) t = term-outside e d t (h .0) in (
+      λ x. (x .0, subst (λ (m : ℕ). p ≅ ambient (name m) (x .0)) n (x .1), names-outside d e r (h .1) (x .0) .0 (x .2)),
+      λ x. (x .0, subst (λ (m : ℕ). p ≅ ambient (name m) (x .0)) (sym n) (x .1), names-outside d e r (h .1) (x .0) .1 (x .2)),
+    )
+names-outside d e (beside i r q) h p = (
+  λ x. (x .0, x .1, x .2, names-outside d e r (h .0) (x .0) .0 (x .3), names-outside d e q (h .1) (x .1) .0 (x .4)),
+  λ x. (x .0, x .1, x .2, names-outside d e r (h .0) (x .0) .1 (x .3), names-outside d e q (h .1) (x .1) .1 (x .4)),
+)
+names-outside d e (some-name i r) h p = (
+  λ x. (x .0, x .1, names-outside d ((i, x .0) ∷ e) r h p .0 (x .2)),
+  λ x. (x .0, x .1, names-outside d ((i, x .0) ∷ e) r h p .1 (x .2)),
+)
+names-outside d e (sometime i r) h p = (λ x. (x .0, x .1, names-outside d e r h (x .0) .0 (x .2)), λ x. (x .0, x .1, names-outside d e r h (x .0) .1 (x .2)))
+names-outside d e (somewhere i r) h p = (λ x. (x .0, x .1, names-outside d e r h (x .0) .0 (x .2)), λ x. (x .0, x .1, names-outside d e r h (x .0) .1 (x .2)))
+names-outside d e (placed i j t r) h p =
+    let n : termName e t ≡ termName (e ++ d) t = term-outside e d t (h .0) in (
+      λ x. subst (λ (m : ℕ). Satisfies (e ++ d) (ambient (name m) p) r) n (names-outside d e r (h .1) (ambient (name (termName e t)) p) .0 x),
+      λ x. names-outside d e r (h .1) (ambient (name (termName e t)) p) .1 (subst (λ (m : ℕ). Satisfies (e ++ d) (ambient (name m) p) r) (sym n) x),
+    )
+
+-- THEOREM: so for every rule that is read, whatever names are taken for chosen before its first word.
+pub rule-outside : (n : ℕ) (ws : List ℕ) (q : Rule × Cursor) → readWholeRule n ws ≡ got q → (d : Names) (p : Process) → Satisfies [] p (q .0) ↔ Satisfies d p (q .0)
+rule-outside n ws q e d p = names-outside d [] (q .0) (rule-closed n ws q e) p
