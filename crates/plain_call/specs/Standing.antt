@@ -56,9 +56,9 @@ pub record Reduced (c : Call) (p : Script × Cursor) (k : ℕ) (m : Machine) : T
   pub steps : Steps k (written (p .0)) last
   pub stands : last ≅ process (m .tree)
 
--- An answer's verdict and moves, in the paper's terms: "SOMETIME, some list of moves". Yes: the whole list leads from the
--- script as written to a process that satisfies the rule; no: to one that does not; refused: what was made of the list, "the
--- moves made are those before it", is a chain of reductions too.
+-- An answer's verdict and moves, in the paper's terms. Yes: the whole list leads from the script as written to a process that
+-- satisfies the rule; no: to one that does not; refused: what was made of the list, "the moves made are those before it", is a
+-- chain of reductions too.
 unfoldable pub Reduces : (c : Call) → Verdict → (moves : ℕ) → Type 0
 Reduces c (accepted true) k = (s : Standing c) × (x : Reduced c (s .script) k (s .machine)) × (k ≡ length (c .moves)) × Satisfies [] (x .last) (s .rule .0)
 Reduces c (accepted false) k = (s : Standing c) × (x : Reduced c (s .script) k (s .machine)) × (k ≡ length (c .moves)) × ¬ Satisfies [] (x .last) (s .rule .0)
