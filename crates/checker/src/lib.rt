@@ -33,7 +33,7 @@ ghost use Rattle.writer.specs.Bodies.{Scripted};
 ghost use Rattle.writer.specs.Room.{answered, buffered};
 ghost use Rattle.plain_call.specs.Call.{accepted, refusal, walked, answer, finish as finished};
 ghost use Rattle.checker.specs.Answering.{verdictOf, answerOf, callOf};
-ghost use Rattle.plain_call.specs.Standing.{Decides, MovesBounded, WeightHolds};
+ghost use Rattle.plain_call.specs.Standing.{Decides, Reduces, Returns, MovesBounded, WeightHolds};
 ghost use Rattle.checker.specs.Calling.{ScriptHeld, RuleHeld, Stands};
 
 // Yes or no, or the question that refuses the call, and its place.
@@ -299,6 +299,8 @@ pub fn call<'a, 'b>(
     ensures decided { λ r. ⌜ Decides (callOf (now (script .entry)) (now (moves .entry)) (now (rule .entry)) patience (now (out .entry))) (verdictOf (r .verdict)) ⌝ }
     ensures bounded { λ r. ⌜ MovesBounded (now (script .entry)) (r .moves) ⌝ }
     ensures weighed { λ r. ⌜ WeightHolds (callOf (now (script .entry)) (now (moves .entry)) (now (rule .entry)) patience (now (out .entry))) ⌝ }
+    ensures reduced { λ r. ⌜ Reduces (callOf (now (script .entry)) (now (moves .entry)) (now (rule .entry)) patience (now (out .entry))) (verdictOf (r .verdict)) (r .moves) ⌝ }
+    ensures returning { λ r. ⌜ Returns (callOf (now (script .entry)) (now (moves .entry)) (now (rule .entry)) patience (now (out .entry))) ⌝ }
 {
     let scan = read_script(script);
     let outcome = scan.outcome;
