@@ -9,22 +9,23 @@ use borrow.Author.Tests.{le-leb, lt-leb}
 use Rattle.plain_call.specs.Call.{Call, Verdict, accepted, refused, Answer, answer}
 use Rattle.checker.specs.Answering.{verdictOf, answerOf}
 use Rattle.checker.specs.declared.Answer as engine
-use Rattle.plain_call.specs.Standing.{Decides, Reduces, Returns, MovesBounded, WeightHolds}
+use Rattle.plain_call.specs.Standing.{Decides, Reduces, Returns, Readmits, MovesBounded, WeightHolds}
 use Rattle.checker.proofs.Concluding.{decides}
 use Rattle.plain_call.proofs.ClosureRuns.{moves-bounded}
 use Rattle.plain_call.proofs.Runs.{weight-holds}
 use Rattle.plain_call.proofs.Reducing.{reduces}
 use Rattle.plain_call.proofs.Returning.{returns}
+use Rattle.plain_call.proofs.Readmitting.{readmits}
 use Rattle.plain_call.proofs.Small.{PlaceWithin, Small, answer-small}
 use Rattle.answer_words.specs.Told.{placeOf, told}
 use Rattle.capi.specs.Told.{returned, answered, written}
 
 -- what every call keeps to
 abbrev pub Keeps : Call → Type 0
-Keeps c = Decides c (answer c .verdict) × (MovesBounded (c .script) (answer c .moves) × (WeightHolds c × (Reduces c (answer c .verdict) (answer c .moves) × Returns c)))
+Keeps c = Decides c (answer c .verdict) × (MovesBounded (c .script) (answer c .moves) × (WeightHolds c × (Reduces c (answer c .verdict) (answer c .moves) × (Returns c × Readmits c))))
 
 pub keeps : (c : Call) → Keeps c
-keeps c = (decides c (answer c .verdict) refl, (moves-bounded c, (weight-holds c, (reduces c (answer c .verdict) (answer c .moves) refl refl, returns c))))
+keeps c = (decides c (answer c .verdict) refl, (moves-bounded c, (weight-holds c, (reduces c (answer c .verdict) (answer c .moves) refl refl, (returns c, readmits c)))))
 
 -- no room: nothing is done
 pub short : (c : Call) (words : List ℕ) → length words < 8 → (0 ≡ returned words) × ((words ≡ answered c words) × ((c .buffer ≡ written c words) × Keeps c))

@@ -4,7 +4,7 @@ use checker::call;
 ghost use mathlib.Core.Path.{_≡_};
 ghost use Rattle.plain_call.specs.Call.{answer as plainAnswer};
 ghost use Rattle.checker.specs.Answering.{callOf};
-ghost use Rattle.plain_call.specs.Standing.{Decides, Reduces, Returns, MovesBounded, WeightHolds};
+ghost use Rattle.plain_call.specs.Standing.{Decides, Reduces, Returns, Readmits, MovesBounded, WeightHolds};
 ghost use Rattle.capi.specs.Told.{returned, answered, written};
 
 // The whole call. Where `answer` has fewer than eight words, nothing is done.
@@ -25,6 +25,7 @@ pub extern "C" fn skycorbel_call<'a, 'b, 'c>(
     ensures weighed { λ _. ⌜ WeightHolds (callOf (now (script .entry)) (now (moves .entry)) (now (rule .entry)) patience (now (out .entry))) ⌝ }
     ensures reduced { λ _. ⌜ Reduces (callOf (now (script .entry)) (now (moves .entry)) (now (rule .entry)) patience (now (out .entry))) (plainAnswer (callOf (now (script .entry)) (now (moves .entry)) (now (rule .entry)) patience (now (out .entry))) .verdict) (plainAnswer (callOf (now (script .entry)) (now (moves .entry)) (now (rule .entry)) patience (now (out .entry))) .moves) ⌝ }
     ensures returning { λ _. ⌜ Returns (callOf (now (script .entry)) (now (moves .entry)) (now (rule .entry)) patience (now (out .entry))) ⌝ }
+    ensures readmitted { λ _. ⌜ Readmits (callOf (now (script .entry)) (now (moves .entry)) (now (rule .entry)) patience (now (out .entry))) ⌝ }
 {
     if answer.len() < 8 {
         return 0;

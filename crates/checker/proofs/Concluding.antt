@@ -31,11 +31,12 @@ use Rattle.plain_call.specs.ClosureCall.{moved, closureRun, unfoldRan, begun}
 use Rattle.checker.specs.Answering.{verdictOf, answerOf, callOf}
 use Rattle.checker.specs.declared.Answer.{Answer}
 use Rattle.checker.specs.Calling.{Stands}
-use Rattle.plain_call.specs.Standing.{Standing, Decides, Reduces, Returns, MovesBounded, WeightHolds}
+use Rattle.plain_call.specs.Standing.{Standing, Decides, Reduces, Returns, Readmits, MovesBounded, WeightHolds}
 use Rattle.plain_call.proofs.ClosureRuns.{started-unfolded, moves-bounded}
 use Rattle.plain_call.proofs.Runs.{weight-holds}
 use Rattle.plain_call.proofs.Reducing.{reduces}
 use Rattle.plain_call.proofs.Returning.{returns}
+use Rattle.plain_call.proofs.Readmitting.{readmits}
 use Rattle.plain_call.proofs.Called.{answers-walked}
 use Rattle.plain_call.proofs.Verdicts.{answer-stands, standing-good, verdict-yes, verdict-no}
 use Rattle.checker.proofs.Calling.{number-is}
@@ -105,10 +106,10 @@ decides c (refused q i) e = tt
 -- THEOREM: an answer that is the plain machine's, with the buffer, is decided by the paper's own relation, keeps the bound and
 -- the weight, and its moves are the paper's reductions; the trees that they leave are read again as they are written.
 pub call-kept : (c : Call) (r : Answer) (b : List ℕ) → answerOf r b ≡ answer c
-    → (answerOf r b ≡ answer c) × (Decides c (verdictOf (r .verdict)) × (MovesBounded (c .script) (r .moves) × (WeightHolds c × (Reduces c (verdictOf (r .verdict)) (r .moves) × Returns c))))
+    → (answerOf r b ≡ answer c) × (Decides c (verdictOf (r .verdict)) × (MovesBounded (c .script) (r .moves) × (WeightHolds c × (Reduces c (verdictOf (r .verdict)) (r .moves) × (Returns c × Readmits c)))))
 unfolding answerOf
 call-kept c r b e =
     let d : Decides c (verdictOf (r .verdict)) = decides c (verdictOf (r .verdict)) (sym (ap (λ (a : plain.Answer). a .verdict) e)) in
     let m = subst (MovesBounded (c .script)) (sym (ap (λ (a : plain.Answer). a .moves) e)) (moves-bounded c) in
     let x : Reduces c (verdictOf (r .verdict)) (r .moves) = reduces c (verdictOf (r .verdict)) (r .moves) (sym (ap (λ (a : plain.Answer). a .verdict) e)) (sym (ap (λ (a : plain.Answer). a .moves) e)) in
-    (e, (d, (m, (weight-holds c, (x, returns c)))))
+    (e, (d, (m, (weight-holds c, (x, (returns c, readmits c))))))

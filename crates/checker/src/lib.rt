@@ -33,7 +33,7 @@ ghost use Rattle.writer.specs.Bodies.{Scripted};
 ghost use Rattle.writer.specs.Room.{answered, buffered};
 ghost use Rattle.plain_call.specs.Call.{accepted, refusal, walked, answer, finish as finished};
 ghost use Rattle.checker.specs.Answering.{verdictOf, answerOf, callOf};
-ghost use Rattle.plain_call.specs.Standing.{Decides, Reduces, Returns, MovesBounded, WeightHolds};
+ghost use Rattle.plain_call.specs.Standing.{Decides, Reduces, Returns, Readmits, MovesBounded, WeightHolds};
 ghost use Rattle.checker.specs.Calling.{ScriptHeld, RuleHeld, Stands};
 
 // Yes or no, or the question that refuses the call, and its place.
@@ -301,6 +301,7 @@ pub fn call<'a, 'b>(
     ensures weighed { λ r. ⌜ WeightHolds (callOf (now (script .entry)) (now (moves .entry)) (now (rule .entry)) patience (now (out .entry))) ⌝ }
     ensures reduced { λ r. ⌜ Reduces (callOf (now (script .entry)) (now (moves .entry)) (now (rule .entry)) patience (now (out .entry))) (verdictOf (r .verdict)) (r .moves) ⌝ }
     ensures returning { λ r. ⌜ Returns (callOf (now (script .entry)) (now (moves .entry)) (now (rule .entry)) patience (now (out .entry))) ⌝ }
+    ensures readmitted { λ r. ⌜ Readmits (callOf (now (script .entry)) (now (moves .entry)) (now (rule .entry)) patience (now (out .entry))) ⌝ }
 {
     let scan = read_script(script);
     let outcome = scan.outcome;
