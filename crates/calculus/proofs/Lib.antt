@@ -12,3 +12,4 @@ pub mod Runs
 pub mod Kept
 pub mod Agreement
 pub mod Orders
+pub mod Writings

@@ -1,5 +1,6 @@
--- Satisfaction on trees, the paper's calculus and logic, and trees that differ in order only. Assumes nothing: these are
--- definitions.
+-- Satisfaction on trees, the paper's calculus and logic, the process that a script says as written, and trees that differ in
+-- order only. Assumes nothing: these are definitions.
 pub mod Satisfaction
 pub mod Calculus
+pub mod Written
 pub mod Order

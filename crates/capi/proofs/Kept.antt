@@ -10,25 +10,44 @@ use borrow.Author.Tests.{le-leb, lt-leb}
 use Rattle.plain_call.specs.Call.{Call, Verdict, accepted, refused, Answer, answer}
 use Rattle.checker.specs.Answering.{verdictOf, answerOf}
 use Rattle.checker.specs.declared.Answer as engine
-use Rattle.plain_call.specs.Standing.{Decides, MovesBounded, WeightHolds, WeightBounded}
+use Rattle.plain_call.specs.Standing.{Decides, Reduces, Returns, Readmits, MovesBounded, WeightHolds, WeightBounded}
 use Rattle.checker.proofs.Concluding.{decides}
 use Rattle.plain_call.proofs.ClosureRuns.{moves-bounded}
 use Rattle.plain_call.proofs.Runs.{weight-holds}
+use Rattle.plain_call.proofs.Reducing.{reduces}
+use Rattle.plain_call.proofs.Returning.{returns}
+use Rattle.plain_call.proofs.Readmitting.{readmits}
+use Rattle.plain_call.proofs.Leaving as leaving
+use Rattle.plain_call.proofs.Leaving.{leftBy}
 use Rattle.plain_call.proofs.Small.{PlaceWithin, Small, answer-small, weight-bounded}
 use Rattle.answer_words.specs.Told.{saidOf, placeOf, told}
-use Rattle.capi.specs.Told.{returned, answered, written, Decided}
+use Rattle.capi.specs.Told.{returned, answered, written, Decided, ReducedBy, ReturnedBy, ReadmittedBy, left}
 
--- what is kept to where the call returns r and leaves those words for its answer
-abbrev pub Keeps : Call → (r : ℕ) → List ℕ → Type 0
-Keeps c r words = (r ≡ 1 → Decided c (getD words 0 0)) × ((r ≡ 1 → MovesBounded (c .script) (getD words 3 0)) × (WeightHolds c × (r ≡ 1 → WeightBounded (c .script) (getD words 6 0))))
+-- what is kept to where the call returns r and leaves those words for its answer and in the output buffer
+abbrev pub Keeps : Call → (r : ℕ) → (words out : List ℕ) → Type 0
+Keeps c r words out =
+    (r ≡ 1 → Decided c (getD words 0 0))
+    × ((r ≡ 1 → MovesBounded (c .script) (getD words 3 0))
+    × ((WeightHolds c × (r ≡ 1 → WeightBounded (c .script) (getD words 6 0)))
+    × ((r ≡ 1 → ReducedBy c (getD words 0 0) (getD words 3 0))
+    × ((Returns c × (r ≡ 1 → ReturnedBy c (getD words 0 0) (left words out))) × (Readmits c × (r ≡ 1 → ReadmittedBy (getD words 0 0) (left words out)))))))
 
 -- no room: nothing is done
-pub short : (c : Call) (words : List ℕ) → length words < 8 → (0 ≡ returned words) × ((words ≡ answered c words) × ((c .buffer ≡ written c words) × Keeps c 0 words))
+pub short : (c : Call) (words : List ℕ) → length words < 8 → (0 ≡ returned words) × ((words ≡ answered c words) × ((c .buffer ≡ written c words) × Keeps c 0 words (c .buffer)))
 short c words l = (
   rw (lt-leb 8 (length words) l) refl,
   (
     rw (lt-leb 8 (length words) l) refl,
-    (rw (lt-leb 8 (length words) l) refl, (λ e. absurd (zero-one e), (λ e. absurd (zero-one e), (weight-holds c, λ e. absurd (zero-one e))))),
+    (
+      rw (lt-leb 8 (length words) l) refl,
+      (
+        λ e. absurd (zero-one e),
+        (
+          λ e. absurd (zero-one e),
+          ((weight-holds c, λ e. absurd (zero-one e)), (λ e. absurd (zero-one e), ((returns c, λ e. absurd (zero-one e)), (readmits c, λ e. absurd (zero-one e))))),
+        ),
+      ),
+    ),
   ),
 )
   where
@@ -55,18 +74,49 @@ decided c = (
   λ e. decides c (accepted false) (said-no (answer c .verdict) e),
 )
 
--- the words of an answer keep to it
-told-keeps : (c : Call) (rest : List ℕ) → Keeps c 1 (told (answer c) ++ rest)
+said-none : (v : Verdict) → saidOf v ≡ 0 → (q : ℕ) × (i : ℕ) × (v ≡ refused q i)
+unfolding saidOf
+said-none (accepted true) e = absurd (let z : ⊥ = omega arith in z)
+said-none (accepted false) e = absurd (let z : ⊥ = omega arith in z)
+said-none (refused q i) e = (q, i, refl)
+
+reduced : (c : Call) → ReducedBy c (saidOf (answer c .verdict)) (answer c .moves)
+unfolding Reduces
+reduced c = (
+  λ e. reduces c (accepted true) (answer c .moves) (said-yes (answer c .verdict) e) refl,
+  λ e. reduces c (accepted false) (answer c .moves) (said-no (answer c .verdict) e) refl,
+  λ e q i. let (k, j, x) = said-none (answer c .verdict) e in reduces c (refused k j) (answer c .moves) x refl,
+)
+
+returning : (c : Call) → ReturnedBy c (saidOf (answer c .verdict)) (leftBy (answer c))
+returning c = (
+  λ e. leaving.returned c (accepted true) (leftBy (answer c)) (said-yes (answer c .verdict) e) refl,
+  λ e. leaving.returned c (accepted false) (leftBy (answer c)) (said-no (answer c .verdict) e) refl,
+)
+
+readmitted : (c : Call) → ReadmittedBy (saidOf (answer c .verdict)) (leftBy (answer c))
+readmitted c = (
+  λ e. leaving.readmitted c (accepted true) (leftBy (answer c)) (said-yes (answer c .verdict) e) refl,
+  λ e. leaving.readmitted c (accepted false) (leftBy (answer c)) (said-no (answer c .verdict) e) refl,
+)
+
+-- the words of an answer and of the tree keep to it
+told-keeps : (c : Call) (rest : List ℕ) → Keeps c 1 (told (answer c) ++ rest) (answer c .buffer)
 unfolding told
-told-keeps c rest = (λ e. decided c, (λ e. moves-bounded c, (weight-holds c, λ e. weight-bounded c)))
+told-keeps c rest = (
+  λ e. decided c,
+  (λ e. moves-bounded c, ((weight-holds c, λ e. weight-bounded c), (λ e. reduced c, ((returns c, λ e. returning c), (readmits c, λ e. readmitted c))))),
+)
 
 -- room: the call's answer is told
 pub told-whole : (c : Call) (words : List ℕ) (r : engine.Answer) (out : List ℕ) {exit : List ℕ} → answerOf r out ≡ answer c → 8 ≤ length words → exit ≡ told (answerOf r out) ++ drop 8 words
-    → (1 ≡ returned words) × ((exit ≡ answered c words) × ((out ≡ written c words) × Keeps c 1 exit))
+    → (1 ≡ returned words) × ((exit ≡ answered c words) × ((out ≡ written c words) × Keeps c 1 exit out))
 unfolding answerOf
-told-whole c words r out e l t =
+told-whole c words r out {exit} e l t =
     let x = t ∙ ap (λ (a : Answer). told a ++ drop 8 words) e in
-    (rw (le-leb 8 (length words) l) refl, (rw (le-leb 8 (length words) l) x, (rw (le-leb 8 (length words) l) (ap (λ (a : Answer). a .buffer) e), subst (Keeps c 1) (sym x) (told-keeps c (drop 8 words)))))
+    let b : out ≡ answer c .buffer = ap (λ (a : Answer). a .buffer) e in
+    let k : Keeps c 1 exit (answer c .buffer) = subst (λ (ws : List ℕ). Keeps c 1 ws (answer c .buffer)) (sym x) (told-keeps c (drop 8 words)) in
+    (rw (le-leb 8 (length words) l) refl, (rw (le-leb 8 (length words) l) x, (rw (le-leb 8 (length words) l) b, subst (Keeps c 1 exit) (sym b) k)))
 
 -- place, moves and weight of a call's answer are words
 place-fits : (v : Verdict) → PlaceWithin 4096 v → placeOf v < 2 ^ 32

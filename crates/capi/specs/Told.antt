@@ -1,13 +1,13 @@
 -- What the call for C and Rust does with the two buffers that it is lent: the eight words of an answer, and the tree.
 -- Assumes nothing: these are definitions.
 use Prim.Native.Nat.{ℕ}
-use mathlib.Core.Bool.{Bool, cond}
+use mathlib.Core.Bool.{Bool, true, false, cond}
 use mathlib.Core.List.{List, _++_}
 use mathlib.Core.Path.{_≡_}
-use lib.ListN.{length, drop}
+use lib.ListN.{length, getD, take, drop}
 use lib.Dec.{leb}
-use Rattle.plain_call.specs.Call.{Call, answer}
-use Rattle.plain_call.specs.Standing.{Standing, Holds}
+use Rattle.plain_call.specs.Call.{Call, accepted, refused, answer}
+use Rattle.plain_call.specs.Standing.{Standing, Holds, Reduces, Returned, Readmitted}
 use Rattle.answer_words.specs.Told.{told}
 
 -- whether there is room for the eight words
@@ -26,6 +26,24 @@ answered c words = cond (hasRoom words) (told (answer c) ++ drop 8 words) words
 -- where it does not
 abbrev pub Decided : Call → ℕ → Type 0
 Decided c w = (w ≡ 2 → (s : Standing c) × Holds c s) × (w ≡ 1 → (s : Standing c) × ¬ Holds c s)
+
+-- the moves in the paper's terms, of the first word and the fourth: 2 only where the whole list leads from the script as
+-- written to a process that satisfies the rule, 1 only where it leads to one that does not; and by 0 too the moves made are a
+-- chain of reductions
+abbrev pub ReducedBy : Call → (said moves : ℕ) → Type 0
+ReducedBy c w k = (w ≡ 2 → Reduces c (accepted true) k) × (w ≡ 1 → Reduces c (accepted false) k) × (w ≡ 0 → (q i : ℕ) → Reduces c (refused q i) k)
+
+-- the words at the output buffer's start, as many as the eighth word of the answer says
+abbrev pub left : (words out : List ℕ) → List ℕ
+left words out = take (getD words 7 0) out
+
+-- where the first word is 2 or 1, the tree that is left there is read again as the process that stands
+abbrev pub ReturnedBy : Call → (said : ℕ) → (left : List ℕ) → Type 0
+ReturnedBy c w ws = (w ≡ 2 → Returned c (accepted true) ws) × (w ≡ 1 → Returned c (accepted false) ws)
+
+-- and only questions 1 and 4 can refuse it
+abbrev pub ReadmittedBy : (said : ℕ) → (left : List ℕ) → Type 0
+ReadmittedBy w ws = (w ≡ 2 → Readmitted (accepted true) ws) × (w ≡ 1 → Readmitted (accepted false) ws)
 
 -- the words of the output buffer after the call
 abbrev pub written : Call → List ℕ → List ℕ

@@ -6,7 +6,7 @@ use mathlib.Core.List.{List}
 use mathlib.Core.Path.{_≡_, refl, sym, ap, _∙_, subst}
 use native.Mathlib.Omega.{arith}
 use lib.Dec.{eqb}
-use lib.ListN.{length}
+use lib.ListN.{length, take}
 use Rattle.messages.specs.Reading.{got}
 use Rattle.scripts.specs.Tree.{one, count}
 use Rattle.scripts.specs.Measures.{greatestName}
@@ -30,11 +30,15 @@ use Rattle.plain_call.specs.ClosureCall.{moved, closureRun, unfoldRan, begun}
 use Rattle.checker.specs.Answering.{verdictOf, answerOf, callOf}
 use Rattle.checker.specs.declared.Answer.{Answer}
 use Rattle.checker.specs.Calling.{Stands}
-use Rattle.plain_call.specs.Standing.{Standing, Decides, MovesBounded, WeightHolds, WeightBounded}
+use Rattle.plain_call.specs.Standing.{Standing, Decides, Reduces, Returns, Readmits, Returned, Readmitted, MovesBounded, WeightHolds, WeightBounded}
 use Rattle.plain_call.proofs.ClosureRuns.{started-unfolded, moves-bounded}
 use Rattle.plain_call.proofs.Runs.{weight-holds}
 use Rattle.plain_call.proofs.Entering.{starting-got, terms-few, own-got}
 use Rattle.plain_call.proofs.Small.{weight-bounded}
+use Rattle.plain_call.proofs.Reducing.{reduces}
+use Rattle.plain_call.proofs.Returning.{returns}
+use Rattle.plain_call.proofs.Readmitting.{readmits}
+use Rattle.plain_call.proofs.Leaving.{leftBy, returned, readmitted}
 use Rattle.plain_call.proofs.Called.{answers-walked}
 use Rattle.plain_call.proofs.Verdicts.{answer-stands, standing-good, verdict-yes, verdict-no}
 use Rattle.checker.proofs.Calling.{number-is}
@@ -104,13 +108,21 @@ decides c (accepted true) e = let s = answer-stands c true e in (s, verdict-yes 
 decides c (accepted false) e = let s = answer-stands c false e in (s, verdict-no c s e)
 decides c (refused q i) e = tt
 
--- THEOREM: an answer that is the plain machine's, with the buffer, is decided by the paper's own relation and keeps the bound
--- and the weight.
+-- THEOREM: an answer that is the plain machine's, with the buffer, is decided by the paper's own relation, keeps the bound and
+-- the weight, and its moves are the paper's reductions; the trees that they leave are read again as they are written.
 pub call-kept : (c : Call) (r : Answer) (b : List ℕ) → answerOf r b ≡ answer c
-    → (answerOf r b ≡ answer c) × (Decides c (verdictOf (r .verdict)) × (MovesBounded (c .script) (r .moves) × (WeightHolds c × WeightBounded (c .script) (r .weight))))
+    → (answerOf r b ≡ answer c)
+    × (Decides c (verdictOf (r .verdict))
+    × (MovesBounded (c .script) (r .moves)
+    × ((WeightHolds c × WeightBounded (c .script) (r .weight))
+    × (Reduces c (verdictOf (r .verdict)) (r .moves)
+    × ((Returns c × Returned c (verdictOf (r .verdict)) (take (r .words) b)) × (Readmits c × Readmitted (verdictOf (r .verdict)) (take (r .words) b)))))))
 unfolding answerOf
 call-kept c r b e =
     let d : Decides c (verdictOf (r .verdict)) = decides c (verdictOf (r .verdict)) (sym (ap (λ (a : plain.Answer). a .verdict) e)) in
     let m = subst (MovesBounded (c .script)) (sym (ap (λ (a : plain.Answer). a .moves) e)) (moves-bounded c) in
     let w = subst (WeightBounded (c .script)) (sym (ap (λ (a : plain.Answer). a .weight) e)) (weight-bounded c) in
-    (e, (d, (m, (weight-holds c, w))))
+    let v : answer c .verdict ≡ verdictOf (r .verdict) = sym (ap (λ (a : plain.Answer). a .verdict) e) in
+    let x : Reduces c (verdictOf (r .verdict)) (r .moves) = reduces c (verdictOf (r .verdict)) (r .moves) v (sym (ap (λ (a : plain.Answer). a .moves) e)) in
+    let l : leftBy (answer c) ≡ take (r .words) b = sym (ap (λ (a : plain.Answer). leftBy a) e) in
+    (e, (d, (m, ((weight-holds c, w), (x, ((returns c, returned c (verdictOf (r .verdict)) (take (r .words) b) v l), (readmits c, readmitted c (verdictOf (r .verdict)) (take (r .words) b) v l)))))))

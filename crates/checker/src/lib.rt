@@ -22,7 +22,7 @@ use writer::write_tree;
 ghost use mathlib.Core.Path.{_≡_};
 ghost use mathlib.Core.List.{List, []};
 ghost use Prim.Native.Nat.{ℕ, _+_, _≤_, _<_, max};
-ghost use lib.ListN.{length};
+ghost use lib.ListN.{length, take};
 ghost use Rattle.messages.specs.Reading.{got};
 ghost use Rattle.scripts.specs.Measures.{greatestName};
 ghost use Rattle.rules.specs.Rule.{greatestRuleName};
@@ -34,7 +34,7 @@ ghost use Rattle.writer.specs.Bodies.{Scripted};
 ghost use Rattle.writer.specs.Room.{answered, buffered};
 ghost use Rattle.plain_call.specs.Call.{accepted, refusal, walked, terms, answer, finish as finished};
 ghost use Rattle.checker.specs.Answering.{verdictOf, answerOf, askedOf, callOf};
-ghost use Rattle.plain_call.specs.Standing.{Decides, MovesBounded, WeightHolds, WeightBounded};
+ghost use Rattle.plain_call.specs.Standing.{Decides, Reduces, Returns, Readmits, Returned, Readmitted, MovesBounded, WeightHolds, WeightBounded};
 ghost use Rattle.checker.specs.Calling.{ScriptHeld, RuleHeld, Stands};
 
 // Yes or no, or the question that refuses the call, and its place.
@@ -336,6 +336,9 @@ pub fn call<'a, 'b>(
     ensures decided { λ r. ⌜ Decides (callOf (now (script .entry)) (now (moves .entry)) (now (rule .entry)) patience (now (out .entry))) (verdictOf (r .verdict)) ⌝ }
     ensures bounded { λ r. ⌜ MovesBounded (now (script .entry)) (r .moves) ⌝ }
     ensures weighed { λ r. ⌜ WeightHolds (callOf (now (script .entry)) (now (moves .entry)) (now (rule .entry)) patience (now (out .entry))) × WeightBounded (now (script .entry)) (r .weight) ⌝ }
+    ensures reduced { λ r. ⌜ Reduces (callOf (now (script .entry)) (now (moves .entry)) (now (rule .entry)) patience (now (out .entry))) (verdictOf (r .verdict)) (r .moves) ⌝ }
+    ensures returning { λ r. ⌜ Returns (callOf (now (script .entry)) (now (moves .entry)) (now (rule .entry)) patience (now (out .entry))) × Returned (callOf (now (script .entry)) (now (moves .entry)) (now (rule .entry)) patience (now (out .entry))) (verdictOf (r .verdict)) (take (r .words) (now (out .exit))) ⌝ }
+    ensures readmitted { λ r. ⌜ Readmits (callOf (now (script .entry)) (now (moves .entry)) (now (rule .entry)) patience (now (out .entry))) × Readmitted (verdictOf (r .verdict)) (take (r .words) (now (out .exit))) ⌝ }
 {
     let scan = read_script(script);
     let outcome = scan.outcome;

@@ -84,7 +84,7 @@ module _ (c : Call) (P : Answer → Type 0) (E : Endings c P) where
 
 -- ---- an accepted call
 
-refused≢accepted : {B : Type 0} {q i : ℕ} {a : Bool} → refused q i ≡ accepted a → B
+pub refused≢accepted : {B : Type 0} {q i : ℕ} {a : Bool} → refused q i ≡ accepted a → B
 refused≢accepted e = let z : _≡_ {A = ℕ} 0 1 = cc in absurd (let w : ⊥ = omega arith in w)
 
 accepted-is : {a b : Bool} → accepted a ≡ accepted b → a ≡ b

@@ -1,5 +1,5 @@
 -- The tree that a script begins with is good: settled, its parts numbered apart and below the number of parts, its receipts'
--- variables apart, and no variable free. Assumes nothing.
+-- variables apart, and no variable free; and it stands for what is written. Assumes nothing.
 use Prim.Native.Nat.{ℕ, _+_, _≤_}
 use mathlib.Core.Bool.{true, false}
 use mathlib.Core.List.{List, _∷_}
@@ -19,12 +19,14 @@ use Rattle.scripts.proofs.Cases as body
 use Rattle.scripts.proofs.Tabled.{script-tabled, script-number}
 use Rattle.slices.proofs.Tests.{byTest}
 use Rattle.machine.proofs.Sums.{map-sum, settle-sum}
-use Rattle.calculus.specs.Calculus.{Process, _∣_, action, input, piece, process, prefix}
+use Rattle.calculus.specs.Calculus.{Process, _∣_, action, input, _≅_, piece, process, prefix}
+use Rattle.calculus.specs.Written.{written}
 use Rattle.messages.proofs.Mentioning.{mentions-other}
 use Rattle.calculus.proofs.Variables.{free, free-same, free-other}
 use Rattle.calculus.proofs.Congruences.{action-items}
 use Rattle.calculus.proofs.Substitutions.{free-cong, closed-cong}
 use Rattle.calculus.proofs.Processes.{binds, bindings, settle-process}
+use Rattle.calculus.proofs.Writings.{started-written}
 use Rattle.calculus.proofs.Kept.{Good, compounds-items, untidy, settle-settled}
 use Rattle.calculus.specs.Calculus as calculus
 
@@ -126,14 +128,23 @@ body-bound = record {
 
 -- ---- the tree
 
+-- how often a number stands in the script's tree as it is held
+held-range : (ws : List ℕ) (p : Script × Cursor) → readScript ws ≡ got p → (j : ℕ) → Range j 0 (0 + parts (p .0)) (count j (hold (p .0)))
+unfolding hold
+held-range ws p e j =
+    subst (Range j 0 (0 + parts (p .0))) (sym (map-sum (λ i h. one (eqb j i)) (λ (w : Written). holdHead (w .head)) (p .0))) (numbered-range j 0 (p .0) (script-tabled ws p e .numbered))
+
+-- THEOREM: the process of the tree that a script begins with is the script's as it is written, up to structural congruence.
+pub script-written : (ws : List ℕ) (p : Script × Cursor) → readScript ws ≡ got p → process (started (p .0)) ≅ written (p .0)
+script-written ws p e = started-written (p .0) (λ j. held-range ws p e j .once)
+
 -- THEOREM: the tree that a script begins with is good, its numbers below the number of its parts.
 pub script-good : (ws : List ℕ) (p : Script × Cursor) → readScript ws ≡ got p → Good (p .1 .number) (started (p .0))
 unfolding started settle hold member
 script-good ws p e =
     let B = body.script-case Known Bound body-bound ws p e in
-    let T = script-tabled ws p e in
     let n : p .1 .number ≡ parts (p .0) = script-number ws p e in
-    let held : (j : ℕ) → Range j 0 (0 + parts (p .0)) (count j (hold (p .0))) = λ j. subst (Range j 0 (0 + parts (p .0))) (sym (map-sum (λ i h. one (eqb j i)) (λ (w : Written). holdHead (w .head)) (p .0))) (numbered-range j 0 (p .0) (T .numbered)) in
+    let held : (j : ℕ) → Range j 0 (0 + parts (p .0)) (count j (hold (p .0))) = held-range ws p e in
     record {
       settled = settle-settled (hold (p .0)) (B .itemised);
       itemised = omega (arith, settle-sum (λ k h. untidy h) bare (hold (p .0)), B .itemised);

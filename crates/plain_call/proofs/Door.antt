@@ -103,13 +103,13 @@ message-said G = record {
 }
 
 -- every name of a part as it is written has P
-abbrev WrittenAll : (ℕ → Type 0) → Head Message → Type 0
+abbrev pub WrittenAll : (ℕ → Type 0) → Head Message → Type 0
 WrittenAll P (ambient m) = MessageAll P m
 WrittenAll P (action m) = MessageAll P m
 WrittenAll P (receipt v) = Unit {0}
 WrittenAll P (output m) = MessageAll P m
 
-abbrev Inked : (K P : ℕ → Type 0) → ℕ → Written → Type 0
+abbrev pub Inked : (K P : ℕ → Type 0) → ℕ → Written → Type 0
 Inked K P k w = K k × WrittenAll P (w .head)
 
 record Bodied (G : ℕ) (c : Cursor) (p : Script × Cursor) : Type 0 where
@@ -156,7 +156,7 @@ body-said G = record {
       part-fits G c (output (m .0)) (m .1) (close, m .1) r (omega (arith, a .number, x .number)) (a .names) (none-fits G (m .1) (m .1) (a .low) refl) (f (a .low));
 }
 
-held-all : (P : ℕ → Type 0) (h : Head Message) → WrittenAll P h → HeadAll P (holdHead h)
+pub held-all : (P : ℕ → Type 0) (h : Head Message) → WrittenAll P h → HeadAll P (holdHead h)
 unfolding holdHead
 held-all P (ambient m) x = x
 held-all P (action m) x = items-all P m x

@@ -1,7 +1,7 @@
 -- The questions before the moves: what follows where all are answered by yes, and where one is answered by no. Assumes
 -- nothing.
 use Prim.Native.Nat.{ℕ, _+_, _≤_}
-use mathlib.Core.Path.{_≡_, ap, _∙_}
+use mathlib.Core.Path.{_≡_, refl, ap, _∙_}
 use native.Mathlib.Omega.{arith}
 use lib.ListN.{length}
 use borrow.Author.Tests.{leb-true}
@@ -29,6 +29,10 @@ module _ (c : Call) where
   pub start-all : (P : Start → Type 0) → ((p : Script × Cursor) → readScript (c .script) ≡ got p → P (startOf (c .script) p)) → (s : Start) → starting c ≡ got s → P s
   unfolding starting
   start-all P f s e = bind-all P (readScript (c .script)) (λ p. got (startOf (c .script) p)) (λ p x. got-all P (startOf (c .script) p) (f p x)) s e
+
+  -- a start is its script's own: the script is read, and no move is made
+  pub start-reads : (s : Start) → starting c ≡ got s → (readScript (c .script) ≡ got (s .read)) × (s ≡ startOf (c .script) (s .read))
+  start-reads = start-all (λ s. (readScript (c .script) ≡ got (s .read)) × (s ≡ startOf (c .script) (s .read))) (λ p e. (e, refl))
 
 -- ---- the questions that ask numbers
 

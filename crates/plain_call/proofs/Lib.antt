@@ -1,5 +1,5 @@
--- The theorems about the call as a definition: demand 2, the weight, the bound, how small an answer is, and the same told by
--- closures.
+-- The theorems about the call as a definition: demand 2, the moves as reductions, the weight, the bound, how small an answer
+-- is, and the same told by closures.
 pub mod Runs
 pub mod Door
 pub mod Begun
@@ -9,3 +9,9 @@ pub mod Verdicts
 pub mod ClosureRuns
 pub mod Called
 pub mod Small
+pub mod Reducing
+pub mod Risen
+pub mod Rereading
+pub mod Returning
+pub mod Readmitting
+pub mod Leaving

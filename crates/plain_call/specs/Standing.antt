@@ -1,19 +1,23 @@
--- What a call's yes or no is about (demand 2), and what its moves keep to (demand 3's weight and bound). Not the walk: the
--- script and the rule as read, and the tree that stands after the moves. Assumes nothing: these are definitions.
+-- What a call's yes or no is about (demand 2), what its moves are in the paper's calculus, and what they keep to (demand 3's
+-- weight and bound). Not the walk: the script and the rule as read, and the tree that stands after the moves. Assumes
+-- nothing: these are definitions.
 use Prim.Native.Nat.{ℕ, _≤_}
 use mathlib.Core.Bool.{true, false}
 use mathlib.Core.List.{List, []}
 use mathlib.Core.Path.{_≡_}
+use mathlib.Core.Logic.{_⊎_}
 use lib.ListN.{length, take}
-use Rattle.messages.specs.Reading.{Cursor, got}
+use Rattle.messages.specs.Reading.{Cursor, refuse, got}
 use Rattle.scripts.specs.Script.{Script, readScript}
 use Rattle.scripts.specs.Measures.{movesBound}
 use Rattle.scripts.specs.Tree.{parts}
 use Rattle.machine.specs.PlainMachine.{Machine, weightOf}
 use Rattle.rules.specs.Rule.{Rule}
 use Rattle.calculus.specs.Satisfaction.{Sat}
-use Rattle.calculus.specs.Calculus.{Satisfies, process}
+use Rattle.calculus.specs.Calculus.{Process, _≅_, Satisfies, process}
+use Rattle.calculus.specs.Written.{written, Steps}
 use Rattle.plain_call.specs.Call.{Call, Verdict, accepted, refused, moved, run, begun, Start, partsOf, starting, door}
+use Rattle.plain_call.specs.Call as call
 
 -- what stands when the walk begins: the questions 1 to 6 give the start, 7 to 14 the rule, 15 and 16 the machine
 pub record Standing (c : Call) : Type 0 where
@@ -42,6 +46,51 @@ Decides c (refused q i) = Unit {0}
 abbrev pub After : (c : Call) → Script × Cursor → ℕ → Machine → Type 0
 After c p k m = run (p .1 .number) 0 (take k (c .moves)) (begun (p .0)) ≡ moved m
 
+-- the first k moves of the list are made and are k reductions of the paper's, one after the other: they lead from the script
+-- as it is written to a process that is, up to structural congruence, the process of the tree that then stands
+pub record Reduced (c : Call) (p : Script × Cursor) (k : ℕ) (m : Machine) : Type 0 where
+  pub within : k ≤ length (c .moves)
+  pub made : After c p k m
+  pub last : Process
+  pub steps : Steps k (written (p .0)) last
+  pub stands : last ≅ process (m .tree)
+
+-- An answer's verdict and moves, in the paper's terms. Yes: the whole list leads from the script as written to a process that
+-- satisfies the rule; no: to one that does not; refused: what was made of the list, "the moves made are those before it", is a
+-- chain of reductions too.
+unfoldable pub Reduces : (c : Call) → Verdict → (moves : ℕ) → Type 0
+Reduces c (accepted true) k = (s : Standing c) × (x : Reduced c (s .start .read) k (s .machine)) × (k ≡ length (c .moves)) × Satisfies [] (x .last) (s .rule .0)
+Reduces c (accepted false) k = (s : Standing c) × (x : Reduced c (s .start .read) k (s .machine)) × (k ≡ length (c .moves)) × ¬ Satisfies [] (x .last) (s .rule .0)
+Reduces c (refused q i) k = (p : Script × Cursor) → readScript (c .script) ≡ got p → (m : Machine) × Reduced c p k m
+
+-- words that are read again, where questions 1 to 6 let them in, as a script that says, as it is written, the process of a
+-- machine's tree up to structural congruence
+abbrev pub ReadAs : List ℕ → Machine → Type 0
+ReadAs ws m = (q : Script × Cursor) → readScript ws ≡ got q → written (q .0) ≅ process (m .tree)
+
+-- words for which of the questions 1 to 6 only two can be answered by no: "1. Has the script 1 to 1,024 words?" and "4. Is
+-- nesting at most 64?"
+abbrev pub LetIn : List ℕ → Type 0
+LetIn ws = (q i : ℕ) → readScript ws ≡ refuse q i → (q ≡ 1) ⊎ (q ≡ 4)
+
+-- "The tree is written in the script's form": the words of a tree that stands before the first move or after any say, read
+-- again, the process of that tree
+unfoldable pub Returns : Call → Type 0
+Returns c = (p : Script × Cursor) → readScript (c .script) ≡ got p → (k : ℕ) (m : Machine) → After c p k m → ReadAs (call.written m) m
+
+-- and only questions 1 and 4 can refuse them
+unfoldable pub Readmits : Call → Type 0
+Readmits c = (p : Script × Cursor) → readScript (c .script) ≡ got p → (k : ℕ) (m : Machine) → After c p k m → LetIn (call.written m)
+
+-- and so of the words that a call leaves in the buffer where it is accepted: they say the process that stands
+unfoldable pub Returned : (c : Call) → Verdict → (left : List ℕ) → Type 0
+Returned c (accepted a) ws = (s : Standing c) × ReadAs ws (s .machine)
+Returned c (refused q i) ws = Unit {0}
+
+unfoldable pub Readmitted : Verdict → (left : List ℕ) → Type 0
+Readmitted (accepted a) ws = LetIn ws
+Readmitted (refused q i) ws = Unit {0}
+
 -- "parts in the tree plus twice the receipts made are at most the script's parts", before the first move and after each
 unfoldable pub WeightHolds : Call → Type 0
 WeightHolds c = (p : Script × Cursor) → readScript (c .script) ≡ got p → (k : ℕ) (m : Machine) → After c p k m → weightOf m ≤ parts (p .0)
@@ -61,5 +110,5 @@ MovesBounded ws n = (p : Script × Cursor) → readScript ws ≡ got p → n ≤
 
 -- To unfold this is to unfold every definition of this module: for a proof by computation.
 unfoldable pub computing : Unit {0}
-unfolding Decides WeightHolds WeightBounded MovesBounded
+unfolding Decides Reduces Returns Readmits Returned Readmitted WeightHolds WeightBounded MovesBounded
 computing = tt
