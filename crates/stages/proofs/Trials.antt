@@ -82,8 +82,8 @@ module _ (inner : List ℕ) (limit o rest others : ℕ) (small : rest < 2 ^ 64) 
   behind : l ≡ pairsLeft inner limit o others
   behind =
       let e : (o, headOr 64 (members rest)) ∷ l ≡ (o, headOr 64 (members rest)) ∷ pairsLeft inner limit o others =
-          T .pairs ∙ ap (λ (m : List ℕ). paired o m ++ pairsFrom inner (suc o) (limit - suc o)) (members-step rest (headOr 64 (members rest)) others small some-left refl eo)
-          ∙ paired-first o (headOr 64 (members rest)) (members others) (pairsFrom inner (suc o) (limit - suc o)) in
+      T .pairs ∙ ap (λ (m : List ℕ). paired o m ++ pairsFrom inner (suc o) (limit - suc o)) (members-step rest (headOr 64 (members rest)) others small some-left refl eo)
+      ∙ paired-first o (headOr 64 (members rest)) (members others) (pairsFrom inner (suc o) (limit - suc o)) in
       cc
 
   pub turns-same : o < limit → (others ≡ 0 → ⊥) → Turns inner limit o others l
