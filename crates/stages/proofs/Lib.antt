@@ -6,6 +6,7 @@ pub mod Single
 pub mod Divided
 pub mod Rooms
 pub mod Targeted
+pub mod Trials
 pub mod Scenes
 pub mod Members
 pub mod Turns

@@ -26,10 +26,6 @@ use Rattle.stages.proofs.Loops.{range-first, range-none}
 -- ---- any moves of one actor
 
 module _ {S : Type 0} (make : ℕ → Option S) where
-  to-some : (t : ℕ) (l : List ℕ) (c : S) → make t ≡ some c → movesTo make (t ∷ l) ≡ c ∷ movesTo make l
-  unfolding movesTo keep
-  to-some t l c e = rw e
-
   to-none : (t : ℕ) (l : List ℕ) → isSome (make t) ≡ false → movesTo make (t ∷ l) ≡ movesTo make l
   unfolding movesTo keep isSome
   to-none t l e = is-none (make t) e
@@ -81,43 +77,16 @@ module _ {S : Type 0} (make : ℕ → Option S) where
       let (q, a) = to-kept (has m) 0 64 (λ t u v. sym (has-elem m t (omega arith)) ∙ told t (omega arith)) in
       (sym (to-limit 0 limit (64 - limit) (λ t u. high t (omega arith))) ∙ ap (λ (n : ℕ). movesTo make (range 0 n)) (sym e) ∙ q, a)
 
-  -- the move to the first member comes first, and the others belong to the rest of the set
-  pub to-first : (m t r : ℕ) → m < 2 ^ 64 → (m ≡ 0 → ⊥) → t ≡ headOr 64 (members m) → members r ≡ tail (members m) → Each (members m)
-      → (t < 64) × (isSome (make t) ≡ true) × Each (members r) × ((c : S) → make t ≡ some c → movesTo make (members m) ≡ c ∷ movesTo make (members r))
-  to-first m t r small n first rest a =
-      let e : members m ≡ t ∷ members r = members-step m t r small n first rest in
-      let b : Each (t ∷ members r) = subst Each e a in
-      (first-below m t (members r) e, b .0, b .1, λ c d. ap (movesTo make) e ∙ to-some t (members r) c d)
-
-  pub to-end : (m : ℕ) → m ≡ 0 → movesTo make (members m) ≡ []
-  unfolding movesTo
-  to-end m z = ap (λ (x : ℕ). movesTo make (members x)) z ∙ ap (movesTo make) members-empty
-
--- ---- any moves, actor by actor
-
-module _ {S : Type 0} (make : ℕ → ℕ → Option S) (targets : List ℕ) where
-  pub from-first : (a limit : ℕ) → a < limit → movesFrom make (range a (limit - a)) targets ≡ movesTo (make a) targets ++ movesFrom make (range (suc a) (limit - suc a)) targets
-  unfolding movesFrom
-  from-first a limit h = ap (λ (l : List ℕ). movesFrom make l targets) (range-first a limit h)
-
-  pub from-end : (a limit : ℕ) → limit ≤ a → movesFrom make (range a (limit - a)) targets ≡ []
-  unfolding movesFrom
-  from-end a limit h = ap (λ (l : List ℕ). movesFrom make l targets) (range-none a limit h)
-
 -- ---- the closure's moves
 
 -- what stands after the move (a, t)
 abbrev pub after : Bindings → Closure → (a t : ℕ) → Option ClosureMachine
 after σ b a t = machineAfter σ (closureMove σ a t b)
 
-after-some : (σ : Bindings) (x : Option (Moved Action)) → isSome (machineAfter σ x) ≡ isSome x
+pub after-some : (σ : Bindings) (x : Option (Moved Action)) → isSome (machineAfter σ x) ≡ isSome x
 unfolding isSome
 after-some σ none = refl
 after-some σ (some m) = refl
-
-pub nexts-all : (σ : Bindings) (limit : ℕ) (b : Closure) → nexts σ limit b ≡ movesFrom (after σ b) (range 0 (limit - 0)) (range 0 limit)
-unfolding nexts inOrder
-nexts-all σ limit b = let e : limit ≡ limit - 0 = omega arith in ap (λ (n : ℕ). movesFrom (after σ b) (range 0 n) (range 0 limit)) e
 
 -- no part of the closure is numbered that or more
 abbrev pub Low : ℕ → Closure → Type 0
@@ -150,21 +119,13 @@ move-low σ limit a t b m l e =
     let (x, y, u) = makes-everywhere (under σ) (λ (i : ℕ) (h : ClosureHead). i < limit) K a t (M .makes) (low-under limit b l) in
     (x .1, y .1, under-low limit (m .body) (rw (M .settled) (settle-everywhere (λ (i : ℕ) (h : ClosureHead). i < limit) (allSpent (m .news ++ σ)) (M .before) u)))
 
-move-high : (σ : Bindings) (limit a t : ℕ) (b : Closure) → Low limit b → limit ≤ t → isSome (closureMove σ a t b) ≡ false
+pub move-high : (σ : Bindings) (limit a t : ℕ) (b : Closure) → Low limit b → limit ≤ t → isSome (closureMove σ a t b) ≡ false
 unfolding isSome
 move-high σ limit a t b l g = go (closureMove σ a t b) refl
   where
     go : (x : Option (Moved Action)) → closureMove σ a t b ≡ x → isSome x ≡ false
     go none e = refl
     go (some m) e = absurd (let z = move-low σ limit a t b m l e in let n : t < limit = z .1 in let w : ⊥ = omega arith in w)
-
--- THEOREM: what stands after the moves of an actor is what stands after those to the members of its set of targets.
-pub after-members : (σ : Bindings) (limit : ℕ) (b : Closure) → limit ≤ 64 → Low limit b → (a m : ℕ) → ((t : ℕ) → t < 64 → elem t (members m) ≡ isSome (closureMove σ a t b))
-    → (movesTo (after σ b a) (range 0 limit) ≡ movesTo (after σ b a) (members m)) × Each (after σ b a) (members m)
-after-members σ limit b few l a m told =
-    to-members (after σ b a) m limit few
-    (λ t s. told t s ∙ sym (after-some σ (closureMove σ a t b)))
-    (λ t g. after-some σ (closureMove σ a t b) ∙ move-high σ limit a t b l g)
 
 -- a target of the set is one of a move that is made
 pub after-made : (σ : Bindings) (b : Closure) (a t : ℕ) → isSome (after σ b a t) ≡ true → isSome (closureMove σ a t b) ≡ true

@@ -3,6 +3,7 @@
 -- Assumes nothing.
 use Prim.Native.Nat.{ℕ, suc, _+_, _-_, _^_, _≤_, _<_}
 use mathlib.Core.List.{List, [], _∷_, map}
+use mathlib.Core.Option.{some}
 use mathlib.Core.Path.{_≡_, refl, sym, ap, _∙_, subst}
 use native.Mathlib.Omega.{arith}
 use lib.ListN.{getD, length}
@@ -10,7 +11,7 @@ use lib.Pow.{pow-pos}
 use Rattle.messages.specs.Words.{kind}
 use Rattle.sets.specs.Sets.{members, elem, headOr, tail, both}
 use Rattle.sets.specs.Shares.{picked}
-use Rattle.sets.proofs.Members.{members-step, first-below}
+use Rattle.sets.proofs.Members.{members-step, first-is, first-below}
 use Rattle.sets.proofs.Divisions.{share-first}
 use Rattle.scripts.specs.Tree.{tops, count}
 use Rattle.scripts.specs.Represents.{bodyIn}
@@ -27,11 +28,12 @@ use Rattle.targets.proofs.Aiming.{state-places, state-targets}
 use Rattle.arrays.specs.Stretches.{stretch}
 use Rattle.lent_states.specs.Lent.{kindsIn, startsIn, stateIn}
 use Rattle.arrays.proofs.Copying.{length-stretch, getD-stretch}
-use Rattle.decision.specs.Walk.{Count, range, onYes, onNo, firstYes, look, movesTo, movesFrom, lastName}
+use Rattle.decision.specs.Walk.{Count, range, onYes, onNo, firstYes, look, lastName}
 use Rattle.decision.specs.Walk as spec
 use Rattle.decision.specs.ClosureWalk.{closureSpace, divisions, shares, insides, nexts}
 use Rattle.decision.specs.ClosureWalk as over
-use Rattle.stages.specs.Visits.{countOf, walkedOf, settingOf, indices, Lendable, Scene, here, visits, Visits, Looks, Splits, Tries}
+use Rattle.stages.specs.Order.{pairsFrom, pairsLeft, Turns}
+use Rattle.stages.specs.Visits.{countOf, walkedOf, settingOf, indices, Lendable, Scene, here, visits, Visits, Looks, Splits}
 use Rattle.stages.specs.declared.Counts.{Counts}
 use Rattle.stages.specs.declared.Limits.{Limits}
 use Rattle.stages.specs.declared.Walked.{Walked}
@@ -40,16 +42,18 @@ use Rattle.stages.proofs.Loops.{NotNo, no-goes, no-stops, first-none, f
 use Rattle.stages.proofs.Focused.{top-told, lent-told}
 use Rattle.stages.proofs.Divided.{Shared, shared-last, shared-next, remaining, remaining-all, remaining-first, remaining-none}
 use Rattle.stages.proofs.Rooms.{Rooms, rooms-first, rooms-none, rooms-told}
-use Rattle.stages.proofs.Targeted.{Each, to-first, to-end, from-first, from-end, after, nexts-all, after-members, after-made, after-is}
+use Rattle.stages.proofs.Targeted.{after, after-made, after-is}
+use Rattle.stages.proofs.Trials.{turns-first, turns-fewer, Tried, tried-holds, tried-makes, tried-again, tried-stops, tried-ends, nexts-made}
 use Rattle.stages.proofs.Scenes.{scene-told, scene-piece, scene-inner, scene-chosen, scene-moved, Inside}
 
 -- a loop over the members of a set: its first member, and that the others are fewer
-module _ (m i others : ℕ) (small : m < 2 ^ 64) (some-left : m ≡ 0 → ⊥) (first : i ≡ headOr 64 (members m)) (rest : members others ≡ tail (members m)) where
-  pub first-low : i < 64
-  first-low = first-below m i (members others) (members-step m i others small some-left first rest)
+pub first-low : (m i : ℕ) → m < 2 ^ 64 → (m ≡ 0 → ⊥) → i ≡ headOr 64 (members m) → i < 64
+first-low m i small some-left first = first-below m i (tail (members m)) (first-is m i small some-left first)
 
-  pub rest-shorter : length (members others) < length (members m)
-  rest-shorter = let e : length (members m) ≡ suc (length (members others)) = ap length (members-step m i others small some-left first rest) in omega (arith, e)
+pub rest-shorter : (m i others : ℕ) → m < 2 ^ 64 → (m ≡ 0 → ⊥) → i ≡ headOr 64 (members m) → members others ≡ tail (members m) → length (members others) < length (members m)
+rest-shorter m i others small some-left first rest =
+    let e : length (members m) ≡ suc (length (members others)) = ap length (members-step m i others small some-left first rest) in
+    omega (arith, e)
 
 module _ (program script sets numbers choices : List ℕ) (top somes left index : ℕ) (limits : Limits) where
   abbrev Here : Type 0
@@ -312,105 +316,84 @@ module _ (program script sets numbers choices : List ℕ) (top somes left index 
       let (cs, R, f) = N X q e in
       first-none (seeking X q) now ∙ sym (f ∙ ap (λ (l : List Closure). firstYes (seeking X q) (map (over.beside σ) l) (countOf now)) (rooms-none k w (X .tree) rest cs z R))
 
-  -- ---- SOMETIME after an actor's moves, target by target
+  -- ---- SOMETIME, move by move
 
   abbrev trying : Here → (q : Rule) → ClosureMachine → Count → spec.Walked
   trying X q m n = visits limits left (X .names) (sometime index q) m n
-
-  -- the places and the targets are those of the closure
-  pub record Aimed (places : List ℕ) (a aim : ℕ) (X : Here) : Type 0 where
-    pub stand : (i : ℕ) → i < 64 → getD places i 0 ≡ place σ i (X .tree)
-    pub aims : (t : ℕ) → t < 64 → elem t (members aim) ≡ isSome (closureMove σ a t (X .tree))
-
-  pub Trying : (places : List ℕ) (a aim : ℕ) (c now : Counts) (rest : ℕ) → Type 0
-  Trying places a aim c now rest = (X : Here) (q : Rule) → X .rule ≡ sometime index q → Aimed places a aim X
-      → Each (after σ (X .tree) a) (members rest) × (firstYes (trying X q) (movesTo (after σ (X .tree) a) (members aim)) (countOf c) ≡ firstYes (trying X q) (movesTo (after σ (X .tree) a) (members rest)) (countOf now))
 
   -- no part is numbered the limit or more
   low-told : (X : Here) (i : ℕ) → limits .limit ≤ i → count i (X .tree) ≡ 0
   low-told X i h = X .stage .below i (omega (arith, X .stage .within))
 
-  pub trying-holds : (places : List ℕ) (a aim : ℕ) (c : Counts) → Trying places a aim c c aim
-  unfolding Trying
-  trying-holds places a aim c X q e A = (after-members σ (limits .limit) (X .tree) (X .stage .few) (low-told X) a aim (A .aims) .1, refl)
+  -- the turn at `outer` with the members of `rest`
+  pub record Trying (targets : List ℕ) (c now : Counts) (outer rest : ℕ) : Type 0 where
+    pub pairs : List (ℕ × ℕ)
+    pub turn : Turns targets (limits .limit) outer rest pairs
+    pub tried : (X : Here) (q : Rule) → X .rule ≡ sometime index q → Tried (after σ (X .tree)) (trying X q) (nexts σ (limits .limit) (X .tree)) c now pairs
 
-  module _ (places : List ℕ) (a aim : ℕ) (c now : Counts) (rest t others : ℕ) (N : Trying places a aim c now rest) (small : rest < 2 ^ 64) (some-left : rest ≡ 0 → ⊥) (et : t ≡ headOr 64 (members rest)) (eo : members others ≡ tail (members rest))
-      (sets′ numbers′ : List ℕ) (top′ : ℕ) (L : Lendable script sets′ numbers′ top′) (ek : kindsIn numbers′ ≡ kindsIn numbers) (es : startsIn numbers′ ≡ startsIn numbers)
-      (M : Moves script (kindsIn numbers) (startsIn numbers) state (stateIn sets′ numbers′ top′) (λ i. getD places i 0) a t)
-      (x : Walked) (visited : Visits program script sets′ numbers′ choices top′ somes left index limits now x) where
-    turn-tried : (X : Here) (q : Rule) → X .rule ≡ sometime index q → Aimed places a aim X
-        → (m : ClosureMachine) × (walkedOf x ≡ trying X q m (countOf now)) × Each (after σ (X .tree) a) (members others)
-        × (firstYes (trying X q) (movesTo (after σ (X .tree) a) (members aim)) (countOf c) ≡ firstYes (trying X q) (m ∷ movesTo (after σ (X .tree) a) (members others)) (countOf now))
-    unfolding Trying
-    turn-tried X q e A =
-        let (each, f) = N X q e A in
-        let (low, is, Q, made) = to-first (after σ (X .tree) a) rest t others small some-left et eo each in
-        let (m, em, R, eb) = M (X .weight) (X .spent) (X .tree) (omega (arith, X .stage .slack)) (X .stage .stands) (A .stand, after-made σ (X .tree) a t is) in (
-          here script sets′ numbers′ top′ (m .body),
-          visited (scene-moved program script sets numbers choices top somes left index limits X sets′ numbers′ top′ L ek es a t m em R) ∙ ap (λ (y : Rule). visits limits left (X .names) y (here script sets′ numbers′ top′ (m .body)) (countOf now)) e,
-          Q,
-          f ∙ ap (λ (l : List ClosureMachine). firstYes (trying X q) l (countOf now)) (made (here script sets′ numbers′ top′ (m .body)) (after-is σ (boundIn script (stateIn sets′ numbers′ top′)) (X .tree) a t m em eb)),
-        )
+  -- the turn's first move, and that the turn behind it has fewer
+  module _ (targets : List ℕ) (c now : Counts) (a rest : ℕ) (N : Trying targets c now a rest) (small : rest < 2 ^ 64) (some-left : rest ≡ 0 → ⊥) where
+    pub trying-low : a < limits .limit
+    trying-low = N .turn .low some-left
 
-    pub trying-again : (d : Counts) → x ≡ No d → Trying places a aim c d others
-    unfolding Trying
-    trying-again d ex X q e A =
-        let (m, v, Q, f) = turn-tried X q e A in
-        (Q, f ∙ first-goes (trying X q) m (movesTo (after σ (X .tree) a) (members others)) (countOf now) x d v ex)
+    pub trying-less : (outer′ rest′ : ℕ) → ((l : List (ℕ × ℕ)) → Turns targets (limits .limit) a rest ((a, headOr 64 (members rest)) ∷ l) → Turns targets (limits .limit) outer′ rest′ l)
+        → length (pairsLeft targets (limits .limit) outer′ rest′) < length (pairsLeft targets (limits .limit) a rest)
+    trying-less outer′ rest′ next = turns-fewer targets (limits .limit) a rest small some-left (N .pairs) (N .turn) outer′ rest′ next
 
-    pub trying-stops : NotNo x → Tries program script sets numbers choices top somes left index limits c x places a aim
-    trying-stops h X q e P T =
-        let (m, v, Q, f) = turn-tried X q e (record { stand = P; aims = T }) in
-        first-stops (trying X q) m (movesTo (after σ (X .tree) a) (members others)) (countOf now) x v h ∙ sym f
+  -- the places and the targets that are found
+  module _ (places targets : List ℕ) (P : Located (members (getD sets 129 0)) (bodyIn (state .kids)) (λ i. getD places i 0))
+      (T : (a : ℕ) → a < 64 → TargetsOf (bodyIn (state .kids)) (getD (state .looks .acts) a 0) (members (getD (state .looks .aims) a 0)) (λ i. getD places i 0) a (members (getD targets a 0))) where
+    placed : (X : Here) (i : ℕ) → i < 64 → getD places i 0 ≡ place σ i (X .tree)
+    placed X = state-places script (kindsIn numbers) (startsIn numbers) (X .weight) (X .spent) state (X .tree) (X .stage .ready) (few X) (X .stage .stands) (λ i. getD places i 0) P
 
-  pub trying-ends : (places : List ℕ) (a aim : ℕ) (c now : Counts) (rest : ℕ) → Trying places a aim c now rest → rest ≡ 0 → Tries program script sets numbers choices top somes left index limits c (No now) places a aim
-  unfolding Trying
-  trying-ends places a aim c now rest N z X q e P T =
-      let (each, f) = N X q e (record { stand = P; aims = T }) in
-      first-none (trying X q) now ∙ sym (f ∙ ap (λ (l : List ClosureMachine). firstYes (trying X q) l (countOf now)) (to-end (after σ (X .tree) a) rest z))
+    aimed : (X : Here) (a : ℕ) → a < limits .limit → (t : ℕ) → t < 64 → elem t (members (getD targets a 0)) ≡ isSome (closureMove σ a t (X .tree))
+    aimed X a h =
+        let low : a < 64 = omega (arith, X .stage .few) in
+        state-targets script (kindsIn numbers) (startsIn numbers) (X .weight) (X .spent) state (X .tree) (X .stage .ready) (few X) (X .stage .stands) (λ i. getD places i 0) P a low (members (getD targets a 0)) (T a low)
 
-  -- ---- SOMETIME, actor by actor
+    pub trying-holds : (c : Counts) (outer rest : ℕ) → Turns targets (limits .limit) outer rest (pairsFrom targets 0 (limits .limit - 0)) → Trying targets c c outer rest
+    trying-holds c outer rest U = record {
+      pairs = pairsFrom targets 0 (limits .limit - 0);
+      turn = U;
+      tried = λ X q e. tried-holds (after σ (X .tree)) (trying X q) (pairsFrom targets 0 (limits .limit - 0)) (nexts σ (limits .limit) (X .tree)) (nexts-made σ (limits .limit) (X .tree) (X .stage .few) (low-told X) targets (aimed X)) c;
+    }
 
-  pub Acting : (c now : Counts) (a : ℕ) → Type 0
-  Acting c now a = (X : Here) (q : Rule) → X .rule ≡ sometime index q
-      → firstYes (trying X q) (nexts σ (limits .limit) (X .tree)) (countOf c) ≡ firstYes (trying X q) (movesFrom (after σ (X .tree)) (range a (limits .limit - a)) (range 0 (limits .limit))) (countOf now)
+    module _ (c now : Counts) (a rest t : ℕ) (N : Trying targets c now a rest) (small : rest < 2 ^ 64) (some-left : rest ≡ 0 → ⊥) (et : t ≡ headOr 64 (members rest)) where
+      abbrev first-left : (l : List (ℕ × ℕ)) × (N .pairs ≡ (a, t) ∷ l)
+      first-left = turns-first (N .turn) small some-left t et
 
-  pub acting-holds : (c : Counts) → Acting c c 0
-  unfolding Acting
-  acting-holds c X q e = ap (λ (l : List ClosureMachine). firstYes (trying X q) l (countOf c)) (nexts-all σ (limits .limit) (X .tree))
+      abbrev others : List (ℕ × ℕ)
+      others = first-left .0
 
-  module _ (places : List ℕ) (P : Located (members (getD sets 129 0)) (bodyIn (state .kids)) (λ i. getD places i 0)) (a aim : ℕ)
-      (T : TargetsOf (bodyIn (state .kids)) (getD (state .looks .acts) a 0) (members (getD (state .looks .aims) a 0)) (λ i. getD places i 0) a (members aim))
-      (c now : Counts) (N : Acting c now a) (low : a < limits .limit) (x : Walked) (Z : Tries program script sets numbers choices top somes left index limits now x places a aim) where
-    turn-acted : (X : Here) (q : Rule) → X .rule ≡ sometime index q
-        → (l : List ClosureMachine) × (walkedOf x ≡ firstYes (trying X q) l (countOf now))
-        × (firstYes (trying X q) (nexts σ (limits .limit) (X .tree)) (countOf c) ≡ onNo (firstYes (trying X q) l (countOf now)) (λ n. firstYes (trying X q) (movesFrom (after σ (X .tree)) (range (suc a) (limits .limit - suc a)) (range 0 (limits .limit))) n))
-    unfolding Acting
-    turn-acted X q e =
-        let few-parts : a < 64 = omega (arith, X .stage .few) in
-        let aimed : (t : ℕ) → t < 64 → elem t (members aim) ≡ isSome (closureMove σ a t (X .tree)) = state-targets script (kindsIn numbers) (startsIn numbers) (X .weight) (X .spent) state (X .tree) (X .stage .ready) (few X) (X .stage .stands) (λ i. getD places i 0) P a few-parts (members aim) T in
-        let placed : (i : ℕ) → i < 64 → getD places i 0 ≡ place σ i (X .tree) = state-places script (kindsIn numbers) (startsIn numbers) (X .weight) (X .spent) state (X .tree) (X .stage .ready) (few X) (X .stage .stands) (λ i. getD places i 0) P in (
-          movesTo (after σ (X .tree) a) (range 0 (limits .limit)),
-          Z X q e placed aimed ∙ ap (λ (l : List ClosureMachine). firstYes (trying X q) l (countOf now)) (sym (after-members σ (limits .limit) (X .tree) (X .stage .few) (low-told X) a aim aimed .0)),
-          N X q e ∙ ap (λ (l : List ClosureMachine). firstYes (trying X q) l (countOf now)) (from-first (after σ (X .tree)) (range 0 (limits .limit)) a (limits .limit) low)
-              ∙ first-append (trying X q) (movesTo (after σ (X .tree) a) (range 0 (limits .limit))) (movesFrom (after σ (X .tree)) (range (suc a) (limits .limit - suc a)) (range 0 (limits .limit))) (countOf now),
-        )
+      tried-first : (X : Here) (q : Rule) → X .rule ≡ sometime index q → Tried (after σ (X .tree)) (trying X q) (nexts σ (limits .limit) (X .tree)) c now ((a, t) ∷ others)
+      tried-first X q e = subst (λ (l : List (ℕ × ℕ)). Tried (after σ (X .tree)) (trying X q) (nexts σ (limits .limit) (X .tree)) c now l) (first-left .1) (N .tried X q e)
 
-    pub acting-again : (d : Counts) → x ≡ No d → Acting c d (a + 1)
-    unfolding Acting
-    acting-again d ex X q e =
-        let (l, v, f) = turn-acted X q e in
-        let z : suc a ≡ a + 1 = omega arith in
-        f ∙ no-goes x (firstYes (trying X q) l (countOf now)) v (λ n. firstYes (trying X q) (movesFrom (after σ (X .tree)) (range (suc a) (limits .limit - suc a)) (range 0 (limits .limit))) n) d ex
-        ∙ ap (λ (y : ℕ). firstYes (trying X q) (movesFrom (after σ (X .tree)) (range y (limits .limit - y)) (range 0 (limits .limit))) (countOf d)) z
+      -- the move leads to the next state, and the visit is made there
+      module _ (sets′ numbers′ : List ℕ) (top′ : ℕ) (L : Lendable script sets′ numbers′ top′) (ek : kindsIn numbers′ ≡ kindsIn numbers) (es : startsIn numbers′ ≡ startsIn numbers)
+          (M : Moves script (kindsIn numbers) (startsIn numbers) state (stateIn sets′ numbers′ top′) (λ i. getD places i 0) a t)
+          (x : Walked) (visited : Visits program script sets′ numbers′ choices top′ somes left index limits now x) where
+        turn-tried : (X : Here) (q : Rule) → X .rule ≡ sometime index q → (m : ClosureMachine) × (after σ (X .tree) a t ≡ some m) × (walkedOf x ≡ trying X q m (countOf now))
+        turn-tried X q e =
+            let is = tried-makes (after σ (X .tree)) (trying X q) (nexts σ (limits .limit) (X .tree)) c now a t others (tried-first X q e) in
+            let (m, em, R, eb) = M (X .weight) (X .spent) (X .tree) (omega (arith, X .stage .slack)) (X .stage .stands) (placed X, after-made σ (X .tree) a t is) in (
+              here script sets′ numbers′ top′ (m .body),
+              after-is σ (boundIn script (stateIn sets′ numbers′ top′)) (X .tree) a t m em eb,
+              visited (scene-moved program script sets numbers choices top somes left index limits X sets′ numbers′ top′ L ek es a t m em R) ∙ ap (λ (y : Rule). visits limits left (X .names) y (here script sets′ numbers′ top′ (m .body)) (countOf now)) e,
+            )
 
-    pub acting-stops : NotNo x → (X : Here) (q : Rule) → X .rule ≡ sometime index q → walkedOf x ≡ firstYes (trying X q) (nexts σ (limits .limit) (X .tree)) (countOf c)
-    acting-stops h X q e =
-        let (l, v, f) = turn-acted X q e in
-        no-stops x (firstYes (trying X q) l (countOf now)) v (λ n. firstYes (trying X q) (movesFrom (after σ (X .tree)) (range (suc a) (limits .limit - suc a)) (range 0 (limits .limit))) n) h ∙ sym f
+        pub trying-again : (d : Counts) → x ≡ No d → (outer′ rest′ : ℕ) → ((l : List (ℕ × ℕ)) → Turns targets (limits .limit) a rest ((a, headOr 64 (members rest)) ∷ l) → Turns targets (limits .limit) outer′ rest′ l) → Trying targets c d outer′ rest′
+        trying-again d ex outer′ rest′ next = record {
+          pairs = others;
+          turn = next others (subst (λ (y : ℕ). Turns targets (limits .limit) a rest ((a, y) ∷ others)) et (subst (Turns targets (limits .limit) a rest) (first-left .1) (N .turn)));
+          tried = λ X q e.
+              let (m, is, v) = turn-tried X q e in
+              tried-again (after σ (X .tree)) (trying X q) (nexts σ (limits .limit) (X .tree)) c now a t others (tried-first X q e) m is x v d ex;
+        }
 
-  pub acting-ends : (c now : Counts) (a : ℕ) → Acting c now a → limits .limit ≤ a → (X : Here) (q : Rule) → X .rule ≡ sometime index q → walkedOf (No now) ≡ firstYes (trying X q) (nexts σ (limits .limit) (X .tree)) (countOf c)
-  unfolding Acting
-  acting-ends c now a N h X q e =
-      first-none (trying X q) now
-      ∙ sym (N X q e ∙ ap (λ (l : List ClosureMachine). firstYes (trying X q) l (countOf now)) (from-end (after σ (X .tree)) (range 0 (limits .limit)) a (limits .limit) h))
+        pub trying-stops : NotNo x → (X : Here) (q : Rule) → X .rule ≡ sometime index q → walkedOf x ≡ firstYes (trying X q) (nexts σ (limits .limit) (X .tree)) (countOf c)
+        trying-stops h X q e =
+            let (m, is, v) = turn-tried X q e in
+            tried-stops (after σ (X .tree)) (trying X q) (nexts σ (limits .limit) (X .tree)) c now a t others (tried-first X q e) m is x v h
+
+  pub trying-ends : (targets : List ℕ) (c now : Counts) (outer rest : ℕ) → Trying targets c now outer rest → rest ≡ 0 → (X : Here) (q : Rule) → X .rule ≡ sometime index q → walkedOf (No now) ≡ firstYes (trying X q) (nexts σ (limits .limit) (X .tree)) (countOf c)
+  trying-ends targets c now outer rest N z X q e = tried-ends (after σ (X .tree)) (trying X q) (nexts σ (limits .limit) (X .tree)) c now (N .pairs) (N .tried X q e) (N .turn .ends z)

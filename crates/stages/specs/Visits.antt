@@ -6,23 +6,21 @@ use mathlib.Core.List.{List, [], _∷_}
 use mathlib.Core.Path.{_≡_}
 use lib.Dec.{ltb}
 use lib.ListN.{getD, length}
-use Rattle.sets.specs.Sets.{members, elem}
+use Rattle.sets.specs.Sets.{members}
 use Rattle.messages.specs.Words.{kind, member}
 use Rattle.scripts.specs.Tree.{count}
 use Rattle.scripts.specs.Represents.{bodyIn}
-use Rattle.rules.specs.Rule.{Later, Term, constant, chosen, Names, lookup, Rule, beside, sometime, ruleIndex}
+use Rattle.rules.specs.Rule.{Later, Term, constant, chosen, Names, lookup, Rule, beside, ruleIndex}
 use Rattle.messages.specs.Reading.{Cursor}
 use Rattle.rule_reader.specs.Ruled.{Ruled, Tabled}
 use Rattle.rule_reader.specs.declared.RuleTable.{RuleTable}
-use Rattle.closure_machine.specs.Closure.{Closure, ClosureMachine, closureMove}
-use Rattle.closures.specs.Searches.{place}
+use Rattle.closure_machine.specs.Closure.{Closure, ClosureMachine}
 use Rattle.closures.specs.Represents.{heads, boundIn, Ready, Represents}
 use Rattle.closures.specs.declared.State.{State}
-use Rattle.targets.specs.Targets.{isSome}
 use Rattle.lent_states.specs.Lent.{Small, kindsIn, startsIn, stateIn}
-use Rattle.decision.specs.Walk.{Count, Setting, onYes, firstYes, look, walk, walkFrom, movesTo}
+use Rattle.decision.specs.Walk.{Count, Setting, onYes, firstYes, look, walk, walkFrom}
 use Rattle.decision.specs.Walk as spec
-use Rattle.decision.specs.ClosureWalk.{closureSpace, machineAfter}
+use Rattle.decision.specs.ClosureWalk.{closureSpace}
 use Rattle.stages.specs.Pieces.{Divides}
 use Rattle.stages.specs.declared.Counts.{Counts}
 use Rattle.stages.specs.declared.Limits.{Limits}
@@ -139,14 +137,6 @@ module _ (program script sets numbers chosen : List ℕ) (top somes left index :
       (X : Scene program script sets numbers chosen top somes (suc left) index limits) (q p : Rule) (d : Closure × Closure) → X .rule ≡ beside index q p
       → Divides (bodyIn (stateIn sets numbers top .kids)) (heads script (kindsIn numbers) (startsIn numbers) (stateIn sets numbers top .offsets)) (X .tree) top share d
       → walkedOf r ≡ onYes (visits limits left (X .names) q (here script sets numbers top (d .0)) (countOf c)) (λ n. visits limits left (X .names) p (here script sets numbers top (d .1)) n)
-
-  -- "SOMETIME after each move" of the actor a, whose targets are the members of `aim`
-  abbrev pub Tries : (places : List ℕ) (a aim : ℕ) → Type 0
-  Tries places a aim =
-      (X : Scene program script sets numbers chosen top somes (suc left) index limits) (q : Rule) → X .rule ≡ sometime index q
-      → ((i : ℕ) → i < 64 → getD places i 0 ≡ place (boundIn script (stateIn sets numbers top)) i (X .tree))
-      → ((t : ℕ) → t < 64 → elem t (members aim) ≡ isSome (closureMove (boundIn script (stateIn sets numbers top)) a t (X .tree)))
-      → walkedOf r ≡ firstYes (λ m n. visits limits left (X .names) (sometime index q) m n) (movesTo (λ t. machineAfter (boundIn script (stateIn sets numbers top)) (closureMove (boundIn script (stateIn sets numbers top)) a t (X .tree))) (members aim)) (countOf c)
 
 -- r is what the whole walk answers, for every rule that the words and the table hold and every closure for which the state
 -- stands, all of whose parts are the script's

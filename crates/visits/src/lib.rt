@@ -19,9 +19,11 @@ use walk::is_called;
 use walk::lend_state;
 use walk::loaded;
 use walk::next_state;
+use walk::next_turn;
+use walk::turn_from;
 ghost use Prim.Native.Nat.{_+_, _-_, _≤_, _<_};
 ghost use Rattle.closures.specs.Represents.{Ready};
-ghost use Rattle.stages.specs.Visits.{Visitable, Visits as Answers, Looks as Finds, Splits, Tries, Walks};
+ghost use Rattle.stages.specs.Visits.{Visitable, Visits as Answers, Looks as Finds, Splits, Walks};
 
 // A visit at the word of the spot, whose depth is among the depths left.
 fn visit<'a>(
@@ -253,51 +255,6 @@ fn some_name<'a>(
     Walked::No(now)
 }
 
-// SOMETIME after each move of the actor a to one of the targets aim.
-fn moves_of<'a>(
-    program: &'a [u32; 768],
-    script: &'a [u32],
-    sets: &'a [u64; 131],
-    numbers: &'a [u32; 481],
-    chosen: &'a [u32; 256],
-    spot: Spot,
-    limits: Limits,
-    c: Counts,
-    places: &'a [usize; 64],
-    a: usize,
-    aim: u64,
-) -> Walked
-    requires { ⌜ (a < 64) × (spot .at < 256) × (spot .left ≤ 255) × Visitable (now script) (now sets) (now numbers) (spot .top) (spot .somes) limits ⌝ }
-    ensures { λ r. ⌜ Tries (now (program .entry)) (now (script .entry)) (now (sets .entry)) (now (numbers .entry)) (now (chosen .entry)) (spot .top) (spot .somes) (spot .left) (spot .at) limits c r (now (places .entry)) a aim ⌝ }
-{
-    let mut now = c;
-    let mut rest = aim;
-    while rest != 0 {
-        let t = sets::first(rest);
-        let others = sets::rest(rest);
-        let step = Step::Move(a, t);
-        let s = next_state(script, sets, numbers, spot.top, places, step);
-        let mut moved = spot;
-        moved.top = s.top;
-        let w = visit(
-            program,
-            script,
-            &s.sets,
-            &s.numbers,
-            chosen,
-            moved,
-            limits,
-            now,
-        );
-        let Walked::No(c2) = w else {
-            return w;
-        };
-        now = c2;
-        rest = others;
-    }
-    Walked::No(now)
-}
-
 // SOMETIME: the inner rule; on no, SOMETIME after each move by rising actor, then target.
 fn sometime<'a>(
     program: &'a [u32; 768],
@@ -319,29 +276,30 @@ fn sometime<'a>(
         return w;
     };
     let found = all_targets(sets, numbers, spot.top);
-    let limit = limits.limit;
     let mut now = c2;
-    let mut a: usize = 0;
-    while a < limit {
-        let aim = found.targets[a];
-        let w2 = moves_of(
+    let mut turn = turn_from(&found.targets, 0, limits.limit);
+    while turn.rest != 0 {
+        let a = turn.outer;
+        let t = sets::first(turn.rest);
+        let step = Step::Move(a, t);
+        let s = next_state(script, sets, numbers, spot.top, &found.places, step);
+        let mut moved = spot;
+        moved.top = s.top;
+        let w2 = visit(
             program,
             script,
-            sets,
-            numbers,
+            &s.sets,
+            &s.numbers,
             chosen,
-            spot,
+            moved,
             limits,
             now,
-            &found.places,
-            a,
-            aim,
         );
         let Walked::No(c3) = w2 else {
             return w2;
         };
         now = c3;
-        a += 1;
+        turn = next_turn(&found.targets, turn, limits.limit);
     }
     Walked::No(now)
 }

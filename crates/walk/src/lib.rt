@@ -9,12 +9,13 @@ use moves::make_move;
 use settling::place_part;
 use targets::locate;
 use targets::targets;
+ghost use mathlib.Core.List.{List, _∷_};
 ghost use mathlib.Core.Path.{_≡_};
-ghost use Prim.Native.Nat.{ℕ, _+_, _≤_, _<_};
+ghost use Prim.Native.Nat.{ℕ, _+_, _-_, _≤_, _<_};
 ghost use lib.ListN.{length, getD};
 ghost use Rattle.messages.specs.Message.{name as called};
 ghost use Rattle.messages.specs.declared.Named.the-variants.{Called};
-ghost use Rattle.sets.specs.Sets.{members};
+ghost use Rattle.sets.specs.Sets.{members, headOr};
 ghost use Rattle.scripts.specs.Tree.{ambient, close, part, count};
 ghost use Rattle.scripts.specs.Represents.{bodyIn};
 ghost use Rattle.machine.specs.Moves.{sameName};
@@ -27,6 +28,7 @@ ghost use Rattle.targets.specs.Makes.{Moves};
 ghost use Rattle.arrays.specs.Stretches.{stretch};
 ghost use Rattle.lent_states.specs.Lent.{Small, kindsIn, startsIn, stateIn};
 ghost use Rattle.walk.specs.declared.Step.the-variants.{Move, Place};
+ghost use Rattle.stages.specs.Order.{pairsFrom, Turns};
 ghost use Rattle.stages.specs.Visits.{Lendable};
 
 // Where a visit is made: the word's index, the set of the top parts, the SOMEs around, and the depths left.
@@ -41,6 +43,13 @@ pub struct Spot {
 pub struct Found {
     pub places: [usize; 64],
     pub targets: [u64; 64],
+}
+
+// The moves still to be tried: those of the outer number with the inner ones that are left, then those of the outer numbers
+// behind it; none where none of the inner ones is left.
+pub struct Turn {
+    pub outer: usize,
+    pub rest: u64,
 }
 
 // A state and its part table for lending, beside the set of its top parts.
@@ -86,6 +95,35 @@ pub fn all_targets<'a>(sets: &'a [u64; 131], numbers: &'a [u32; 481], top: u64) 
         a += 1;
     }
     found
+}
+
+// The first turn from that outer number on, each outer number below the limit having its set of inner ones.
+pub fn turn_from<'a>(inner: &'a [u64; 64], from: usize, limit: usize) -> Turn
+    requires { ⌜ limit ≤ 64 ⌝ }
+    ensures { λ r. ⌜ Turns (now (inner .entry)) limit (r .outer) (r .rest) (pairsFrom (now (inner .entry)) from (limit - from)) ⌝ }
+{
+    let mut outer = from;
+    while outer < limit {
+        let rest = inner[outer];
+        if rest != 0 {
+            return Turn { outer, rest };
+        }
+        outer += 1;
+    }
+    Turn { outer, rest: 0 }
+}
+
+// The turn behind the first move of that one.
+pub fn next_turn<'a>(inner: &'a [u64; 64], turn: Turn, limit: usize) -> Turn
+    requires { ⌜ (limit ≤ 64) × (turn .rest ≡ 0 → ⊥) × (turn .outer < limit) ⌝ }
+    ensures { λ r. ⌜ ((l : List (ℕ × ℕ)) → Turns (now (inner .entry)) limit (turn .outer) (turn .rest) ((turn .outer, headOr 64 (members (turn .rest))) ∷ l) → Turns (now (inner .entry)) limit (r .outer) (r .rest) l) ⌝ }
+{
+    let outer = turn.outer;
+    let rest = sets::rest(turn.rest);
+    if rest != 0 {
+        return Turn { outer, rest };
+    }
+    turn_from(inner, outer + 1, limit)
 }
 
 // The state for lending.

@@ -7,9 +7,9 @@ use Rattle.sets.specs.Sets.{members}
 use Rattle.sets.proofs.Members.{not-none}
 use Rattle.stages.proofs.Scenes.{visitable-top}
 use Rattle.stages.proofs.Turns.{first-low, rest-shorter, somewhere-first, somewhere-then, Seeking, seeking-holds, seeking-again, seeking-stops, seeking-ends}
-use Rattle.visits.proofs.+at_name+beside+either+moves_of+negation+placed_in+some_name+sometime+somewhere+split+visit.Lts-somewhere as lts
+use Rattle.visits.proofs.+at_name+beside+either+negation+placed_in+some_name+sometime+somewhere+split+visit.Lts-somewhere as lts
 use Rattle.visits.proofs.somewhere.Reads as reads
-use Rattle.visits.proofs.+at_name+beside+either+moves_of+negation+placed_in+some_name+sometime+somewhere+split+visit.Proof.Measures.{somewhere-at, somewhere-claims}
+use Rattle.visits.proofs.+at_name+beside+either+negation+placed_in+some_name+sometime+somewhere+split+visit.Proof.Measures.{somewhere-at, somewhere-claims}
 
 abbrev pub Inv-loop : lts.InvT-loop
 Inv-loop program script sets numbers chosen spot limits now₀ rest₀ now rest = (rest < 2 ^ 64) × Seeking program script sets numbers chosen (spot .top) (spot .somes) (spot .left) (spot .at) limits now₀ now rest
@@ -46,10 +46,10 @@ module _ (t : ℕ) where
   rest-requires c κs = not-none _ (c .before .before .loop .inv .0) (c .before .loop-test .taken)
 
   pub mul-inside : lts.Need-mul-inside (somewhere-claims t) (somewhere-at t) reads.Post Inv-loop μ-loop
-  mul-inside c = omega (arith, first-low _ _ _ (c .before .before .before .loop .inv .0) (c .before .before .loop-test .taken) (c .before .first .ensures) (c .rest .ensures))
+  mul-inside c = omega (arith, first-low _ _ (c .before .before .before .loop .inv .0) (c .before .before .loop-test .taken) (c .before .first .ensures))
 
   pub element-copy-out-inside : lts.Need-element-copy-out-inside (somewhere-claims t) (somewhere-at t) reads.Post Inv-loop μ-loop
-  element-copy-out-inside c = omega (arith, first-low _ _ _ (c .before .before .before .loop .inv .0) (c .before .before .loop-test .taken) (c .before .first .ensures) (c .rest .ensures))
+  element-copy-out-inside c = omega (arith, first-low _ _ (c .before .before .before .loop .inv .0) (c .before .before .loop-test .taken) (c .before .first .ensures))
 
   pub visit-requires-2 : lts.Need-visit-requires-2 (somewhere-claims t) (somewhere-at t) reads.Post Inv-loop μ-loop
   visit-requires-2 c κs = (omega (arith, c .before .before .before .before .before .before .before .before .before .before .before .before .before .pre .0), (omega (arith, c .before .before .before .before .before .before .before .before .before .before .before .before .before .pre .1 .1), visitable-top (c .before .before .before .before .before .before .before .before .before .before .before .before .before .pre .1 .2) _))

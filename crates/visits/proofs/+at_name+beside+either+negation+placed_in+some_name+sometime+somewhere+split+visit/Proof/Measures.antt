@@ -6,7 +6,6 @@ use borrow.Fn.PlainCycle.{Measures, is, falls, and}
 use Rattle.visits.proofs.at_name.Kinds as at-name-kinds
 use Rattle.visits.proofs.beside.Kinds as beside-kinds
 use Rattle.visits.proofs.either.Kinds as either-kinds
-use Rattle.visits.proofs.moves_of.Kinds as moves-of-kinds
 use Rattle.visits.proofs.negation.Kinds as negation-kinds
 use Rattle.visits.proofs.placed_in.Kinds as placed-in-kinds
 use Rattle.visits.proofs.some_name.Kinds as some-name-kinds
@@ -17,7 +16,6 @@ use Rattle.visits.proofs.visit.Kinds as visit-kinds
 use Rattle.visits.proofs.at_name.Reads as at-name
 use Rattle.visits.proofs.beside.Reads as beside
 use Rattle.visits.proofs.either.Reads as either
-use Rattle.visits.proofs.moves_of.Reads as moves-of
 use Rattle.visits.proofs.negation.Reads as negation
 use Rattle.visits.proofs.placed_in.Reads as placed-in
 use Rattle.visits.proofs.some_name.Reads as some-name
@@ -40,17 +38,18 @@ use Rattle.sets.proofs.rest.Reads as rest-reads
 use Rattle.walk.proofs.all_targets.Reads as all-targets-reads
 use Rattle.walk.proofs.is_called.Reads as is-called-reads
 use Rattle.walk.proofs.next_state.Reads as next-state-reads
-use Rattle.visits.proofs.+at_name+beside+either+moves_of+negation+placed_in+some_name+sometime+somewhere+split+visit.Lts-at_name as at-name-lts
-use Rattle.visits.proofs.+at_name+beside+either+moves_of+negation+placed_in+some_name+sometime+somewhere+split+visit.Lts-beside as beside-lts
-use Rattle.visits.proofs.+at_name+beside+either+moves_of+negation+placed_in+some_name+sometime+somewhere+split+visit.Lts-either as either-lts
-use Rattle.visits.proofs.+at_name+beside+either+moves_of+negation+placed_in+some_name+sometime+somewhere+split+visit.Lts-moves_of as moves-of-lts
-use Rattle.visits.proofs.+at_name+beside+either+moves_of+negation+placed_in+some_name+sometime+somewhere+split+visit.Lts-negation as negation-lts
-use Rattle.visits.proofs.+at_name+beside+either+moves_of+negation+placed_in+some_name+sometime+somewhere+split+visit.Lts-placed_in as placed-in-lts
-use Rattle.visits.proofs.+at_name+beside+either+moves_of+negation+placed_in+some_name+sometime+somewhere+split+visit.Lts-some_name as some-name-lts
-use Rattle.visits.proofs.+at_name+beside+either+moves_of+negation+placed_in+some_name+sometime+somewhere+split+visit.Lts-sometime as sometime-lts
-use Rattle.visits.proofs.+at_name+beside+either+moves_of+negation+placed_in+some_name+sometime+somewhere+split+visit.Lts-somewhere as somewhere-lts
-use Rattle.visits.proofs.+at_name+beside+either+moves_of+negation+placed_in+some_name+sometime+somewhere+split+visit.Lts-split as split-lts
-use Rattle.visits.proofs.+at_name+beside+either+moves_of+negation+placed_in+some_name+sometime+somewhere+split+visit.Lts-visit as visit-lts
+use Rattle.walk.proofs.next_turn.Reads as next-turn-reads
+use Rattle.walk.proofs.turn_from.Reads as turn-from-reads
+use Rattle.visits.proofs.+at_name+beside+either+negation+placed_in+some_name+sometime+somewhere+split+visit.Lts-at_name as at-name-lts
+use Rattle.visits.proofs.+at_name+beside+either+negation+placed_in+some_name+sometime+somewhere+split+visit.Lts-beside as beside-lts
+use Rattle.visits.proofs.+at_name+beside+either+negation+placed_in+some_name+sometime+somewhere+split+visit.Lts-either as either-lts
+use Rattle.visits.proofs.+at_name+beside+either+negation+placed_in+some_name+sometime+somewhere+split+visit.Lts-negation as negation-lts
+use Rattle.visits.proofs.+at_name+beside+either+negation+placed_in+some_name+sometime+somewhere+split+visit.Lts-placed_in as placed-in-lts
+use Rattle.visits.proofs.+at_name+beside+either+negation+placed_in+some_name+sometime+somewhere+split+visit.Lts-some_name as some-name-lts
+use Rattle.visits.proofs.+at_name+beside+either+negation+placed_in+some_name+sometime+somewhere+split+visit.Lts-sometime as sometime-lts
+use Rattle.visits.proofs.+at_name+beside+either+negation+placed_in+some_name+sometime+somewhere+split+visit.Lts-somewhere as somewhere-lts
+use Rattle.visits.proofs.+at_name+beside+either+negation+placed_in+some_name+sometime+somewhere+split+visit.Lts-split as split-lts
+use Rattle.visits.proofs.+at_name+beside+either+negation+placed_in+some_name+sometime+somewhere+split+visit.Lts-visit as visit-lts
 
 abbrev pub μ-at-name : Measures 1 at-name-kinds.ps ℕ
 μ-at-name κs a = 3 * a .1 .1 .1 .1 .1 .0 .left + 2
@@ -60,9 +59,6 @@ abbrev pub μ-beside : Measures 1 beside-kinds.ps ℕ
 
 abbrev pub μ-either : Measures 1 either-kinds.ps ℕ
 μ-either κs a = 3 * a .1 .1 .1 .1 .1 .0 .left + 2
-
-abbrev pub μ-moves-of : Measures 1 moves-of-kinds.ps ℕ
-μ-moves-of κs a = 3 * a .1 .1 .1 .1 .1 .0 .left + 1
 
 abbrev pub μ-negation : Measures 1 negation-kinds.ps ℕ
 μ-negation κs a = 3 * a .1 .1 .1 .1 .1 .0 .left + 2
@@ -102,12 +98,6 @@ either-at t = and 1 either-kinds.ps (is 1 either-kinds.ps μ-either t) either.Pr
 
 abbrev pub either-below : ℕ → In 1 either-kinds.ps
 either-below t = and 1 either-kinds.ps (falls 1 either-kinds.ps _<_ μ-either t) either.Pre
-
-abbrev pub moves-of-at : ℕ → In 1 moves-of-kinds.ps
-moves-of-at t = and 1 moves-of-kinds.ps (is 1 moves-of-kinds.ps μ-moves-of t) moves-of.Pre
-
-abbrev pub moves-of-below : ℕ → In 1 moves-of-kinds.ps
-moves-of-below t = and 1 moves-of-kinds.ps (falls 1 moves-of-kinds.ps _<_ μ-moves-of t) moves-of.Pre
 
 abbrev pub negation-at : ℕ → In 1 negation-kinds.ps
 negation-at t = and 1 negation-kinds.ps (is 1 negation-kinds.ps μ-negation t) negation.Pre
@@ -160,9 +150,6 @@ beside-claims t = (split-below t, split.Post, next-share-reads.Asked, next-share
 abbrev pub either-claims : ℕ → either-lts.Claims
 either-claims t = (visit-below t, visit.Post, wide-reads.Asked, wide-reads.Learnt)
 
-abbrev pub moves-of-claims : ℕ → moves-of-lts.Claims
-moves-of-claims t = (first-reads.Asked, first-reads.Learnt, rest-reads.Asked, rest-reads.Learnt, next-state-reads.Asked, next-state-reads.Learnt, visit-below t, visit.Post)
-
 abbrev pub negation-claims : ℕ → negation-lts.Claims
 negation-claims t = (visit-below t, visit.Post, turned-reads.Asked, turned-reads.Learnt)
 
@@ -173,7 +160,7 @@ abbrev pub some-name-claims : ℕ → some-name-lts.Claims
 some-name-claims t = (with-name-reads.Asked, with-name-reads.Learnt, visit-below t, visit.Post)
 
 abbrev pub sometime-claims : ℕ → sometime-lts.Claims
-sometime-claims t = (visit-below t, visit.Post, all-targets-reads.Asked, all-targets-reads.Learnt, moves-of-below t, moves-of.Post)
+sometime-claims t = (visit-below t, visit.Post, all-targets-reads.Asked, all-targets-reads.Learnt, turn-from-reads.Asked, turn-from-reads.Learnt, first-reads.Asked, first-reads.Learnt, next-state-reads.Asked, next-state-reads.Learnt, next-turn-reads.Asked, next-turn-reads.Learnt)
 
 abbrev pub somewhere-claims : ℕ → somewhere-lts.Claims
 somewhere-claims t = (visit-below t, visit.Post, intersection-reads.Asked, intersection-reads.Learnt, first-reads.Asked, first-reads.Learnt, rest-reads.Asked, rest-reads.Learnt)

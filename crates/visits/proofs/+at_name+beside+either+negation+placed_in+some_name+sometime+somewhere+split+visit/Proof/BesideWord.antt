@@ -3,9 +3,9 @@ use Prim.Native.Nat.{ℕ, _-_, _^_, _<_}
 use native.Mathlib.Omega.{arith}
 use borrow.Author.Needs.{needs}
 use Rattle.stages.proofs.Turns.{Dividing, dividing-holds, dividing-again, dividing-stops, dividing-last}
-use Rattle.visits.proofs.+at_name+beside+either+moves_of+negation+placed_in+some_name+sometime+somewhere+split+visit.Lts-beside as lts
+use Rattle.visits.proofs.+at_name+beside+either+negation+placed_in+some_name+sometime+somewhere+split+visit.Lts-beside as lts
 use Rattle.visits.proofs.beside.Reads as reads
-use Rattle.visits.proofs.+at_name+beside+either+moves_of+negation+placed_in+some_name+sometime+somewhere+split+visit.Proof.Measures.{beside-at, beside-claims}
+use Rattle.visits.proofs.+at_name+beside+either+negation+placed_in+some_name+sometime+somewhere+split+visit.Proof.Measures.{beside-at, beside-claims}
 
 abbrev pub Inv-loop : lts.InvT-loop
 Inv-loop program script sets numbers chosen spot limits now₀ share₀ now share = (share < 2 ^ 64) × Dividing program script sets numbers chosen (spot .top) (spot .somes) (spot .left) (spot .at) limits now₀ now share

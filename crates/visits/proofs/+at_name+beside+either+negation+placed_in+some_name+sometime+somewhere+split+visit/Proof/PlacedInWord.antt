@@ -6,9 +6,9 @@ use borrow.Author.Needs.{needs}
 use Rattle.stages.proofs.Scenes.{visitable-state}
 use Rattle.stages.proofs.Members.{placed-number, placed-far, placed-name, placed-goes}
 use Rattle.walk.proofs.Lendings.{step-places, step-apart}
-use Rattle.visits.proofs.+at_name+beside+either+moves_of+negation+placed_in+some_name+sometime+somewhere+split+visit.Lts-placed_in as lts
+use Rattle.visits.proofs.+at_name+beside+either+negation+placed_in+some_name+sometime+somewhere+split+visit.Lts-placed_in as lts
 use Rattle.visits.proofs.placed_in.Reads as reads
-use Rattle.visits.proofs.+at_name+beside+either+moves_of+negation+placed_in+some_name+sometime+somewhere+split+visit.Proof.Measures.{placed-in-at, placed-in-claims}
+use Rattle.visits.proofs.+at_name+beside+either+negation+placed_in+some_name+sometime+somewhere+split+visit.Proof.Measures.{placed-in-at, placed-in-claims}
 
 module _ (t : ℕ) where
   pub add-wide : lts.Need-add-wide (placed-in-claims t) (placed-in-at t) reads.Post

@@ -5,9 +5,9 @@ use native.Mathlib.Omega.{arith}
 use borrow.Author.Needs.{needs}
 use Rattle.stages.proofs.Members.{single-low, at-several, at-other, at-goes}
 use Rattle.stages.proofs.Scenes.{visitable-top}
-use Rattle.visits.proofs.+at_name+beside+either+moves_of+negation+placed_in+some_name+sometime+somewhere+split+visit.Lts-at_name as lts
+use Rattle.visits.proofs.+at_name+beside+either+negation+placed_in+some_name+sometime+somewhere+split+visit.Lts-at_name as lts
 use Rattle.visits.proofs.at_name.Reads as reads
-use Rattle.visits.proofs.+at_name+beside+either+moves_of+negation+placed_in+some_name+sometime+somewhere+split+visit.Proof.Measures.{at-name-at, at-name-claims}
+use Rattle.visits.proofs.+at_name+beside+either+negation+placed_in+some_name+sometime+somewhere+split+visit.Proof.Measures.{at-name-at, at-name-claims}
 
 module _ (t : ℕ) where
   pub is-single-requires : lts.Need-is-single-requires (at-name-claims t) (at-name-at t) reads.Post

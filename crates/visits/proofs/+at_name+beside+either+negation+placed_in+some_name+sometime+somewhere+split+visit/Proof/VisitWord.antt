@@ -4,9 +4,9 @@ use mathlib.Core.Path.{refl}
 use native.Mathlib.Omega.{arith}
 use borrow.Author.Needs.{needs}
 use Rattle.stages.proofs.Members.{deep-visits, over-visits, outside-visits, counted-visits, always-finds, void-finds, other-kind, none-finds}
-use Rattle.visits.proofs.+at_name+beside+either+moves_of+negation+placed_in+some_name+sometime+somewhere+split+visit.Lts-visit as lts
+use Rattle.visits.proofs.+at_name+beside+either+negation+placed_in+some_name+sometime+somewhere+split+visit.Lts-visit as lts
 use Rattle.visits.proofs.visit.Reads as reads
-use Rattle.visits.proofs.+at_name+beside+either+moves_of+negation+placed_in+some_name+sometime+somewhere+split+visit.Proof.Measures.{visit-at, visit-claims}
+use Rattle.visits.proofs.+at_name+beside+either+negation+placed_in+some_name+sometime+somewhere+split+visit.Proof.Measures.{visit-at, visit-claims}
 
 module _ (t : ℕ) where
   -- a set fits into 64 bits

@@ -5,9 +5,9 @@ use native.Mathlib.Omega.{arith}
 use borrow.Author.Needs.{needs}
 use Rattle.stages.proofs.Scenes.{visitable-some}
 use Rattle.stages.proofs.Turns.{Naming, naming-none, naming-holds, naming-again, naming-stops, naming-ends}
-use Rattle.visits.proofs.+at_name+beside+either+moves_of+negation+placed_in+some_name+sometime+somewhere+split+visit.Lts-some_name as lts
+use Rattle.visits.proofs.+at_name+beside+either+negation+placed_in+some_name+sometime+somewhere+split+visit.Lts-some_name as lts
 use Rattle.visits.proofs.some_name.Reads as reads
-use Rattle.visits.proofs.+at_name+beside+either+moves_of+negation+placed_in+some_name+sometime+somewhere+split+visit.Proof.Measures.{some-name-at, some-name-claims}
+use Rattle.visits.proofs.+at_name+beside+either+negation+placed_in+some_name+sometime+somewhere+split+visit.Proof.Measures.{some-name-at, some-name-claims}
 
 abbrev pub Inv-loop : lts.InvT-loop
 Inv-loop program script sets numbers chosen spot limits around last now₀ n₀ now n = (1 ≤ n) × (n ≤ last + 1) × (last ≡ limits .greatest + spot .somes + 1) × Naming program script sets numbers chosen (spot .top) (spot .somes) (spot .left) (spot .at) limits now₀ now n

@@ -4,9 +4,9 @@ use native.Mathlib.Omega.{arith}
 use borrow.Author.Needs.{needs}
 use Rattle.stages.proofs.Members.{split-stops, split-goes}
 use Rattle.stages.proofs.Scenes.{visitable-top}
-use Rattle.visits.proofs.+at_name+beside+either+moves_of+negation+placed_in+some_name+sometime+somewhere+split+visit.Lts-split as lts
+use Rattle.visits.proofs.+at_name+beside+either+negation+placed_in+some_name+sometime+somewhere+split+visit.Lts-split as lts
 use Rattle.visits.proofs.split.Reads as reads
-use Rattle.visits.proofs.+at_name+beside+either+moves_of+negation+placed_in+some_name+sometime+somewhere+split+visit.Proof.Measures.{split-at, split-claims}
+use Rattle.visits.proofs.+at_name+beside+either+negation+placed_in+some_name+sometime+somewhere+split+visit.Proof.Measures.{split-at, split-claims}
 
 module _ (t : ℕ) where
   pub add-here : lts.Need-add-here (split-claims t) (split-at t) reads.Post
