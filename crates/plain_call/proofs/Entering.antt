@@ -6,7 +6,7 @@ use native.Mathlib.Omega.{arith}
 use lib.ListN.{length}
 use borrow.Author.Tests.{leb-true}
 use Rattle.messages.specs.Reading.{Cursor, Reading, refuse, got, ask}
-use Rattle.messages.proofs.Readings.{got-inj, bind-inv, bind-all, got-all, bind-got, bind-refuse, ask-inv}
+use Rattle.messages.proofs.Readings.{bind-inv, bind-all, got-all, bind-got, bind-refuse, ask-inv}
 use Rattle.messages.proofs.Places.{Within, bind-within, ask-within}
 use Rattle.scripts.specs.Script.{Script, readScript}
 use Rattle.rules.specs.Rule.{Rule}

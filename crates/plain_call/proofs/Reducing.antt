@@ -111,14 +111,14 @@ module _ (c : Call) where
   answer-begins : (p : Script × Cursor) → readScript (c .script) ≡ got p → Begins (p .1 .number) 0 (c .moves) (begun (p .0)) (answer c .moves)
   unfolding refusal
   answer-begins p e =
-      let none = none-begins (p .1 .number) (c .moves) (begun (p .0)) in
+      let unmoved = none-begins (p .1 .number) (c .moves) (begun (p .0)) in
       let own : (s : Start) → starting c ≡ got s → (k : ℕ) → Begins (partsOf s) 0 (c .moves) (s .machine) k → Begins (p .1 .number) 0 (c .moves) (begun (p .0)) k =
       λ s d k x. subst (λ (s : Start). Begins (partsOf s) 0 (c .moves) (s .machine) k) (got-inj (sym d ∙ starting-got c p e)) x in
       let all : (s : Standing c) → Begins (p .1 .number) 0 (c .moves) (begun (p .0)) (length (c .moves)) =
       λ s. own (s .start) (s .starts) (length (c .moves)) (moved-begins (partsOf (s .start)) (c .moves) (s .start .machine) (s .machine) (s .moves-made)) in
       answer-ends c (λ a. Begins (p .1 .number) 0 (c .moves) (begun (p .0)) (a .moves)) (record {
-        unread = λ q i d. none;
-        shut = λ s d q i h. none;
+        unread = λ q i d. unmoved;
+        shut = λ s d q i h. unmoved;
         stuck = λ s d r h q i x. own s d i (halted-begins (partsOf s) (c .moves) (s .machine) q i x);
         tired = λ s q i v d. all s;
         unfit = λ s a n d l. all s;
