@@ -3,7 +3,7 @@
 use Prim.Native.Nat.{ℕ, _+_, _≤_, _<_}
 use mathlib.Core.Bool.{true, _&&_, _||_}
 use mathlib.Core.List.{List, [], _∷_}
-use mathlib.Core.Path.{_≡_, refl, sym, ap, _∙_, subst}
+use mathlib.Core.Path.{_≡_, refl, sym, ap, ap₂, _∙_, subst}
 use native.Mathlib.Omega.{arith}
 use lib.Dec.{leb, ltb, eqb}
 use lib.ListN.{length, take}
@@ -87,8 +87,12 @@ module _ (p k : ℕ) where
 
 -- ---- what a reader's outcome says
 
-Read≢Refused : {B : Type 0} {n q i : ℕ} → Read n ≡ Refused q i → B
+pub Read≢Refused : {B : Type 0} {n q i : ℕ} → Read n ≡ Refused q i → B
 Read≢Refused e = let z : _≡_ {A = ℕ} 0 1 = cc in absurd (let w : ⊥ = omega arith in w)
+
+-- an outcome is one refusal only
+pub one-refusal : (p j q i : ℕ) (b : List ℕ) → Refused p j ≡ Refused q i → refusal p j 0 0 b ≡ refusal q i 0 0 b
+one-refusal p j q i b e = let x : p ≡ q = cc in let y : j ≡ i = cc in ap₂ (λ (m n : ℕ). refusal m n 0 0 b) x y
 
 refused-so : {A : Type 0} (x : Reading (A × Cursor)) (q i : ℕ) → outcome x ≡ Refused q i → x ≡ refuse q i
 unfolding outcome

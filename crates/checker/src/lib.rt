@@ -24,6 +24,7 @@ ghost use mathlib.Core.List.{List, []};
 ghost use Prim.Native.Nat.{ℕ, _+_, _≤_, _<_, max};
 ghost use lib.ListN.{length, take};
 ghost use Rattle.messages.specs.Reading.{got};
+ghost use Rattle.messages.specs.declared.Outcome.the-variants.{Refused};
 ghost use Rattle.scripts.specs.Measures.{greatestName};
 ghost use Rattle.rules.specs.Rule.{greatestRuleName};
 ghost use Rattle.closure_machine.specs.Closure.{Closure, unfolded, unfoldMachine};
@@ -36,6 +37,11 @@ ghost use Rattle.plain_call.specs.Call.{accepted, refusal, walked, terms, answe
 ghost use Rattle.checker.specs.Answering.{verdictOf, answerOf, askedOf, callOf};
 ghost use Rattle.plain_call.specs.Standing.{Decides, Reduces, Returns, Readmits, Returned, Readmitted, MovesBounded, WeightHolds, WeightBounded};
 ghost use Rattle.checker.specs.Calling.{ScriptHeld, RuleHeld, Stands};
+
+// The most visits that may be asked for, and the most moves of a list: questions 13 and 14.
+const MOST_PATIENCE: u32 = 16777216;
+
+const MOST_MOVES: usize = 4096;
 
 // Yes or no, or the question that refuses the call, and its place.
 pub enum Verdict {
@@ -67,6 +73,17 @@ fn refused(question: u32, place: usize, moves: usize, visits: u32) -> Answer
         weight: 0,
         words: 0,
     }
+}
+
+// A reader's refusal, handed up as the call's: no move is made, and no visit.
+fn handed_up(outcome: Outcome) -> Answer
+    ensures { λ r. ⌜ ((question place : ℕ) (buffer : List ℕ) → outcome ≡ Refused question place → answerOf r buffer ≡ refusal question place 0 0 buffer) ⌝ }
+{
+    let Outcome::Refused { question, place } = outcome else {
+        // Nothing is promised here: what was read to its end is no refusal, and is not handed up.
+        return refused(0, 0, 0, 0);
+    };
+    refused(question, place, 0, 0)
 }
 
 // The standing tree written into the buffer, where it fits.
@@ -242,21 +259,21 @@ fn with_terms<'a, 'b>(
     let mut sets = l.sets;
     let mut numbers = l.numbers;
     let ended = run_list(script, &mut sets, &mut numbers, moves, parts.count);
-    let Ended::Halted { question, place } = ended else {
-        let top = sets[64];
-        let after = borrowed(&sets, &numbers, top);
-        return with_moves(
-            script,
-            parts,
-            after.state,
-            moves.len(),
-            rule,
-            table,
-            patience,
-            out,
-        );
-    };
-    refused(question, place, place, 0)
+    if let Ended::Halted { question, place } = ended {
+        return refused(question, place, place, 0);
+    }
+    let top = sets[64];
+    let after = borrowed(&sets, &numbers, top);
+    with_moves(
+        script,
+        parts,
+        after.state,
+        moves.len(),
+        rule,
+        table,
+        patience,
+        out,
+    )
 }
 
 // The questions that ask nothing but numbers, in their order: 13 and 14.
@@ -269,13 +286,13 @@ fn ask_terms(patience: u32, moves: usize) -> Outcome
             place: 0,
         };
     }
-    if 16777216 < patience {
+    if MOST_PATIENCE < patience {
         return Outcome::Refused {
             question: 13,
             place: 0,
         };
     }
-    if 4096 < moves {
+    if MOST_MOVES < moves {
         return Outcome::Refused {
             question: 14,
             place: 0,
@@ -298,10 +315,10 @@ fn with_rule<'a, 'b>(
     ensures { λ r. ⌜ answerOf r (now (out .exit)) ≡ answer (callOf (now (script .entry)) (now (moves .entry)) (now (rule .entry)) patience (now (out .entry))) ⌝ }
 {
     let asked = ask_terms(patience, moves.len());
-    let Outcome::Refused { question, place } = asked else {
-        return with_terms(script, parts, moves, rule, table, patience, out);
+    let Outcome::Read { next: _ } = asked else {
+        return handed_up(asked);
     };
-    refused(question, place, 0, 0)
+    with_terms(script, parts, moves, rule, table, patience, out)
 }
 
 // Questions 7 to 19, of a call whose script is read.
@@ -318,10 +335,10 @@ fn with_script<'a, 'b>(
 {
     let scan = read_whole_rule(rule, parts.count);
     let outcome = scan.outcome;
-    let Outcome::Refused { question, place } = outcome else {
-        return with_rule(script, parts, moves, rule, scan.table, patience, out);
+    let Outcome::Read { next: _ } = outcome else {
+        return handed_up(outcome);
     };
-    refused(question, place, 0, 0)
+    with_rule(script, parts, moves, rule, scan.table, patience, out)
 }
 
 // The whole call: the questions at the door in their order, the moves, the walk, and the tree that then stands.
@@ -342,8 +359,8 @@ pub fn call<'a, 'b>(
 {
     let scan = read_script(script);
     let outcome = scan.outcome;
-    let Outcome::Refused { question, place } = outcome else {
-        return with_script(script, scan.table, moves, rule, patience, out);
+    let Outcome::Read { next: _ } = outcome else {
+        return handed_up(outcome);
     };
-    refused(question, place, 0, 0)
+    with_script(script, scan.table, moves, rule, patience, out)
 }

@@ -1,5 +1,6 @@
 -- `call` meets its contract: questions 1 to 6, and what is promised of the answer. Assumes nothing.
 use mathlib.Core.Path.{sym, _∙_}
+use Rattle.plain_call.specs.Call.{Call}
 use Rattle.checker.specs.Answering.{callOf}
 use Rattle.plain_call.proofs.Called.{answers-script}
 use Rattle.checker.proofs.Calling.{script-refused, script-held}
@@ -8,23 +9,32 @@ use borrow.Author.Needs.{needs}
 use Rattle.checker.proofs.call.Statement.{statement}
 use Rattle.checker.proofs.call.Tie as tie
 
+-- the start, from the place behind the reader, and what the call is lent there
+abbrev read-start : tie.After-read-script → tie.Start
+read-start c = c .before .before .before .before .before
+
+abbrev lent : tie.Start → Call
+lent s = callOf (s .args .script .now) (s .args .moves .now) (s .args .rule .now) (s .args .patience) (s .args .out .now)
+
 with-script-requires : tie.Need-with-script-requires
 with-script-requires c κs =
-    let at-read-script = c .before .before .before in
-    script-held (c .before .before .before .before .before .before .before .before .args .script .now) (at-read-script .read-script .result) (at-read-script .read-script .ensures .0) (c .before .enum-told .given .0 .0) (c .before .enum-told .given .1) (at-read-script .read-script .ensures .1)
+    let yes = c .before .enum-told .given in
+    let r = c .before .before .before in
+    script-held (read-start r .args .script .now) (r .read-script .result) (r .read-script .ensures .0) (yes .0 .0) (yes .1) (r .read-script .ensures .1)
 
 returns : tie.Need-returns
 returns c =
-    let at-with-script = c .before .before in
-    let start = at-with-script .before .before .before .before .before .before .before .before .before in
-    call-kept (callOf (start .args .script .now) (start .args .moves .now) (start .args .rule .now) (start .args .patience) (start .args .out .now)) (at-with-script .with-script .result) _ (at-with-script .with-script .ensures)
+    let no = c .before .enum-told2 .given in
+    let r = c .before .before .before in
+    let s = read-start r in
+    call-kept (lent s) (c .handed-up .result) (s .args .out .now)
+    (c .handed-up .ensures (no .0 .0) (no .0 .1 .0) (s .args .out .now) (no .1)
+    ∙ sym (answers-script (lent s) (no .0 .0) (no .0 .1 .0) (script-refused (s .args .script .now) (r .read-script .result) (r .read-script .ensures .0) (no .0 .0) (no .0 .1 .0) (no .1))))
 
 returns-2 : tie.Need-returns-2
 returns-2 c =
-    let at-outcome = c .before .before in
-    let at-read-script = at-outcome .before .before in
-    let start = at-read-script .before .before .before .before .before in
-    call-kept (callOf (start .args .script .now) (start .args .moves .now) (start .args .rule .now) (start .args .patience) (start .args .out .now)) (c .refused .result) (start .args .out .now) (c .refused .ensures (start .args .out .now) ∙ sym (answers-script (callOf (start .args .script .now) (start .args .moves .now) (start .args .rule .now) (start .args .patience) (start .args .out .now)) (at-outcome .outcome .given .0 .0) (at-outcome .outcome .given .0 .1 .0) (script-refused (start .args .script .now) (at-read-script .read-script .result) (at-read-script .read-script .ensures .0) (at-outcome .outcome .given .0 .0) (at-outcome .outcome .given .0 .1 .0) (at-outcome .outcome .given .1))))
+    let w = c .before .before in
+    call-kept (lent (read-start (w .before .before .before .before))) (w .with-script .result) _ (w .with-script .ensures)
 
 pub call-spec : {M : Type 1} → statement M
 call-spec =
@@ -33,8 +43,8 @@ call-spec =
     (λ c κs. search needs)
     (λ c. search needs)
     (λ c. search needs)
+    (λ c κs. search needs)
+    returns
     with-script-requires
     (λ c. search needs)
-    returns
-    (λ c κs. search needs)
     returns-2)

@@ -5,19 +5,24 @@ use borrow.Author.Needs.{needs}
 use Rattle.checker.proofs.with_script.Statement.{statement}
 use Rattle.checker.proofs.with_script.Tie as tie
 
+-- the start, from the place behind the reader
+abbrev read-start : tie.After-read-whole-rule → tie.Start
+read-start c = c .before .before .before .before .before
+
 with-rule-requires : tie.Need-with-rule-requires
 with-rule-requires c κs =
-    let at-read-whole-rule = c .before .before .before in
-    let start = at-read-whole-rule .before .before .before .before .before in
-    (start .pre, rule-held (start .args .parts .count) (start .args .rule .now) (at-read-whole-rule .read-whole-rule .result) (at-read-whole-rule .read-whole-rule .ensures .0) (c .before .enum-told .given .0 .0) (c .before .enum-told .given .1) (at-read-whole-rule .read-whole-rule .ensures .1))
+    let yes = c .before .enum-told .given in
+    let r = c .before .before .before in
+    let s = read-start r in
+    (s .pre, rule-held (s .args .parts .count) (s .args .rule .now) (r .read-whole-rule .result) (r .read-whole-rule .ensures .0) (yes .0 .0) (yes .1) (r .read-whole-rule .ensures .1))
 
-returns-2 : tie.Need-returns-2
-returns-2 c =
-    let at-outcome = c .before .before in
-    let at-read-whole-rule = at-outcome .before .before in
-    let start = at-read-whole-rule .before .before .before .before .before in
-    c .refused .ensures (start .args .out .now)
-    ∙ sym (says-rule (start .args .script .now) (start .args .moves .now) (start .args .rule .now) (start .args .patience) (start .args .out .now) (start .args .parts) (start .pre) (at-outcome .outcome .given .0 .0) (at-outcome .outcome .given .0 .1 .0) (rule-refused (start .args .parts .count) (start .args .rule .now) (at-read-whole-rule .read-whole-rule .result) (at-read-whole-rule .read-whole-rule .ensures .0) (at-outcome .outcome .given .0 .0) (at-outcome .outcome .given .0 .1 .0) (at-outcome .outcome .given .1)))
+returns : tie.Need-returns
+returns c =
+    let no = c .before .enum-told2 .given in
+    let r = c .before .before .before in
+    let s = read-start r in
+    c .handed-up .ensures (no .0 .0) (no .0 .1 .0) (s .args .out .now) (no .1)
+    ∙ sym (says-rule (s .args .script .now) (s .args .moves .now) (s .args .rule .now) (s .args .patience) (s .args .out .now) (s .args .parts) (s .pre) (no .0 .0) (no .0 .1 .0) (rule-refused (s .args .parts .count) (s .args .rule .now) (r .read-whole-rule .result) (r .read-whole-rule .ensures .0) (no .0 .0) (no .0 .1 .0) (no .1)))
 
 pub with-script-spec : {M : Type 1} → statement M
 with-script-spec =
@@ -26,8 +31,8 @@ with-script-spec =
     (λ c κs. search needs)
     (λ c. search needs)
     (λ c. search needs)
+    (λ c κs. search needs)
+    returns
     with-rule-requires
     (λ c. search needs)
-    (λ c. search needs)
-    (λ c κs. search needs)
-    returns-2)
+    (λ c. search needs))

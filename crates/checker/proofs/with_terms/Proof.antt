@@ -102,11 +102,6 @@ with-moves-requires c κs =
 
 returns : tie.Need-returns
 returns c =
-    let b = c .before .before .before .before in
-    c .before .before .with-moves .ensures (list-start (borrowed-list b) .args .moves .now) refl (stood b)
-
-returns-2 : tie.Need-returns-2
-returns-2 c =
     let l = c .before .before .before .before in
     let s = list-start l in
     let f = list-lend l .before .first-state in
@@ -116,6 +111,11 @@ returns-2 c =
     (f .result) (f .ensures .1 (s .args .parts .count) (s .pre .0 .read .0) (s .pre .0 .tabled)) (f .ensures .0 .1) (left l)
     (no .0 .0) (no .0 .1 .0) (transport (λ q. Ran l (no .1 q) (left l)) (ran l)))
 
+returns-2 : tie.Need-returns-2
+returns-2 c =
+    let b = c .before .before .before .before in
+    c .before .before .with-moves .ensures (list-start (borrowed-list b) .args .moves .now) refl (stood b)
+
 pub with-terms-spec : {M : Type 1} → statement M
 with-terms-spec =
     tie.close
@@ -124,11 +124,11 @@ with-terms-spec =
     lend-requires
     run-list-requires
     (λ c. search needs)
+    (λ c κs. search needs)
+    returns
     (λ c. search needs)
     (λ c. search needs)
     (λ c κs. search needs)
     with-moves-requires
     (λ c. search needs)
-    returns
-    (λ c κs. search needs)
     returns-2)
