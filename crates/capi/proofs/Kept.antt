@@ -10,49 +10,39 @@ use borrow.Author.Tests.{le-leb, lt-leb}
 use Rattle.plain_call.specs.Call.{Call, Verdict, accepted, refused, Answer, answer}
 use Rattle.checker.specs.Answering.{verdictOf, answerOf}
 use Rattle.checker.specs.declared.Answer as engine
-use Rattle.plain_call.specs.Standing.{Decides, Reduces, Returns, Readmits, MovesBounded, WeightHolds, WeightBounded}
+use Rattle.plain_call.specs.Standing.{Decides, Reduces, MovesBounded, WeightHolds, WeightBounded}
 use Rattle.checker.proofs.Concluding.{decides}
 use Rattle.plain_call.proofs.ClosureRuns.{moves-bounded}
 use Rattle.plain_call.proofs.Runs.{weight-holds}
 use Rattle.plain_call.proofs.Reducing.{reduces}
-use Rattle.plain_call.proofs.Returning.{returns}
-use Rattle.plain_call.proofs.Readmitting.{readmits}
 use Rattle.plain_call.proofs.Leaving as leaving
 use Rattle.plain_call.proofs.Leaving.{leftBy}
 use Rattle.plain_call.proofs.Small.{PlaceWithin, Small, answer-small, weight-bounded}
 use Rattle.answer_words.specs.Told.{saidOf, placeOf, told}
 use Rattle.capi.specs.Told.{returned, answered, written, Decided, ReducedBy, ReturnedBy, ReadmittedBy, left}
 
--- what is kept to where the call returns r and leaves those words for its answer and in the output buffer
-abbrev pub Keeps : Call → (r : ℕ) → (words out : List ℕ) → Type 0
-Keeps c r words out =
-    (r ≡ 1 → Decided c (getD words 0 0))
+-- what is kept to where the call returns r, given words for its answer, and leaves these and those in the output buffer
+abbrev pub Keeps : Call → (r : ℕ) → (given words out : List ℕ) → Type 0
+Keeps c r given words out =
+    (r ≡ 0 → (words ≡ given) × (out ≡ c .buffer))
+    × ((r ≡ 1 → Decided c (getD words 0 0))
     × ((r ≡ 1 → MovesBounded (c .script) (getD words 3 0))
     × ((WeightHolds c × (r ≡ 1 → WeightBounded (c .script) (getD words 6 0)))
     × ((r ≡ 1 → ReducedBy c (getD words 0 0) (getD words 3 0))
-    × ((Returns c × (r ≡ 1 → ReturnedBy c (getD words 0 0) (left words out))) × (Readmits c × (r ≡ 1 → ReadmittedBy (getD words 0 0) (left words out)))))))
+    × ((r ≡ 1 → ReturnedBy c (getD words 0 0) (left words out)) × (r ≡ 1 → ReadmittedBy (getD words 0 0) (left words out)))))))
+
+one≢none : {B : Type 0} → _≡_ {A = ℕ} 0 1 → B
+one≢none e = absurd (let z : ⊥ = omega arith in z)
 
 -- no room: nothing is done
-pub short : (c : Call) (words : List ℕ) → length words < 8 → (0 ≡ returned words) × ((words ≡ answered c words) × ((c .buffer ≡ written c words) × Keeps c 0 words (c .buffer)))
+pub short : (c : Call) (words : List ℕ) → length words < 8 → (0 ≡ returned words) × ((words ≡ answered c words) × ((c .buffer ≡ written c words) × Keeps c 0 words words (c .buffer)))
 short c words l = (
   rw (lt-leb 8 (length words) l) refl,
   (
     rw (lt-leb 8 (length words) l) refl,
-    (
-      rw (lt-leb 8 (length words) l) refl,
-      (
-        λ e. absurd (zero-one e),
-        (
-          λ e. absurd (zero-one e),
-          ((weight-holds c, λ e. absurd (zero-one e)), (λ e. absurd (zero-one e), ((returns c, λ e. absurd (zero-one e)), (readmits c, λ e. absurd (zero-one e))))),
-        ),
-      ),
-    ),
+    (rw (lt-leb 8 (length words) l) refl, (λ e. (refl, refl), (one≢none, (one≢none, ((weight-holds c, one≢none), (one≢none, (one≢none, one≢none))))))),
   ),
 )
-  where
-    zero-one : _≡_ {A = ℕ} 0 1 → ⊥
-    zero-one e = omega arith
 
 -- what the first word says of a verdict
 said-yes : (v : Verdict) → saidOf v ≡ 2 → v ≡ accepted true
@@ -101,22 +91,22 @@ readmitted c = (
 )
 
 -- the words of an answer and of the tree keep to it
-told-keeps : (c : Call) (rest : List ℕ) → Keeps c 1 (told (answer c) ++ rest) (answer c .buffer)
+told-keeps : (c : Call) (given rest : List ℕ) → Keeps c 1 given (told (answer c) ++ rest) (answer c .buffer)
 unfolding told
-told-keeps c rest = (
-  λ e. decided c,
-  (λ e. moves-bounded c, ((weight-holds c, λ e. weight-bounded c), (λ e. reduced c, ((returns c, λ e. returning c), (readmits c, λ e. readmitted c))))),
+told-keeps c given rest = (
+  λ e. one≢none (sym e),
+  (λ e. decided c, (λ e. moves-bounded c, ((weight-holds c, λ e. weight-bounded c), (λ e. reduced c, (λ e. returning c, λ e. readmitted c))))),
 )
 
 -- room: the call's answer is told
 pub told-whole : (c : Call) (words : List ℕ) (r : engine.Answer) (out : List ℕ) {exit : List ℕ} → answerOf r out ≡ answer c → 8 ≤ length words → exit ≡ told (answerOf r out) ++ drop 8 words
-    → (1 ≡ returned words) × ((exit ≡ answered c words) × ((out ≡ written c words) × Keeps c 1 exit out))
+    → (1 ≡ returned words) × ((exit ≡ answered c words) × ((out ≡ written c words) × Keeps c 1 words exit out))
 unfolding answerOf
 told-whole c words r out {exit} e l t =
     let x = t ∙ ap (λ (a : Answer). told a ++ drop 8 words) e in
     let b : out ≡ answer c .buffer = ap (λ (a : Answer). a .buffer) e in
-    let k : Keeps c 1 exit (answer c .buffer) = subst (λ (ws : List ℕ). Keeps c 1 ws (answer c .buffer)) (sym x) (told-keeps c (drop 8 words)) in
-    (rw (le-leb 8 (length words) l) refl, (rw (le-leb 8 (length words) l) x, (rw (le-leb 8 (length words) l) b, subst (Keeps c 1 exit) (sym b) k)))
+    let k : Keeps c 1 words exit (answer c .buffer) = subst (λ (ws : List ℕ). Keeps c 1 words ws (answer c .buffer)) (sym x) (told-keeps c words (drop 8 words)) in
+    (rw (le-leb 8 (length words) l) refl, (rw (le-leb 8 (length words) l) x, (rw (le-leb 8 (length words) l) b, subst (Keeps c 1 words exit) (sym b) k)))
 
 -- place, moves and weight of a call's answer are words
 place-fits : (v : Verdict) → PlaceWithin 4096 v → placeOf v < 2 ^ 32

@@ -4,7 +4,7 @@ use checker::call;
 ghost use mathlib.Core.Path.{_≡_};
 ghost use lib.ListN.{getD};
 ghost use Rattle.checker.specs.Answering.{callOf};
-ghost use Rattle.plain_call.specs.Standing.{Returns, Readmits, MovesBounded, WeightHolds, WeightBounded};
+ghost use Rattle.plain_call.specs.Standing.{MovesBounded, WeightHolds, WeightBounded};
 ghost use Rattle.capi.specs.Told.{returned, answered, written, Decided, ReducedBy, ReturnedBy, ReadmittedBy, left};
 
 // The whole call. Where `answer` has fewer than eight words, nothing is done.
@@ -20,12 +20,13 @@ pub extern "C" fn skycorbel_call<'a, 'b, 'c>(
     ensures returned { λ r. ⌜ r ≡ returned (now (answer .entry)) ⌝ }
     ensures answered { λ _. ⌜ now (answer .exit) ≡ answered (callOf (now (script .entry)) (now (moves .entry)) (now (rule .entry)) patience (now (out .entry))) (now (answer .entry)) ⌝ }
     ensures written { λ _. ⌜ now (out .exit) ≡ written (callOf (now (script .entry)) (now (moves .entry)) (now (rule .entry)) patience (now (out .entry))) (now (answer .entry)) ⌝ }
+    ensures untouched { λ r. ⌜ (r ≡ 0 → (now (answer .exit) ≡ now (answer .entry)) × (now (out .exit) ≡ now (out .entry))) ⌝ }
     ensures decided { λ r. ⌜ (r ≡ 1 → Decided (callOf (now (script .entry)) (now (moves .entry)) (now (rule .entry)) patience (now (out .entry))) (getD (now (answer .exit)) 0 0)) ⌝ }
     ensures bounded { λ r. ⌜ (r ≡ 1 → MovesBounded (now (script .entry)) (getD (now (answer .exit)) 3 0)) ⌝ }
     ensures weighed { λ r. ⌜ WeightHolds (callOf (now (script .entry)) (now (moves .entry)) (now (rule .entry)) patience (now (out .entry))) × (r ≡ 1 → WeightBounded (now (script .entry)) (getD (now (answer .exit)) 6 0)) ⌝ }
     ensures reduced { λ r. ⌜ (r ≡ 1 → ReducedBy (callOf (now (script .entry)) (now (moves .entry)) (now (rule .entry)) patience (now (out .entry))) (getD (now (answer .exit)) 0 0) (getD (now (answer .exit)) 3 0)) ⌝ }
-    ensures returning { λ r. ⌜ Returns (callOf (now (script .entry)) (now (moves .entry)) (now (rule .entry)) patience (now (out .entry))) × (r ≡ 1 → ReturnedBy (callOf (now (script .entry)) (now (moves .entry)) (now (rule .entry)) patience (now (out .entry))) (getD (now (answer .exit)) 0 0) (left (now (answer .exit)) (now (out .exit)))) ⌝ }
-    ensures readmitted { λ r. ⌜ Readmits (callOf (now (script .entry)) (now (moves .entry)) (now (rule .entry)) patience (now (out .entry))) × (r ≡ 1 → ReadmittedBy (getD (now (answer .exit)) 0 0) (left (now (answer .exit)) (now (out .exit)))) ⌝ }
+    ensures reread { λ r. ⌜ (r ≡ 1 → ReturnedBy (callOf (now (script .entry)) (now (moves .entry)) (now (rule .entry)) patience (now (out .entry))) (getD (now (answer .exit)) 0 0) (left (now (answer .exit)) (now (out .exit)))) ⌝ }
+    ensures readmitted { λ r. ⌜ (r ≡ 1 → ReadmittedBy (getD (now (answer .exit)) 0 0) (left (now (answer .exit)) (now (out .exit)))) ⌝ }
 {
     if answer.len() < 8 {
         return 0;

@@ -30,14 +30,12 @@ use Rattle.plain_call.specs.ClosureCall.{moved, closureRun, unfoldRan, begun}
 use Rattle.checker.specs.Answering.{verdictOf, answerOf, callOf}
 use Rattle.checker.specs.declared.Answer.{Answer}
 use Rattle.checker.specs.Calling.{Stands}
-use Rattle.plain_call.specs.Standing.{Standing, Decides, Reduces, Returns, Readmits, Returned, Readmitted, MovesBounded, WeightHolds, WeightBounded}
+use Rattle.plain_call.specs.Standing.{Standing, Decides, Reduces, Returned, Readmitted, MovesBounded, WeightHolds, WeightBounded}
 use Rattle.plain_call.proofs.ClosureRuns.{started-unfolded, moves-bounded}
 use Rattle.plain_call.proofs.Runs.{weight-holds}
 use Rattle.plain_call.proofs.Entering.{starting-got, terms-few, own-got}
 use Rattle.plain_call.proofs.Small.{weight-bounded}
 use Rattle.plain_call.proofs.Reducing.{reduces}
-use Rattle.plain_call.proofs.Returning.{returns}
-use Rattle.plain_call.proofs.Readmitting.{readmits}
 use Rattle.plain_call.proofs.Leaving.{leftBy, returned, readmitted}
 use Rattle.plain_call.proofs.Called.{answers-walked}
 use Rattle.plain_call.proofs.Verdicts.{answer-stands, standing-good, verdict-yes, verdict-no}
@@ -116,7 +114,7 @@ pub call-kept : (c : Call) (r : Answer) (b : List ℕ) → answerOf r b ≡ answ
     × (MovesBounded (c .script) (r .moves)
     × ((WeightHolds c × WeightBounded (c .script) (r .weight))
     × (Reduces c (verdictOf (r .verdict)) (r .moves)
-    × ((Returns c × Returned c (verdictOf (r .verdict)) (take (r .words) b)) × (Readmits c × Readmitted (verdictOf (r .verdict)) (take (r .words) b)))))))
+    × (Returned c (verdictOf (r .verdict)) (take (r .words) b) × Readmitted (verdictOf (r .verdict)) (take (r .words) b))))))
 unfolding answerOf
 call-kept c r b e =
     let d : Decides c (verdictOf (r .verdict)) = decides c (verdictOf (r .verdict)) (sym (ap (λ (a : plain.Answer). a .verdict) e)) in
@@ -125,4 +123,4 @@ call-kept c r b e =
     let v : answer c .verdict ≡ verdictOf (r .verdict) = sym (ap (λ (a : plain.Answer). a .verdict) e) in
     let x : Reduces c (verdictOf (r .verdict)) (r .moves) = reduces c (verdictOf (r .verdict)) (r .moves) v (sym (ap (λ (a : plain.Answer). a .moves) e)) in
     let l : leftBy (answer c) ≡ take (r .words) b = sym (ap (λ (a : plain.Answer). leftBy a) e) in
-    (e, (d, (m, ((weight-holds c, w), (x, ((returns c, returned c (verdictOf (r .verdict)) (take (r .words) b) v l), (readmits c, readmitted c (verdictOf (r .verdict)) (take (r .words) b) v l)))))))
+    (e, (d, (m, ((weight-holds c, w), (x, (returned c (verdictOf (r .verdict)) (take (r .words) b) v l, readmitted c (verdictOf (r .verdict)) (take (r .words) b) v l))))))

@@ -35,7 +35,7 @@ ghost use Rattle.writer.specs.Bodies.{Scripted};
 ghost use Rattle.writer.specs.Room.{answered, buffered};
 ghost use Rattle.plain_call.specs.Call.{accepted, refusal, walked, terms, answer, finish as finished};
 ghost use Rattle.checker.specs.Answering.{verdictOf, answerOf, askedOf, callOf};
-ghost use Rattle.plain_call.specs.Standing.{Decides, Reduces, Returns, Readmits, Returned, Readmitted, MovesBounded, WeightHolds, WeightBounded};
+ghost use Rattle.plain_call.specs.Standing.{Decides, Reduces, Returned, Readmitted, MovesBounded, WeightHolds, WeightBounded};
 ghost use Rattle.checker.specs.Calling.{ScriptHeld, RuleHeld, Stands};
 
 // The most visits that may be asked for, and the most moves of a list: questions 13 and 14.
@@ -354,8 +354,8 @@ pub fn call<'a, 'b>(
     ensures bounded { λ r. ⌜ MovesBounded (now (script .entry)) (r .moves) ⌝ }
     ensures weighed { λ r. ⌜ WeightHolds (callOf (now (script .entry)) (now (moves .entry)) (now (rule .entry)) patience (now (out .entry))) × WeightBounded (now (script .entry)) (r .weight) ⌝ }
     ensures reduced { λ r. ⌜ Reduces (callOf (now (script .entry)) (now (moves .entry)) (now (rule .entry)) patience (now (out .entry))) (verdictOf (r .verdict)) (r .moves) ⌝ }
-    ensures returning { λ r. ⌜ Returns (callOf (now (script .entry)) (now (moves .entry)) (now (rule .entry)) patience (now (out .entry))) × Returned (callOf (now (script .entry)) (now (moves .entry)) (now (rule .entry)) patience (now (out .entry))) (verdictOf (r .verdict)) (take (r .words) (now (out .exit))) ⌝ }
-    ensures readmitted { λ r. ⌜ Readmits (callOf (now (script .entry)) (now (moves .entry)) (now (rule .entry)) patience (now (out .entry))) × Readmitted (verdictOf (r .verdict)) (take (r .words) (now (out .exit))) ⌝ }
+    ensures reread { λ r. ⌜ Returned (callOf (now (script .entry)) (now (moves .entry)) (now (rule .entry)) patience (now (out .entry))) (verdictOf (r .verdict)) (take (r .words) (now (out .exit))) ⌝ }
+    ensures readmitted { λ r. ⌜ Readmitted (verdictOf (r .verdict)) (take (r .words) (now (out .exit))) ⌝ }
 {
     let scan = read_script(script);
     let outcome = scan.outcome;
