@@ -31,17 +31,37 @@ pub fn put_sets<'a, 'b>(to: &'b mut [u64; 131], at: usize, from: &'a [u64])
     }
 }
 
+// Fills to with the numbers of from from the place at on.
+fn read_numbers<'a, 'b>(from: &'a [u32], at: usize, to: &'b mut [u32])
+    requires { ⌜ at + length (now to) ≤ length (now from) ⌝ }
+    ensures { λ r. ⌜ now (to .exit) ≡ stretch at (length (now (to .entry))) (now (from .entry)) ⌝ }
+{
+    let mut i: usize = 0;
+    while i < to.len() {
+        to[i] = from[at + i];
+        i += 1;
+    }
+}
+
+// Fills to with the sets of from from the place at on.
+fn read_sets<'a, 'b>(from: &'a [u64], at: usize, to: &'b mut [u64])
+    requires { ⌜ at + length (now to) ≤ length (now from) ⌝ }
+    ensures { λ r. ⌜ now (to .exit) ≡ stretch at (length (now (to .entry))) (now (from .entry)) ⌝ }
+{
+    let mut k: usize = 0;
+    while k < to.len() {
+        to[k] = from[at + k];
+        k += 1;
+    }
+}
+
 // The 64 numbers from the place at on.
 pub fn numbers_64(from: &[u32; 481], at: usize) -> [u32; 64]
     requires { ⌜ at + 64 ≤ 481 ⌝ }
     ensures { λ r. ⌜ r ≡ stretch at 64 (now (from .entry)) ⌝ }
 {
     let mut r: [u32; 64] = [0; 64];
-    let mut i: usize = 0;
-    while i < 64 {
-        r[i] = from[at + i];
-        i += 1;
-    }
+    read_numbers(from, at, &mut r);
     r
 }
 
@@ -51,11 +71,7 @@ pub fn numbers_32(from: &[u32; 481], at: usize) -> [u32; 32]
     ensures { λ r. ⌜ r ≡ stretch at 32 (now (from .entry)) ⌝ }
 {
     let mut r: [u32; 32] = [0; 32];
-    let mut i: usize = 0;
-    while i < 32 {
-        r[i] = from[at + i];
-        i += 1;
-    }
+    read_numbers(from, at, &mut r);
     r
 }
 
@@ -65,11 +81,7 @@ pub fn sets_64(from: &[u64; 131], at: usize) -> [u64; 64]
     ensures { λ r. ⌜ r ≡ stretch at 64 (now (from .entry)) ⌝ }
 {
     let mut r: [u64; 64] = [0; 64];
-    let mut k: usize = 0;
-    while k < 64 {
-        r[k] = from[at + k];
-        k += 1;
-    }
+    read_sets(from, at, &mut r);
     r
 }
 
@@ -79,11 +91,7 @@ pub fn sets_65(from: &[u64; 131], at: usize) -> [u64; 65]
     ensures { λ r. ⌜ r ≡ stretch at 65 (now (from .entry)) ⌝ }
 {
     let mut r: [u64; 65] = [0; 65];
-    let mut k: usize = 0;
-    while k < 65 {
-        r[k] = from[at + k];
-        k += 1;
-    }
+    read_sets(from, at, &mut r);
     r
 }
 
