@@ -1,12 +1,13 @@
 //! Holds docs/notes to the sources: in the sections "What the contracts rule out" of the notes each public function has its
 //! row, with two wrong answers and an edit that tries one, and each edit that is named is there. A function may have rows in
-//! several notes.
+//! several notes. The table of lines and edits is the one that tests/figures makes.
 
 #[cfg(test)]
 mod tests {
     use std::collections::BTreeSet;
     use std::fs;
     use std::path::{Path, PathBuf};
+    use std::process::Command;
 
     /// A row of the table: the function, its wrong answers, and the edits that try them.
     struct Row {
@@ -128,6 +129,13 @@ mod tests {
             let missing: Vec<&String> = row.edits.iter().filter(|edit| !there.contains(*edit)).collect();
             assert!(missing.is_empty(), "{}: no such edit: {missing:?}", row.function);
         }
+    }
+
+    #[test]
+    fn the_figures_are_the_tree_s() {
+        let output = Command::new("bash").args(["tests/figures", "--check"]).current_dir(root()).output().expect("bash runs");
+        let said = String::from_utf8([output.stdout, output.stderr].concat()).expect("text");
+        assert!(output.status.success(), "tests/figures --write puts it right:\n{said}");
     }
 
     #[test]
