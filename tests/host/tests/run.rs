@@ -121,7 +121,8 @@ fn a_heading_with_a_word_beside_it() {
 
 #[test]
 fn a_heading_that_is_missing() {
-    let lists = [("script", "script\n00000000\n"), ("moves", "moves\n"), ("rule", "rule\n00000000\n"), ("patience", "patience\n00000009\n")];
+    let lists =
+        [("script", "script\n00000000\n"), ("moves", "moves\n"), ("rule", "rule\n00000000\n"), ("patience", "patience\n00000009\n")];
     for (missing, _) in lists {
         let others: String = lists.iter().filter(|(name, _)| *name != missing).map(|(_, lines)| *lines).collect();
         is_wrong("missing", &others, &format!(": the heading '{missing}' is missing"));
@@ -136,9 +137,10 @@ fn a_heading_twice() {
 #[test]
 fn patience_of_another_number_of_words_than_one() {
     let rest = "script\n00000000\nmoves\nrule\n00000000\n";
+    let second = "'00000002' is a second word of patience, which has one";
     is_wrong("patience", &format!("{rest}patience # none\n\n"), ":6: patience has no word");
-    is_wrong("patience", &format!("{rest}patience\n00000001\n00000002\n"), ":8: '00000002' is a second word of patience, which has one");
-    is_wrong("patience", &format!("patience\n00000001 00000002\n{rest}"), ":2: '00000002' is a second word of patience, which has one");
+    is_wrong("patience", &format!("{rest}patience\n00000001\n00000002\n"), &format!(":8: {second}"));
+    is_wrong("patience", &format!("patience\n00000001 00000002\n{rest}"), &format!(":2: {second}"));
 }
 
 #[test]
@@ -171,8 +173,10 @@ fn other_layouts() {
 /// counts its calls, prints the file `said`, makes the program of the file `made` if there is one, and ends with a status.
 struct Outline(PathBuf);
 
-const SOURCES: &[&str] = &["crates.txt", "crates/low/src/lib.rt", "crates/low/must-fail/other.edit", "crates/other/proofs/Laws.antt"];
-const ALL_PROVED: &str = "fn low::f: proved\nrt: low proved (5 s)\nrt: high proved (unchanged since it was last proved)\nrt: skycorbel proved (12 s)\n";
+const SOURCES: &[&str] =
+    &["crates.txt", "crates/low/src/lib.rt", "crates/low/must-fail/other.edit", "crates/other/proofs/Laws.antt"];
+const ALL_PROVED: &str = "fn low::f: proved\nrt: low proved (5 s)\nrt: high proved (unchanged since it was last proved)\n\
+                          rt: skycorbel proved (12 s)\nrt: ok, 3 crates proved\n";
 const PROGRESS: &str = "proved 1 of 3: low\nproved 2 of 3: high\nproved 3 of 3: skycorbel\n";
 const SAYS_YES: &str = "#!/bin/sh\ncat >/dev/null\necho yes moves 0\n";
 
