@@ -4,6 +4,7 @@
 //! without it; the least time counts.
 
 use second::{Answer, Call};
+use skycorbel::{Buffers, Request};
 use std::time::{Duration, Instant};
 
 const AMB: u32 = 0x1000_0000;
@@ -110,7 +111,8 @@ fn least<T>(runs: u32, mut run: impl FnMut() -> T) -> (Duration, T) {
 fn report(case: &Case, runs: u32) {
     let (script, moves, rule, patience) = (&case.script[..], &case.moves[..], &case.rule[..], case.patience);
     let mut out = [0; 4096];
-    let (ours, answer) = least(runs, || host::call(script, moves, rule, patience, &mut out));
+    let request = Request { script, moves, rule, patience };
+    let (ours, answer) = least(runs, || host::as_second(skycorbel::call(&request, Buffers { tree: &mut out })));
     let mut other = [0; 4096];
     let (theirs, expected): (_, Option<Answer>) = least(runs, || second::call(&Call { script, moves, rule, patience }, &mut other));
     let unit = if answer.visits > 1 { ("visit", answer.visits) } else { ("move", answer.moves) };

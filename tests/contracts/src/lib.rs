@@ -1,11 +1,13 @@
-//! Holds docs/notes/base.md to the sources: each public function has its row in the table "What the contracts rule out",
-//! with two wrong answers and an edit that tries one, and each edit that is named is there.
+//! Holds docs/notes to the sources: in the sections "What the contracts rule out" of the notes each public function has its
+//! row, with two wrong answers and an edit that tries one, and each edit that is named is there. A function may have rows in
+//! several notes. The table of lines and edits is the one that tests/figures makes.
 
 #[cfg(test)]
 mod tests {
     use std::collections::BTreeSet;
     use std::fs;
     use std::path::{Path, PathBuf};
+    use std::process::Command;
 
     /// A row of the table: the function, its wrong answers, and the edits that try them.
     struct Row {
@@ -69,24 +71,30 @@ mod tests {
         cell.split('`').skip(1).step_by(2).map(str::to_string).collect()
     }
 
-    /// The rows whose first cell is one function.
-    fn rows() -> Vec<Row> {
-        let text = read(&root().join("docs/notes/base.md"));
-        let (_, section) = text.split_once("## What the contracts rule out").expect("the section");
-        let section = section.split("\n## ").next().expect("its text");
-        let mut found = Vec::new();
-        for line in section.lines().filter(|line| line.starts_with("| `")) {
-            let cells: Vec<&str> = line.trim_matches('|').split('|').collect();
-            assert_eq!(cells.len(), 3, "three cells: {line}");
-            let function = quoted(cells[0]);
-            assert_eq!(function.len(), 1, "one function: {line}");
-            found.push(Row {
-                function: function[0].clone(),
-                wrong: cells[1].split(';').map(|answer| answer.trim().to_string()).collect(),
-                edits: quoted(cells[2]),
-            });
+    /// The notes' sections on what the contracts rule out, of each note that has one.
+    fn sections() -> Vec<String> {
+        let notes = entries(&root().join("docs/notes"));
+        let texts = notes.iter().filter(|path| path.extension().is_some_and(|e| e == "md")).map(|path| read(path));
+        let section = |text: String| Some(text.split_once("\n## What the contracts rule out\n")?.1.split("\n## ").next()?.to_string());
+        texts.filter_map(section).collect()
+    }
+
+    /// A row whose first cell is one function.
+    fn row(line: &str) -> Row {
+        let cells: Vec<&str> = line.trim_matches('|').split('|').collect();
+        assert_eq!(cells.len(), 3, "three cells: {line}");
+        let function = quoted(cells[0]);
+        assert_eq!(function.len(), 1, "one function: {line}");
+        Row {
+            function: function[0].clone(),
+            wrong: cells[1].split(';').map(|answer| answer.trim().to_string()).collect(),
+            edits: quoted(cells[2]),
         }
-        found
+    }
+
+    /// The rows of all notes.
+    fn rows() -> Vec<Row> {
+        sections().iter().flat_map(|section| section.lines()).filter(|line| line.starts_with("| `")).map(row).collect()
     }
 
     #[test]
@@ -121,6 +129,13 @@ mod tests {
             let missing: Vec<&String> = row.edits.iter().filter(|edit| !there.contains(*edit)).collect();
             assert!(missing.is_empty(), "{}: no such edit: {missing:?}", row.function);
         }
+    }
+
+    #[test]
+    fn the_figures_are_the_tree_s() {
+        let output = Command::new("bash").args(["tests/figures", "--check"]).current_dir(root()).output().expect("bash runs");
+        let said = String::from_utf8([output.stdout, output.stderr].concat()).expect("text");
+        assert!(output.status.success(), "tests/figures --write puts it right:\n{said}");
     }
 
     #[test]

@@ -1,4 +1,5 @@
-//! Links the proved call, which `rt staticlib capi` writes to target/staticlib/libcapi.a.
+//! Links the proved call, which `rt staticlib capi` writes to target/staticlib/libcapi.a; `SKYCORBEL_LIBRARY` names another
+//! folder that has it.
 
 fn main() {
     let root = std::path::Path::new(env!("CARGO_MANIFEST_DIR")).join("../..");
