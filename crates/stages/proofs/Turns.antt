@@ -158,10 +158,6 @@ module _ (program script sets numbers choices : List ℕ) (top somes left index 
         ∙ as-told X (beside index q p) c eq
 
   -- the last division is the one by all parts
-  pub dividing-last : (c now : Counts) (share : ℕ) → Dividing c now share → top < 2 ^ 64 → share ≡ top → (x : Walked) → Splits program script sets numbers choices top somes left index limits now x top
-      → Looks program script sets numbers choices top somes left index limits c x 5
-  dividing-last c now share D ht es x Z = dividing-ends c now top (subst (λ (s : ℕ). Dividing c now s) es D) x Z ht ht refl
-
   -- ---- SOME, name by name
 
   abbrev naming : Here → (q : Rule) → ℕ → Count → spec.Walked

@@ -188,7 +188,7 @@ fn beside<'a>(
 {
     let mut now = c;
     let mut share: u64 = 0;
-    while share != spot.top {
+    loop {
         let w = split(
             program,
             script,
@@ -200,23 +200,15 @@ fn beside<'a>(
             now,
             share,
         );
+        if share == spot.top {
+            return w;
+        }
         let Walked::No(c2) = w else {
             return w;
         };
         now = c2;
         share = sets::next_share(spot.top, share);
     }
-    split(
-        program,
-        script,
-        sets,
-        numbers,
-        chosen,
-        spot,
-        limits,
-        now,
-        spot.top,
-    )
 }
 
 // SOME: the names 1 to G + d in order.

@@ -38,7 +38,7 @@ pub +at-name+beside+either+negation+placed-in+some-name+sometime+somewhere+split
 +at-name+beside+either+negation+placed-in+some-name+sometime+somewhere+split+visit-spec =
     close μ-at-name μ-beside μ-either μ-negation μ-placed-in μ-some-name μ-sometime μ-somewhere μ-split μ-visit
     (λ t. at-name-lts.spec (at-name-claims t) (at-name-at t) at-name.Post (AtNameWord.is-single-requires t) (AtNameWord.first-requires t) (AtNameWord.mul-name-said t) (AtNameWord.element-copy-out-name-said t) (AtNameWord.name-said-requires t) (AtNameWord.is-called-requires t) (AtNameWord.add-inside t) (AtNameWord.mul-inside t) (AtNameWord.element-copy-out-inside t) (AtNameWord.visit-requires t) (AtNameWord.returns t) (AtNameWord.returns-2 t) (AtNameWord.returns-3 t))
-    (λ t. beside-lts.spec (beside-claims t) (beside-at t) beside.Post BesideWord.Inv-loop BesideWord.μ-loop (BesideWord.loop-holds t) (BesideWord.split-requires t) (BesideWord.enum-known-w t) (BesideWord.returns t) (BesideWord.next-share-requires t) (BesideWord.loop-less t) (BesideWord.loop-again t) (BesideWord.split-requires-2 t) (BesideWord.returns-2 t))
+    (λ t. beside-lts.spec (beside-claims t) (beside-at t) beside.Post BesideWord.Inv-loop BesideWord.μ-loop (BesideWord.loop-holds t) (BesideWord.split-requires t) (BesideWord.returns t) (BesideWord.enum-known-w t) (BesideWord.returns-2 t) (BesideWord.next-share-requires t) (BesideWord.loop-less t) (BesideWord.loop-again t))
     (λ t. either-lts.spec (either-claims t) (either-at t) either.Post (EitherWord.add-inner t) (EitherWord.visit-requires t) (EitherWord.enum-known-on-left t) (EitherWord.returns t) (EitherWord.add-wide t) (EitherWord.mul-wide t) (EitherWord.element-copy-out-wide t) (EitherWord.wide-requires t) (EitherWord.visit-requires-2 t) (EitherWord.returns-2 t))
     (λ t. negation-lts.spec (negation-claims t) (negation-at t) negation.Post (NegationWord.add-inner t) (NegationWord.visit-requires t) (NegationWord.turned-requires t) (NegationWord.returns t))
     (λ t. placed-in-lts.spec (placed-in-claims t) (placed-in-at t) placed-in.Post (PlacedInWord.add-wide t) (PlacedInWord.mul-wide t) (PlacedInWord.element-copy-out-wide t) (PlacedInWord.wide-requires t) (PlacedInWord.returns t) (PlacedInWord.add-i t) (PlacedInWord.mul-name-said t) (PlacedInWord.element-copy-out-name-said t) (PlacedInWord.name-said-requires t) (PlacedInWord.returns-2 t) (PlacedInWord.returns-3 t) (PlacedInWord.next-state-requires t) (PlacedInWord.add-inner t) (PlacedInWord.visit-requires t) (PlacedInWord.returns-4 t))
