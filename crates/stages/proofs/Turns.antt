@@ -157,7 +157,6 @@ module _ (program script sets numbers choices : List ℕ) (top somes left index 
         ∙ sym (D .same X q p eq ∙ ap (λ (y : List (Closure × Closure)). firstYes (halves X q p) (map (shares σ) y) (countOf now)) (r ∙ ap (λ (y : List (Closure × Closure)). d ∷ y) end))
         ∙ as-told X (beside index q p) c eq
 
-  -- the last division is the one by all parts
   -- ---- SOME, name by name
 
   abbrev naming : Here → (q : Rule) → ℕ → Count → spec.Walked
