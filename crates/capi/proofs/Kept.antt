@@ -7,7 +7,7 @@ use mathlib.Core.Path.{_≡_, refl, sym, ap, _∙_, subst}
 use native.Mathlib.Omega.{arith}
 use lib.ListN.{length, drop, getD}
 use borrow.Author.Tests.{le-leb, lt-leb}
-use Rattle.plain_call.specs.Call.{Call, Verdict, accepted, refused, Answer, answer}
+use Rattle.plain_call.specs.Call.{Call, Verdict, accepted, refused, Answer, leftBy, answer}
 use Rattle.checker.specs.Answering.{verdictOf, answerOf}
 use Rattle.checker.specs.declared.Answer as engine
 use Rattle.plain_call.specs.Standing.{Decides, Reduces, Returns, Readmits, MovesBounded, WeightHolds, WeightBounded}
@@ -18,7 +18,6 @@ use Rattle.plain_call.proofs.Reducing.{reduces}
 use Rattle.plain_call.proofs.Returning.{returns}
 use Rattle.plain_call.proofs.Readmitting.{readmits}
 use Rattle.plain_call.proofs.Leaving as leaving
-use Rattle.plain_call.proofs.Leaving.{leftBy}
 use Rattle.plain_call.proofs.Small.{PlaceWithin, Small, answer-small, weight-bounded}
 use Rattle.answer_words.specs.Told.{saidOf, placeOf, told}
 use Rattle.capi.specs.Told.{returned, answered, written, Decided, ReducedBy, ReturnedBy, ReadmittedBy, left}
