@@ -24,7 +24,7 @@ use Rattle.decision.specs.ClosureWalk.{closureSpace}
 use Rattle.stages.specs.Visits.{walkedOf, Walks}
 use Rattle.stages.specs.declared.Walked.{Walked}
 use Rattle.rules.proofs.Order.{rule-ordered}
-use Rattle.plain_call.specs.Call.{Call, Verdict, accepted, refused, walked, startOf, setting, door, answer}
+use Rattle.plain_call.specs.Call.{Call, Verdict, accepted, refused, leftBy, walked, startOf, setting, door, answer}
 use Rattle.plain_call.specs.Call as plain
 use Rattle.plain_call.specs.ClosureCall.{moved, closureRun, unfoldRan, begun}
 use Rattle.checker.specs.Answering.{verdictOf, answerOf, callOf}
@@ -36,7 +36,7 @@ use Rattle.plain_call.proofs.Runs.{weight-holds}
 use Rattle.plain_call.proofs.Entering.{starting-got, terms-few, own-got}
 use Rattle.plain_call.proofs.Small.{weight-bounded}
 use Rattle.plain_call.proofs.Reducing.{reduces}
-use Rattle.plain_call.proofs.Leaving.{leftBy, returned, readmitted}
+use Rattle.plain_call.proofs.Leaving.{returned, readmitted}
 use Rattle.plain_call.proofs.Called.{answers-walked}
 use Rattle.plain_call.proofs.Verdicts.{answer-stands, standing-good, verdict-yes, verdict-no}
 use Rattle.checker.proofs.Calling.{number-is}

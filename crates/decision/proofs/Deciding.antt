@@ -39,7 +39,7 @@ iff : {P Q : Type 0} {a : Bool} → (P → Q) → (Q → P) → Reflects P a →
 iff f g (holds p) = holds (f p)
 iff f g (fails n) = fails (λ q. n (g q))
 
-stopped≢says : {B : Type 0} {q i v : ℕ} {a : Bool} {n : Count} → stopped q i v ≡ says a n → B
+pub stopped≢says : {B : Type 0} {q i v : ℕ} {a : Bool} {n : Count} → stopped q i v ≡ says a n → B
 stopped≢says e = let z : _≡_ {A = ℕ} 0 1 = cc in absurd (let w : ⊥ = omega arith in w)
 
 as-said : {P : Type 0} {a b : Bool} {n m : Count} → says a n ≡ says b m → Reflects P a → Reflects P b

@@ -82,6 +82,27 @@ module _ (c : Call) (P : Answer → Type 0) (E : Endings c P) where
   unfolding answer
   answer-ends = begins-ends (starting c) refl
 
+-- ---- the other way round: a call that ends so answers so
+
+module _ (c : Call) where
+  pub answer-unread : (q i : ℕ) → starting c ≡ refuse q i → answer c ≡ refusal q i 0 0 (c .buffer)
+  unfolding answer begins
+  answer-unread q i e = rw e
+
+  module _ (s : Start) (es : starting c ≡ got s) where
+    pub answer-shut : (q i : ℕ) → door c s ≡ refuse q i → answer c ≡ refusal q i 0 0 (c .buffer)
+    unfolding answer begins onward opened
+    answer-shut q i e = rw (es, e)
+
+    pub answer-run : (r : Rule × Cursor) → door c s ≡ got r → answer c ≡ ruleRun c s r (run (partsOf s) 0 (c .moves) (s .machine))
+    unfolding answer begins onward opened
+    answer-run r e = rw (es, e)
+
+  -- what a call that stands answers is told by its walk
+  pub answer-walked : (s : Standing c) → answer c ≡ walked c (s .machine) (walkOf c s)
+  unfolding ruleRun
+  answer-walked s = answer-run (s .start) (s .starts) (s .rule) (s .enters) ∙ ap (ruleRun c (s .start) (s .rule)) (s .moves-made)
+
 -- ---- an accepted call
 
 pub refused≢accepted : {B : Type 0} {q i : ℕ} {a : Bool} → refused q i ≡ accepted a → B

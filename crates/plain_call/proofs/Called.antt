@@ -15,9 +15,10 @@ use Rattle.rules.specs.Rule.{Rule}
 use Rattle.decision.specs.Walk.{walkFrom}
 use Rattle.decision.specs.ClosureWalk.{closureSpace}
 use Rattle.decision.proofs.Closures.{walk-unfolded}
-use Rattle.plain_call.specs.Call.{Call, actor, target, moveFits, refusal, walked, Start, partsOf, startOf, setting, ruleRun, door, opened, onward, begins, answer}
+use Rattle.plain_call.specs.Call.{Call, actor, target, moveFits, refusal, walked, Start, partsOf, startOf, setting, ruleRun, door, answer}
 use Rattle.plain_call.specs.ClosureCall.{ClosureRan, halted, moved, afterMove, ifMade, closureRun, unfoldRan, begun}
 use Rattle.plain_call.proofs.Entering.{starting-got, starting-refused}
+use Rattle.plain_call.proofs.Answers.{answer-unread, answer-shut, answer-run}
 use Rattle.plain_call.proofs.ClosureRuns.{GoodMachine, started-unfolded}
 
 -- ---- what a run leaves is good
@@ -48,8 +49,7 @@ run-leaves-good ws p e n moves m d = subst (Leaves GoodMachine) d (run-good n 0 
 
 module _ (c : Call) where
   pub answers-script : (q i : ℕ) → readScript (c .script) ≡ refuse q i → answer c ≡ refusal q i 0 0 (c .buffer)
-  unfolding answer begins
-  answers-script q i e = rw (starting-refused c q i e)
+  answers-script q i e = answer-unread c q i (starting-refused c q i e)
 
   module _ (p : Script × Cursor) (es : readScript (c .script) ≡ got p) where
     abbrev s : Start
@@ -58,18 +58,12 @@ module _ (c : Call) where
     abbrev n : ℕ
     n = partsOf s
 
-    goes-on : answer c ≡ opened c s (door c s)
-    unfolding answer begins onward
-    goes-on = rw (starting-got c p es)
-
     pub answers-door : (q i : ℕ) → door c s ≡ refuse q i → answer c ≡ refusal q i 0 0 (c .buffer)
-    unfolding opened
-    answers-door q i e = goes-on ∙ rw e
+    answers-door q i e = answer-shut c s (starting-got c p es) q i e
 
     module _ (r : Rule × Cursor) (er : door c s ≡ got r) where
       goes-run : answer c ≡ ruleRun c s r (unfoldRan (closureRun n 0 (c .moves) (begun (p .0))))
-      unfolding opened
-      goes-run = goes-on ∙ rw er (ap (ruleRun c s r) (started-unfolded (c .script) p es n (c .moves)))
+      goes-run = answer-run c s (starting-got c p es) r er ∙ ap (ruleRun c s r) (started-unfolded (c .script) p es n (c .moves))
 
       pub answers-halted : (q i : ℕ) → closureRun n 0 (c .moves) (begun (p .0)) ≡ halted q i → answer c ≡ refusal q i i 0 (c .buffer)
       unfolding ruleRun unfoldRan

@@ -1,14 +1,17 @@
 -- The questions before the moves: what follows where all are answered by yes, and where one is answered by no. Assumes
 -- nothing.
 use Prim.Native.Nat.{ℕ, _+_, _≤_}
+use mathlib.Core.Bool.{_&&_}
 use mathlib.Core.Path.{_≡_, refl, ap, _∙_}
 use native.Mathlib.Omega.{arith}
+use lib.Dec.{leb}
 use lib.ListN.{length}
 use borrow.Author.Tests.{leb-true}
 use Rattle.messages.specs.Reading.{Cursor, Reading, refuse, got, ask}
 use Rattle.messages.proofs.Readings.{bind-inv, bind-all, got-all, bind-got, bind-refuse, ask-inv}
 use Rattle.messages.proofs.Places.{Within, bind-within, ask-within}
 use Rattle.scripts.specs.Script.{Script, readScript}
+use Rattle.machine.proofs.Options.{and-inv}
 use Rattle.rules.specs.Rule.{Rule}
 use Rattle.rules.specs.ReadRule.{readWholeRule}
 use Rattle.rule_reader.proofs.Places.{rule-within}
@@ -40,6 +43,12 @@ pub terms-few : (p k : ℕ) (u : Unit {0}) → terms p k ≡ got u → k ≤ 409
 unfolding terms
 terms-few p k u e = let x = bind-inv (ask 13 0 _) (λ v. ask 14 0 _) u e in omega (arith, leb-true k _ (ask-inv 14 0 _ u (x .2)))
 
+pub terms-patience : (p k : ℕ) (u : Unit {0}) → terms p k ≡ got u → p ≤ 16777216
+unfolding terms
+terms-patience p k u e =
+    let x = bind-inv (ask 13 0 (leb 1 p && leb p 16777216)) (λ v. ask 14 0 _) u e in
+    leb-true p 16777216 (and-inv (leb 1 p) (leb p 16777216) (ask-inv 13 0 _ (x .0) (x .1)) .1)
+
 terms-within : (x p k : ℕ) → Within x (terms p k)
 unfolding terms
 terms-within x p k = bind-within x (ask 13 0 _) (λ v. ask 14 0 _) (ask-within x 13 0 _ (omega arith)) (λ u e. ask-within x 14 0 _ (omega arith))
@@ -59,6 +68,9 @@ module _ (c : Call) (s : Start) where
 
   pub door-few : (r : Rule × Cursor) → door c s ≡ got r → s .made + length (c .moves) ≤ 4096
   door-few r e = terms-few (c .patience) (s .made + length (c .moves)) tt (door-inv r e .1)
+
+  pub door-patience : (r : Rule × Cursor) → door c s ≡ got r → c .patience ≤ 16777216
+  door-patience r e = terms-patience (c .patience) (s .made + length (c .moves)) tt (door-inv r e .1)
 
   pub door-unread : (q i : ℕ) → readWholeRule (partsOf s) (c .rule) ≡ refuse q i → door c s ≡ refuse q i
   unfolding door

@@ -4,19 +4,15 @@ use Prim.Native.Nat.{ℕ}
 use mathlib.Core.Bool.{Bool}
 use mathlib.Core.List.{List}
 use mathlib.Core.Path.{_≡_, refl, sym, _∙_, subst}
-use lib.ListN.{length, take, drop}
+use lib.ListN.{length, drop}
 use lib.Seq.{take-at}
-use Rattle.plain_call.specs.Call.{Call, Verdict, accepted, refused, refusal, Answer, written, answer}
+use Rattle.plain_call.specs.Call.{Call, Verdict, accepted, refused, refusal, leftBy, written, answer}
 use Rattle.plain_call.specs.Standing.{Standing, ReadAs, LetIn, Returns, Readmits, Returned, Readmitted}
 use Rattle.plain_call.proofs.Entering.{start-reads}
 use Rattle.plain_call.proofs.Answers.{answer-ends, refused≢accepted}
 use Rattle.plain_call.proofs.Reducing.{standing-reduced}
 use Rattle.plain_call.proofs.Returning.{returns}
 use Rattle.plain_call.proofs.Readmitting.{readmits}
-
--- the words of an answer at the buffer's start
-abbrev pub leftBy : Answer → List ℕ
-leftBy a = take (a .words) (a .buffer)
 
 module _ (c : Call) where
   -- THEOREM: they are those of the tree that stands.

@@ -1,5 +1,5 @@
 -- The theorems about the call as a definition: demand 2, the moves as reductions, the weight, the bound, how small an answer
--- is, and the same told by closures.
+-- is, what patience and buffers can't change, and the same told by closures.
 pub mod Runs
 pub mod Door
 pub mod Begun
@@ -15,3 +15,4 @@ pub mod Rereading
 pub mod Returning
 pub mod Readmitting
 pub mod Leaving
+pub mod Steadfast

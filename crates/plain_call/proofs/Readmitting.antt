@@ -1,22 +1,22 @@
 -- Of the words of a tree that stands, no question but 1 (too many words) and 4 (nested too deep) is answered by no: the names
--- fit, each VAR names a REC around it, the body ends at the last word, and there are no more parts than the script has.
--- Assumes nothing.
-use Prim.Native.Nat.{ℕ, zero, suc, _+_, _*_, _≤_, _<_}
+-- fit, each VAR names a REC around it, the body ends at the last word, and there are no more parts than the script has. And
+-- these two are just where there are more than 1,024 words, or where the tree's nesting is above 64. Assumes nothing.
+use Prim.Native.Nat.{ℕ, zero, suc, _+_, _*_, _≤_, _<_, max}
 use mathlib.Core.Bool.{Bool, true, false, _&&_, _||_, false≢true}
 use mathlib.Core.List.{List, [], _∷_, _++_, append-nil, append-assoc}
 use mathlib.Core.Path.{_≡_, refl, sym, ap, _∙_, subst}
-use mathlib.Core.Logic.{_⊎_, inl, inr}
+use mathlib.Core.Logic.{inl, inr}
 use native.Mathlib.Omega.{arith}
 use lib.Dec.{leb, eqb}
 use lib.ListN.{length, length-append, take}
-use borrow.Author.Tests.{leb-true, le-leb}
+use borrow.Author.Tests.{leb-true, leb-false, le-leb}
 use Rattle.messages.specs.Words.{kind, operand, word, nameFits, member}
 use Rattle.messages.specs.Reading.{Cursor, cursor, Reading, refuse, got, _>>=_, ask, split, nextWord, nextPart, isEmpty}
 use Rattle.messages.specs.Message.{Message, name, variable, enter, exit, opens, empty, path, mentions}
 use Rattle.messages.specs.ReadMessage.{ifZero, messageKind, messageWord, fits, bound, messageFrom, readMessage}
 use Rattle.messages.specs.declared.MessageWord.{MessageWord}
 use Rattle.messages.specs.declared.MessageWord.the-variants.{Name, Variable, Enter, Exit, Open, Empty, Path, Unfit}
-use Rattle.messages.proofs.Readings.{refuse≢got, bind-all, got-all, next}
+use Rattle.messages.proofs.Readings.{refuse≢got, bind-all, bind-got, bind-refuse, got-all, ask-yes, ask-no}
 use Rattle.messages.proofs.Cases as message
 use Rattle.scripts.specs.Tree.{Head, close, part, parts, bare, settle, PlainHead, Plain}
 use Rattle.scripts.specs.Script.{Written, Script, partWord, guardedFrom, partFrom, orClose, readBody, readScript, holdHead, hold, started}
@@ -24,9 +24,9 @@ use Rattle.scripts.specs.Script as script
 use Rattle.scripts.specs.declared.PartWord.{PartWord}
 use Rattle.scripts.specs.declared.PartWord.the-variants.{Close, Ambient, Action, Receipt, Output}
 use Rattle.scripts.proofs.Cases as body
-use Rattle.scripts.proofs.Laws.{body-advances, short}
+use Rattle.scripts.proofs.Laws.{body-advances}
 use Rattle.scripts.proofs.Tabled.{script-tabled}
-use Rattle.machine.specs.PlainMachine.{weightOf}
+use Rattle.machine.specs.PlainMachine.{Machine, weightOf}
 use Rattle.slices.proofs.Tests.{byTest}
 use Rattle.machine.proofs.Everywhere.{Everywhere, map-everywhere, settle-everywhere}
 use Rattle.message_writer.specs.Write.{Indices, newIndex, writeMessage, whole, writeHead, within, writeInside, write, writePart}
@@ -36,12 +36,13 @@ use Rattle.calculus.proofs.Variables.{eqb-same, free, free-other}
 use Rattle.calculus.proofs.Substitutions.{Closed}
 use Rattle.calculus.proofs.Kept.{Good, good-move}
 use Rattle.decision.proofs.Fits.{MessageAll, ItemsAll, Fit, Fits, fits-more, move-fits}
-use Rattle.plain_call.specs.Call.{Call, begun}
-use Rattle.plain_call.specs.Standing.{Readmits}
+use Rattle.plain_call.specs.Call.{Call, begun, written}
+use Rattle.plain_call.specs.Nesting.{messageNesting, partNesting, nesting}
+use Rattle.plain_call.specs.Standing.{After, LetIn, Readmits, Admits}
 use Rattle.plain_call.proofs.Runs.{run-keeps, run-weighed}
 use Rattle.plain_call.proofs.Begun.{script-good}
 use Rattle.plain_call.proofs.Door.{Inked, held-all}
-use Rattle.plain_call.proofs.Rereading.{same-head, same-rest, Fitting, Small, name-word, variable-word, enter-word, exit-word, open-word, empty-word, path-word, message-back}
+use Rattle.plain_call.proofs.Rereading.{Fitting, Small, name-word, variable-word, enter-word, exit-word, open-word, empty-word, path-word, message-back}
 use Rattle.plain_call.proofs.Returning.{whole-free, whole-all, close-word, ambient-word, action-word, receipt-word, output-word, IsPart, part-all, AnyBack, body-back, new-hit, new-miss, small-more, receipt-written, output-written}
 
 -- ---- the names
@@ -118,61 +119,58 @@ script-sound ws p e =
     (map-everywhere (Inked Any Sound) (Fit Any Sound) (λ (w : Written). holdHead (w .head)) (λ k w x. (tt, held-all Sound (w .head) (x .1))) (p .0)
     (body.script-case SoundMessage SoundBody body-sound ws p e))
 
--- ---- refusals
+-- ---- judgements
 
-abbrev questionOf : {A : Type 0} → Reading A → ℕ
-questionOf (refuse q i) = q
-questionOf (got a) = 0
+-- What becomes of words whose greatest nesting is n: of questions 2 to 5 only question 4 can be answered by no, and it is just
+-- where n is above 64.
+data Judged {A : Type 0} (n : ℕ) : Reading A → Type 0 where
+  denied : {j : ℕ} → 64 < n → Judged n (refuse 4 j)
+  passed : {a : A} → n ≤ 64 → Judged n (got a)
 
--- a reading that is refused is refused by its first part, or by what follows
-refused-all : {A B : Type 0} (P : ℕ → Type 0) (x : Reading A) (k : A → Reading B) → ((q j : ℕ) → x ≡ refuse q j → P q) → ((a : A) → x ≡ got a → (q j : ℕ) → k a ≡ refuse q j → P q)
-    → (q j : ℕ) → (x >>= k) ≡ refuse q j → P q
+-- words beside others that are nested less deep
+judged-wider : {A : Type 0} (a b n : ℕ) → n ≡ max a b → a ≤ 64 → {x : Reading A} → Judged b x → Judged n x
+judged-wider a b n e l (denied h) = denied (omega arith)
+judged-wider a b n e l (passed h) = passed (omega arith)
+
+-- words and the words behind them
+judged-then : {A B : Type 0} (a b n : ℕ) → n ≡ max a b → (x : Reading A) (k : A → Reading B) → Judged a x → ((v : A) → x ≡ got v → a ≤ 64 → Judged b (k v)) → Judged n (x >>= k)
 unfolding _>>=_
-refused-all P (refuse r i) k f g q j e = subst P (ap questionOf e) (f r i refl)
-refused-all P (got a) k f g q j e = g a refl q j e
+judged-then a b n e x k (denied h) f = denied (omega arith)
+judged-then a b n e x k (passed {a = v} h) f = judged-wider a b n e h (f v refl h)
 
-got≢refuse : {A : Type 0} (P : ℕ → Type 0) (a : A) (q j : ℕ) → _≡_ {A = Reading A} (got a) (refuse q j) → P q
-got≢refuse P a q j e = refuse≢got (sym e)
+-- what is made of what is read
+judged-last : {A B : Type 0} (a n : ℕ) → n ≡ a → (x : Reading A) (F : A → B) → Judged a x → Judged n (x >>= λ v. got (F v))
+judged-last a n e x F h = judged-then a 0 n (omega arith) x (λ v. got (F v)) h (λ v d l. passed (omega arith))
 
-ask-passes : (P : ℕ → Type 0) (n i : ℕ) (t : Bool) → t ≡ true → (q j : ℕ) → ask n i t ≡ refuse q j → P q
+-- a question that is answered by yes
+judged-asked : {B : Type 0} (n q i : ℕ) (t : Bool) (k : Unit {0} → Reading B) → t ≡ true → Judged n (k tt) → Judged n (ask q i t >>= k)
+judged-asked n q i t k e h = subst (Judged n) (sym (bind-got (ask q i t) k tt (ask-yes q i t e))) h
+
+-- "4. Is nesting at most 64?"
+judged-level : (nest i : ℕ) → Judged nest (ask 4 i (leb nest 64))
 unfolding ask
-ask-passes P n i t e q j x = got≢refuse P tt q j (rw e at x)
+judged-level nest i = byTest (leb nest 64) (λ t. rw t (passed (leb-true nest 64 t))) (λ t. rw t (denied (leb-false nest 64 t)))
 
-ask-stops : (n i : ℕ) (t : Bool) (q j : ℕ) → ask n i t ≡ refuse q j → q ≡ n
-unfolding ask
-ask-stops n i true q j x = refuse≢got (sym x)
-ask-stops n i false q j x = sym (ap questionOf x)
-
-abbrev Four : ℕ → Type 0
-Four q = q ≡ 4
-
-word-there : (P : ℕ → Type 0) (n : ℕ) (c : Cursor) (w : ℕ) (ws : List ℕ) → c .left ≡ w ∷ ws → (q j : ℕ) → nextWord n c ≡ refuse q j → P q
+-- a word that is there
+judged-word : {B : Type 0} (n : ℕ) (c : Cursor) (w : ℕ) (ws : List ℕ) (k : ℕ × Cursor → Reading B) → c .left ≡ w ∷ ws → Judged n (k (w, cursor (suc (c .index)) (c .number) ws)) → Judged n (nextWord 5 c >>= k)
 unfolding split
-word-there P n c w ws e q j x = got≢refuse P (w, cursor (suc (c .index)) (c .number) ws) q j (rw e at x)
+judged-word n c w ws k e h = subst (Judged n) (sym (bind-got (nextWord 5 c) k (w, cursor (suc (c .index)) (c .number) ws) (rw e))) h
 
 -- ---- messages
 
 -- a message whose first word is known to fit and to be bound
-message-first : (f nest : ℕ) (around : List ℕ) (c : Cursor) (w : ℕ) (ws : List ℕ) → c .left ≡ w ∷ ws → length (c .left) ≤ f → fits (messageWord w) ≡ true → bound around (messageWord w) ≡ true
-    → ((g : ℕ) (d : Cursor) → d .left ≡ ws → length (d .left) ≤ g → (q j : ℕ) → messageFrom (readMessage g (suc nest) around) (messageWord w) d ≡ refuse q j → Four q)
-    → (q j : ℕ) → readMessage f nest around c ≡ refuse q j → Four q
+message-first : (f nest n : ℕ) → nest ≤ n → (around : List ℕ) (c : Cursor) (w : ℕ) (ws : List ℕ) → c .left ≡ w ∷ ws → length (c .left) ≤ f → fits (messageWord w) ≡ true → bound around (messageWord w) ≡ true
+    → ((g : ℕ) (d : Cursor) → d .left ≡ ws → length (d .left) ≤ g → nest ≤ 64 → Judged n (messageFrom (readMessage g (suc nest) around) (messageWord w) d))
+    → Judged n (readMessage f nest around c)
 unfolding readMessage
-message-first zero nest around c w ws e l t u h = λ q j x. absurd (let z : ⊥ = omega (arith, ap length e) in z)
-message-first (suc f) nest around c w ws e l t u h =
-    refused-all Four (nextWord 5 c) _ (word-there Four 5 c w ws e)
-    (λ a x.
-    let n = next 5 c a x in
-    let z : w ∷ ws ≡ a .0 ∷ a .1 .left = sym e ∙ n .words in
-    let v : w ≡ a .0 = same-head z in
-    let s : length (a .1 .left) ≤ f = omega (arith, ap length (n .words)) in
-    refused-all Four (ask 2 (c .index) (fits (messageWord (a .0)))) _ (ask-passes Four 2 (c .index) _ (subst (λ (o : ℕ). fits (messageWord o) ≡ true) v t))
-    (λ _ _. refused-all Four (ask 3 (c .index) (bound around (messageWord (a .0)))) _ (ask-passes Four 3 (c .index) _ (subst (λ (o : ℕ). bound around (messageWord o) ≡ true) v u))
-    (λ _ _. refused-all Four (ask 4 (c .index) (leb nest 64)) _ (ask-stops 4 (c .index) (leb nest 64))
-    (λ _ _ q j y. h f (a .1) (sym (same-rest z)) s q j (subst (λ (o : ℕ). messageFrom (readMessage f (suc nest) around) (messageWord o) (a .1) ≡ refuse q j) (sym v) y)))))
-
-one-refused : (F : Message → Message) (read : Cursor → Reading (Message × Cursor)) (d : Cursor) → ((q j : ℕ) → read d ≡ refuse q j → Four q)
-    → (q j : ℕ) → _≡_ {A = Reading (Message × Cursor)} (read d >>= λ p. got (F (p .0), p .1)) (refuse q j) → Four q
-one-refused F read d h = refused-all Four (read d) _ h (λ a x q j y. got≢refuse Four (F (a .0), a .1) q j y)
+message-first zero nest n o around c w ws e l t u h = absurd (let z : ⊥ = omega (arith, ap length e) in z)
+message-first (suc f) nest n o around c w ws e l t u h =
+    let s : length ws ≤ f = omega (arith, ap length e) in
+    judged-word n c w ws _ e
+    (judged-asked n 2 (c .index) (fits (messageWord w)) _ t
+    (judged-asked n 3 (c .index) (bound around (messageWord w)) _ u
+    (judged-then nest n n (omega arith) (ask 4 (c .index) (leb nest 64)) _ (judged-level nest (c .index))
+    (λ _ _ m. h f (cursor (suc (c .index)) (c .number) ws) refl s m))))
 
 sound-message : (m : Message) → MessageAll Sound m → MessageAll Fitting m
 sound-message (name n) x = sound-fits n x
@@ -183,38 +181,39 @@ sound-message (opens m) x = sound-message m x
 sound-message empty x = tt
 sound-message (path m k) x = (sound-message m (x .0), sound-message k (x .1))
 
--- THEOREM: of the words of a message whose variables' receipts stand around, only question 4 is answered by no.
+-- THEOREM: the words of a message whose variables' receipts stand around are judged by its nesting.
 message-only : (ix : Indices) → Small ix → (around : List ℕ) (m : Message) → MessageAll Sound m → ((v : ℕ) → ¬ (mentions v m ≡ 0) → member (newIndex ix v) around ≡ true)
-    → (f nest : ℕ) (c : Cursor) (rest : List ℕ) → c .left ≡ writeMessage ix m ++ rest → length (c .left) ≤ f → (q j : ℕ) → readMessage f nest around c ≡ refuse q j → Four q
-unfolding writeMessage messageFrom fits bound mentions
+    → (f nest : ℕ) (c : Cursor) (rest : List ℕ) → c .left ≡ writeMessage ix m ++ rest → length (c .left) ≤ f → Judged (nest + messageNesting m) (readMessage f nest around c)
+unfolding writeMessage messageFrom fits bound mentions messageNesting
 message-only ix s around (name n) a b f nest c rest e l =
     let z : messageWord (word 8 n) ≡ Name n = name-word n (sound-fits n a) ∙ rw a in
-    message-first f nest around c (word 8 n) rest e l (rw z refl) (rw z refl) (λ g d dl k q j x. got≢refuse Four (name n, d) q j (rw z at x))
+    message-first f nest (nest + messageNesting (name n)) (omega arith) around c (word 8 n) rest e l (rw z refl) (rw z refl) (λ g d dl k o. rw z (passed (omega arith)))
 message-only ix s around (variable v) a b f nest c rest e l =
     let z : messageWord (word 9 (newIndex ix v)) ≡ Variable (newIndex ix v) = variable-word (newIndex ix v) (s v) in
     let w : member (newIndex ix v) around ≡ true = b v (λ y. let o : _≡_ {A = ℕ} 1 0 = rw (eqb-same v) at y in absurd (let u : ⊥ = omega arith in u)) in
-    message-first f nest around c (word 9 (newIndex ix v)) rest e l (rw z refl) (rw z w) (λ g d dl k q j x. got≢refuse Four (variable (newIndex ix v), d) q j (rw z at x))
+    message-first f nest (nest + messageNesting (variable v)) (omega arith) around c (word 9 (newIndex ix v)) rest e l (rw z refl) (rw z w) (λ g d dl k o. rw z (passed (omega arith)))
 message-only ix s around (enter m) a b f nest c rest e l =
-    message-first f nest around c (word 10 0) (writeMessage ix m ++ rest) e l (rw enter-word refl) (rw enter-word refl)
-    (λ g d dl k q j x. one-refused enter (readMessage g (suc nest) around) d (message-only ix s around m a b g (suc nest) d rest dl k) q j (rw enter-word at x))
+    message-first f nest (nest + messageNesting (enter m)) (omega arith) around c (word 10 0) (writeMessage ix m ++ rest) e l (rw enter-word refl) (rw enter-word refl)
+    (λ g d dl k o. rw enter-word (judged-last (suc nest + messageNesting m) _ (omega arith) (readMessage g (suc nest) around d) (λ p. (enter (p .0), p .1)) (message-only ix s around m a b g (suc nest) d rest dl k)))
 message-only ix s around (exit m) a b f nest c rest e l =
-    message-first f nest around c (word 11 0) (writeMessage ix m ++ rest) e l (rw exit-word refl) (rw exit-word refl)
-    (λ g d dl k q j x. one-refused exit (readMessage g (suc nest) around) d (message-only ix s around m a b g (suc nest) d rest dl k) q j (rw exit-word at x))
+    message-first f nest (nest + messageNesting (exit m)) (omega arith) around c (word 11 0) (writeMessage ix m ++ rest) e l (rw exit-word refl) (rw exit-word refl)
+    (λ g d dl k o. rw exit-word (judged-last (suc nest + messageNesting m) _ (omega arith) (readMessage g (suc nest) around d) (λ p. (exit (p .0), p .1)) (message-only ix s around m a b g (suc nest) d rest dl k)))
 message-only ix s around (opens m) a b f nest c rest e l =
-    message-first f nest around c (word 12 0) (writeMessage ix m ++ rest) e l (rw open-word refl) (rw open-word refl)
-    (λ g d dl k q j x. one-refused opens (readMessage g (suc nest) around) d (message-only ix s around m a b g (suc nest) d rest dl k) q j (rw open-word at x))
+    message-first f nest (nest + messageNesting (opens m)) (omega arith) around c (word 12 0) (writeMessage ix m ++ rest) e l (rw open-word refl) (rw open-word refl)
+    (λ g d dl k o. rw open-word (judged-last (suc nest + messageNesting m) _ (omega arith) (readMessage g (suc nest) around d) (λ p. (opens (p .0), p .1)) (message-only ix s around m a b g (suc nest) d rest dl k)))
 message-only ix s around empty a b f nest c rest e l =
-    message-first f nest around c (word 13 0) rest e l (rw empty-word refl) (rw empty-word refl) (λ g d dl k q j x. got≢refuse Four (empty, d) q j (rw empty-word at x))
+    message-first f nest (nest + messageNesting empty) (omega arith) around c (word 13 0) rest e l (rw empty-word refl) (rw empty-word refl) (λ g d dl k o. rw empty-word (passed (omega arith)))
 message-only ix s around (path m n) a b f nest c rest e l =
-    message-first f nest around c (word 14 0) (writeMessage ix m ++ (writeMessage ix n ++ rest))
+    message-first f nest (nest + messageNesting (path m n)) (omega arith) around c (word 14 0) (writeMessage ix m ++ (writeMessage ix n ++ rest))
     (e ∙ ap (λ (o : List ℕ). word 14 0 ∷ o) (append-assoc (writeMessage ix m) (writeMessage ix n) rest)) l (rw path-word refl) (rw path-word refl)
-    (λ g d dl k q j x.
-    refused-all Four (readMessage g (suc nest) around d) _ (message-only ix s around m (a .0) (λ v o. b v (λ z. o (omega arith))) g (suc nest) d (writeMessage ix n ++ rest) dl k)
-    (λ p y.
+    (λ g d dl k o. rw path-word
+    (judged-then (suc nest + messageNesting m) (suc nest + messageNesting n) _ (omega arith) (readMessage g (suc nest) around d) _
+    (message-only ix s around m (a .0) (λ v o. b v (λ z. o (omega arith))) g (suc nest) d (writeMessage ix n ++ rest) dl k)
+    (λ p y _.
     let u = message-back ix s m (sound-message m (a .0)) g (suc nest) around d (writeMessage ix n ++ rest) dl p y in
     let w : length (p .1 .left) ≤ g = omega (arith, ap length (u .1 .left), ap length dl, length-append (writeMessage ix m) (writeMessage ix n ++ rest)) in
-    refused-all Four (readMessage g (suc nest) around (p .1)) _ (message-only ix s around n (a .1) (λ v o. b v (λ z. o (omega arith))) g (suc nest) (p .1) rest (u .1 .left) w)
-    (λ r o q₁ j₁ z. got≢refuse Four (path (p .0) (r .0), r .1) q₁ j₁ z)) q j (rw path-word at x))
+    judged-last (suc nest + messageNesting n) _ refl (readMessage g (suc nest) around (p .1)) (λ r. (path (p .0) (r .0), r .1))
+    (message-only ix s around n (a .1) (λ v o. b v (λ z. o (omega arith))) g (suc nest) (p .1) rest (u .1 .left) w))))
 
 -- ---- bodies
 
@@ -222,77 +221,73 @@ message-only ix s around (path m n) a b f nest c rest e l =
 abbrev Scoped : Indices → (around : List ℕ) → Process → Type 0
 Scoped ix around p = (v : ℕ) → ¬ (free v p ≡ 0) → member (newIndex ix v) around ≡ true
 
-close-refused : (w : PartWord) (c : Cursor) (k : Reading (Script × Cursor)) → w ≡ Close → (q j : ℕ) → orClose w c k ≡ refuse q j → Four q
+close-judged : (n : ℕ) (w : PartWord) (c : Cursor) (k : Reading (Script × Cursor)) → w ≡ Close → n ≤ 64 → Judged n (orClose w c k)
 unfolding orClose
-close-refused w c k e q j x = got≢refuse Four (close, c) q j (rw e at x)
+close-judged n w c k e l = rw e (passed l)
 
 -- a body whose first word is known to fit
-close-first : (f nest : ℕ) (around : List ℕ) (c : Cursor) (ws : List ℕ) → c .left ≡ word 0 0 ∷ ws → length (c .left) ≤ f → (q j : ℕ) → readBody f nest around c ≡ refuse q j → Four q
+close-first : (f nest : ℕ) (around : List ℕ) (c : Cursor) (ws : List ℕ) → c .left ≡ word 0 0 ∷ ws → length (c .left) ≤ f → Judged (nest + 0) (readBody f nest around c)
 unfolding readBody script.fits
-close-first zero nest around c ws e l = λ q j x. absurd (let z : ⊥ = omega (arith, ap length e) in z)
+close-first zero nest around c ws e l = absurd (let z : ⊥ = omega (arith, ap length e) in z)
 close-first (suc f) nest around c ws e l =
-    refused-all Four (nextWord 5 c) _ (word-there Four 5 c (word 0 0) ws e)
-    (λ a x.
-    let n = next 5 c a x in
-    let z : word 0 0 ∷ ws ≡ a .0 ∷ a .1 .left = sym e ∙ n .words in
-    let u : partWord (a .0) ≡ Close = ap partWord (sym (same-head z)) ∙ close-word in
-    refused-all Four (ask 2 (c .index) (script.fits (partWord (a .0)))) _ (ask-passes Four 2 (c .index) _ (ap script.fits u))
-    (λ _ _. refused-all Four (ask 4 (c .index) (leb nest 64)) _ (ask-stops 4 (c .index) (leb nest 64))
-    (λ _ _. close-refused (partWord (a .0)) (a .1) _ u)))
+    judged-word (nest + 0) c (word 0 0) ws _ e
+    (judged-asked (nest + 0) 2 (c .index) (script.fits (partWord (word 0 0))) _ (ap script.fits close-word)
+    (judged-then nest 0 (nest + 0) (omega arith) (ask 4 (c .index) (leb nest 64)) _ (judged-level nest (c .index))
+    (λ _ _ m. close-judged 0 (partWord (word 0 0)) (cursor (suc (c .index)) (c .number) ws) _ close-word (omega arith))))
 
-part-first : (f nest : ℕ) (around : List ℕ) (c : Cursor) (w : ℕ) (ws : List ℕ) → c .left ≡ w ∷ ws → length (c .left) ≤ f → (W : PartWord) → partWord w ≡ W → IsPart W → script.fits W ≡ true
+-- a is the greatest nesting of the part's words behind its own, b of the words behind the part
+part-first : (f nest a b n : ℕ) → n ≡ max nest (max a b) → (around : List ℕ) (c : Cursor) (w : ℕ) (ws : List ℕ) → c .left ≡ w ∷ ws → length (c .left) ≤ f
+    → (W : PartWord) → partWord w ≡ W → IsPart W → script.fits W ≡ true
     → ((g : ℕ) (d : Cursor) → d .left ≡ ws → d .index ≡ suc (c .index) → length (d .left) ≤ g
-    → ((q j : ℕ) → partFrom (readMessage g nest around) (readBody g (suc nest)) around W (c .index) d ≡ refuse q j → Four q)
-    × ((x : (Written × Script) × Cursor) → partFrom (readMessage g nest around) (readBody g (suc nest)) around W (c .index) d ≡ got x → (q j : ℕ) → readBody g nest around (x .1) ≡ refuse q j → Four q))
-    → (q j : ℕ) → readBody f nest around c ≡ refuse q j → Four q
+    → Judged a (partFrom (readMessage g nest around) (readBody g (suc nest)) around W (c .index) d)
+    × ((x : (Written × Script) × Cursor) → partFrom (readMessage g nest around) (readBody g (suc nest)) around W (c .index) d ≡ got x → Judged b (readBody g nest around (x .1))))
+    → Judged n (readBody f nest around c)
 unfolding readBody
-part-first zero nest around c w ws e l W t k fit h = λ q j x. absurd (let z : ⊥ = omega (arith, ap length e) in z)
-part-first (suc f) nest around c w ws e l W t k fit h =
-    refused-all Four (nextWord 5 c) _ (word-there Four 5 c w ws e)
-    (λ a x.
-    let n = next 5 c a x in
-    let z : w ∷ ws ≡ a .0 ∷ a .1 .left = sym e ∙ n .words in
-    let u : partWord (a .0) ≡ W = ap partWord (sym (same-head z)) ∙ t in
-    let s : length (a .1 .left) ≤ f = omega (arith, ap length (n .words)) in
-    let H = h f (nextPart (a .1)) (sym (same-rest z)) (n .index) s in
-    refused-all Four (ask 2 (c .index) (script.fits (partWord (a .0)))) _ (ask-passes Four 2 (c .index) _ (ap script.fits u ∙ fit))
-    (λ _ _. refused-all Four (ask 4 (c .index) (leb nest 64)) _ (ask-stops 4 (c .index) (leb nest 64))
-    (λ _ _ q j y.
-    refused-all Four (partFrom (readMessage f nest around) (readBody f (suc nest)) around (partWord (a .0)) (c .index) (nextPart (a .1))) _
-    (λ q₁ j₁ y₁. H .0 q₁ j₁ (subst (λ (o : PartWord). partFrom (readMessage f nest around) (readBody f (suc nest)) around o (c .index) (nextPart (a .1)) ≡ refuse q₁ j₁) u y₁))
-    (λ v y₁. refused-all Four (readBody f nest around (v .1)) _
-    (H .1 v (subst (λ (o : PartWord). partFrom (readMessage f nest around) (readBody f (suc nest)) around o (c .index) (nextPart (a .1)) ≡ got v) u y₁))
-    (λ r y₂ q₁ j₁ y₃. got≢refuse Four (part (c .number) (v .0 .0) (v .0 .1) (r .0), r .1) q₁ j₁ y₃)) q j
-    (sym (part-all (partWord (a .0)) (a .1) _ (subst IsPart (sym u) k)) ∙ y))))
+part-first zero nest a b n o around c w ws e l W t k fit h = absurd (let z : ⊥ = omega (arith, ap length e) in z)
+part-first (suc f) nest a b n o around c w ws e l W t k fit h =
+    let s : length ws ≤ f = omega (arith, ap length e) in
+    let d : Cursor = cursor (suc (c .index)) (c .number) ws in
+    let H = h f (nextPart d) refl refl s in
+    judged-word n c w ws _ e
+    (judged-asked n 2 (c .index) (script.fits (partWord w)) _ (ap script.fits t ∙ fit)
+    (judged-then nest (max a b) n o (ask 4 (c .index) (leb nest 64)) _ (judged-level nest (c .index))
+    (λ _ _ m. subst (Judged (max a b)) (sym (part-all (partWord w) d _ (subst IsPart (sym t) k)))
+    (judged-then a b (max a b) refl (partFrom (readMessage f nest around) (readBody f (suc nest)) around (partWord w) (c .index) (nextPart d)) _
+    (subst (λ (o : PartWord). Judged a (partFrom (readMessage f nest around) (readBody f (suc nest)) around o (c .index) (nextPart d))) (sym t) (H .0))
+    (λ v y _. judged-last b b refl (readBody f nest around (v .1)) (λ r. (part (c .number) (v .0 .0) (v .0 .1) (r .0), r .1))
+    (H .1 v (subst (λ (o : PartWord). partFrom (readMessage f nest around) (readBody f (suc nest)) around o (c .index) (nextPart d) ≡ got v) t y)))))))
 
--- of the words of a body whose variables' receipts stand around, only question 4 is answered by no
+-- the words of a body whose variables' receipts stand around are judged by its nesting
 abbrev BodyOnly : Plain → Type 0
 BodyOnly b = (ix : Indices) → Small ix → (around : List ℕ) → Scoped ix around (process b) → (f nest : ℕ) (c : Cursor) (i : ℕ) (rest : List ℕ) → c .index ≡ i → c .left ≡ write ix i b ++ rest
-    → i + length (c .left) ≤ 268435456 → length (c .left) ≤ f → (q j : ℕ) → readBody f nest around c ≡ refuse q j → Four q
+    → i + length (c .left) ≤ 268435456 → length (c .left) ≤ f → Judged (nest + nesting b) (readBody f nest around c)
 
 close-only : BodyOnly close
-unfolding write
+unfolding write nesting
 close-only ix s around b f nest c i rest ei e l m = close-first f nest around c rest e m
+
+guarded-deep : (nest m b r p : ℕ) → p ≡ max m (suc b) → nest + max p r ≡ max nest (max (max (nest + m) (suc nest + b)) (nest + r))
+guarded-deep nest m b r p e = omega arith
 
 -- a part that has a message and a body
 module _ (F : Message → Head Message) (h : PlainHead) (m : Message) (wd : ℕ) (W : PartWord) (worded : partWord wd ≡ W) (parted : IsPart W) (fitted : script.fits W ≡ true)
     (reads : (read : Cursor → Reading (Message × Cursor)) (inside : List ℕ → Cursor → Reading (Script × Cursor)) (around : List ℕ) (i : ℕ) (c : Cursor)
     → partFrom read inside around W i c ≡ guardedFrom F read inside around i c)
     (writes : (ix : Indices) (i : ℕ) (b : Plain) → writePart ix i h b ≡ (wd ∷ writeMessage ix m) ++ write ix (i + length (wd ∷ writeMessage ix m)) b)
-    (frees : (v : ℕ) (p : Process) → free v (piece h p) ≡ mentions v m + free v p) (names : MessageAll Sound m) where
+    (frees : (v : ℕ) (p : Process) → free v (piece h p) ≡ mentions v m + free v p) (nests : (n : ℕ) → partNesting h n ≡ max (messageNesting m) (suc n)) (names : MessageAll Sound m) where
   guarded-only : (k : ℕ) (b r : Plain) → AnyBack b → BodyOnly b → BodyOnly r → BodyOnly (part k h b r)
-  unfolding process free
+  unfolding process free nesting
   guarded-only k b r A B R ix s around sc f nest c i rest ei e l n =
-      part-first f nest around c wd (M ++ (inner ++ (outer ++ rest))) spelled n W worded parted fitted
+      part-first f nest (max (nest + messageNesting m) (suc nest + nesting b)) (nest + nesting r) _ deep around c wd (M ++ (inner ++ (outer ++ rest))) spelled n W worded parted fitted
       (λ g d dl di dn. (
-        (λ q j x. refused-all Four (readMessage g nest around d) _ (message-only ix s around m names (λ v o. sc v (λ z. o (omega (arith, frees v (process b))))) g nest d (inner ++ (outer ++ rest)) dl dn)
-            (λ p y.
+        subst (Judged _) (sym (reads (readMessage g nest around) (readBody g (suc nest)) around (c .index) d))
+            (judged-then (nest + messageNesting m) (suc nest + nesting b) _ refl (readMessage g nest around d) _
+            (message-only ix s around m names (λ v o. sc v (λ z. o (omega (arith, frees v (process b))))) g nest d (inner ++ (outer ++ rest)) dl dn)
+            (λ p y _.
             let u = message-back ix s m (sound-message m names) g nest around d (inner ++ (outer ++ rest)) dl p y in
-            refused-all Four (readBody g (suc nest) around (p .1)) _
+            judged-last (suc nest + nesting b) _ refl (readBody g (suc nest) around (p .1)) (λ t. ((record { index = c .index; head = F (p .0) }, t .0), t .1))
             (B ix s around (λ v o. sc v (λ z. o (omega (arith, frees v (process b))))) g (suc nest) (p .1) j₀ (outer ++ rest) (omega (arith, u .1 .index)) (u .1 .left)
-            (subst (λ (v : List ℕ). j₀ + length v ≤ 268435456) (sym (u .1 .left)) room-inside) (omega (arith, ap length (u .1 .left), ap length dl, length-append M (inner ++ (outer ++ rest)))))
-            (λ t z q₁ j₁ w. got≢refuse Four ((record { index = c .index; head = F (p .0) }, t .0), t .1) q₁ j₁ w)) q j
-            (sym (reads (readMessage g nest around) (readBody g (suc nest)) around (c .index) d) ∙ x)),
+            (subst (λ (v : List ℕ). j₀ + length v ≤ 268435456) (sym (u .1 .left)) room-inside) (omega (arith, ap length (u .1 .left), ap length dl, length-append M (inner ++ (outer ++ rest))))))),
         (λ x xe. bind-all (Q g) (readMessage g nest around d) _
             (λ p y. bind-all (Q g) (readBody g (suc nest) around (p .1)) _
             (λ t z. got-all (Q g) _
@@ -321,7 +316,10 @@ module _ (F : Message → Head Message) (h : PlainHead) (m : Message) (wd : ℕ)
       outer = write ix o₀ r
 
       Q : ℕ → (Written × Script) × Cursor → Type 0
-      Q g x = (q j : ℕ) → readBody g nest around (x .1) ≡ refuse q j → Four q
+      Q g x = Judged (nest + nesting r) (readBody g nest around (x .1))
+
+      deep : nest + nesting (part k h b r) ≡ max nest (max (max (nest + messageNesting m) (suc nest + nesting b)) (nest + nesting r))
+      deep = guarded-deep nest (messageNesting m) (nesting b) (nesting r) (partNesting h (nesting b)) (nests (nesting b))
 
       spelled : c .left ≡ wd ∷ (M ++ (inner ++ (outer ++ rest)))
       spelled =
@@ -359,17 +357,16 @@ receipt-scoped ix around v i p sc u d = byTest (eqb v u)
     (λ t. subst (λ (o : ℕ). member o (i ∷ around) ≡ true) (sym (new-miss v u i ix t)) (member-more (newIndex ix u) i around (sc u (λ z. d (sym (free-other v u p t) ∙ z)))))
 
 receipt-only : (v k : ℕ) (b r : Plain) → AnyBack b → BodyOnly b → BodyOnly r → BodyOnly (part k (Head.receipt v) b r)
-unfolding process piece free partFrom script.fits
+unfolding process piece free partFrom script.fits nesting partNesting
 receipt-only v k b r A B R ix s around sc f nest c i rest ei e l n =
-    part-first f nest around c (word 3 0) (inner ++ (outer ++ rest)) spelled n Receipt receipt-word tt refl
+    part-first f nest (suc nest + nesting b) (nest + nesting r) _ deep around c (word 3 0) (inner ++ (outer ++ rest)) spelled n Receipt receipt-word tt refl
     (λ g d dl di dn.
     let room : j₀ + length (d .left) ≤ 268435456 = subst (λ (o : List ℕ). j₀ + length o ≤ 268435456) (sym dl) room-inside in
     let dj : d .index ≡ j₀ = omega (arith, di, ei) in (
-      (λ q j x. refused-all Four (readBody g (suc nest) (c .index ∷ around) d) _
+      judged-last (suc nest + nesting b) _ refl (readBody g (suc nest) (c .index ∷ around) d) (λ t. ((record { index = c .index; head = Head.receipt (c .index) }, t .0), t .1))
           (B ((v, i) ∷ ix) (small-more v i ix fitting s) (c .index ∷ around)
           (subst (λ (o : ℕ). Scoped ((v, i) ∷ ix) (o ∷ around) (process b)) (sym ei) (receipt-scoped ix around v i (process b) (λ u o. sc u (λ z. o (omega arith)))))
-          g (suc nest) d j₀ (outer ++ rest) dj dl room dn)
-          (λ t z q₁ j₁ w. got≢refuse Four ((record { index = c .index; head = Head.receipt (c .index) }, t .0), t .1) q₁ j₁ w) q j x),
+          g (suc nest) d j₀ (outer ++ rest) dj dl room dn),
       (λ x xe. bind-all (Q g) (readBody g (suc nest) (c .index ∷ around) d) _
           (λ t z. got-all (Q g) _
           (let b₁ = A ((v, i) ∷ ix) (small-more v i ix fitting s) g (suc nest) (c .index ∷ around) d j₀ (outer ++ rest) dj dl room t z in
@@ -391,7 +388,10 @@ receipt-only v k b r A B R ix s around sc f nest c i rest ei e l n =
     outer = write ix o₀ r
 
     Q : ℕ → (Written × Script) × Cursor → Type 0
-    Q g x = (q j : ℕ) → readBody g nest around (x .1) ≡ refuse q j → Four q
+    Q g x = Judged (nest + nesting r) (readBody g nest around (x .1))
+
+    deep : nest + nesting (part k (Head.receipt v) b r) ≡ max nest (max (suc nest + nesting b) (nest + nesting r))
+    deep = omega arith
 
     spelled : c .left ≡ word 3 0 ∷ (inner ++ (outer ++ rest))
     spelled =
@@ -415,12 +415,12 @@ receipt-only v k b r A B R ix s around sc f nest c i rest ei e l n =
 
 -- an output
 output-only : (m : Message) → MessageAll Sound m → (k : ℕ) (b r : Plain) → BodyOnly r → BodyOnly (part k (Head.output m) b r)
-unfolding process piece free partFrom script.fits
+unfolding process piece free partFrom script.fits nesting partNesting
 output-only m names k b r R ix s around sc f nest c i rest ei e l n =
-    part-first f nest around c (word 4 0) (M ++ (outer ++ rest)) spelled n Output output-word tt refl
+    part-first f nest (nest + messageNesting m) (nest + nesting r) _ deep around c (word 4 0) (M ++ (outer ++ rest)) spelled n Output output-word tt refl
     (λ g d dl di dn. (
-      (λ q j x. refused-all Four (readMessage g nest around d) _ (message-only ix s around m names (λ v o. sc v (λ z. o (omega arith))) g nest d (outer ++ rest) dl dn)
-          (λ p y q₁ j₁ w. got≢refuse Four ((record { index = c .index; head = Head.output (p .0) }, close), p .1) q₁ j₁ w) q j x),
+      judged-last (nest + messageNesting m) _ refl (readMessage g nest around d) (λ p. ((record { index = c .index; head = Head.output (p .0) }, close), p .1))
+          (message-only ix s around m names (λ v o. sc v (λ z. o (omega arith))) g nest d (outer ++ rest) dl dn),
       (λ x xe. bind-all (Q g) (readMessage g nest around d) _
           (λ p y. got-all (Q g) _
           (let u = message-back ix s m (sound-message m names) g nest around d (outer ++ rest) dl p y in
@@ -439,7 +439,10 @@ output-only m names k b r R ix s around sc f nest c i rest ei e l n =
     outer = write ix o₀ r
 
     Q : ℕ → (Written × Script) × Cursor → Type 0
-    Q g x = (q j : ℕ) → readBody g nest around (x .1) ≡ refuse q j → Four q
+    Q g x = Judged (nest + nesting r) (readBody g nest around (x .1))
+
+    deep : nest + nesting (part k (Head.output m) b r) ≡ max nest (max (nest + messageNesting m) (nest + nesting r))
+    deep = omega arith
 
     spelled : c .left ≡ word 4 0 ∷ (M ++ (outer ++ rest))
     spelled =
@@ -457,7 +460,7 @@ output-only m names k b r R ix s around sc f nest c i rest ei e l n =
 
 -- an ambient and an action
 ambient-only : (m : Message) → MessageAll Sound m → (k : ℕ) (b r : Plain) → AnyBack b → BodyOnly b → BodyOnly r → BodyOnly (part k (Head.ambient m) b r)
-ambient-only m names = guarded-only Head.ambient (Head.ambient m) m (word 1 0) Ambient ambient-word tt fitted reads writes frees names
+ambient-only m names = guarded-only Head.ambient (Head.ambient m) m (word 1 0) Ambient ambient-word tt fitted reads writes frees nests names
   where
     fitted : script.fits Ambient ≡ true
     fitted = unfold script.fits in refl
@@ -472,8 +475,11 @@ ambient-only m names = guarded-only Head.ambient (Head.ambient m) m (word 1 0) A
     frees : (v : ℕ) (p : Process) → free v (piece (Head.ambient m) p) ≡ mentions v m + free v p
     frees v p = unfold free piece in refl
 
+    nests : (n : ℕ) → partNesting (Head.ambient m) n ≡ max (messageNesting m) (suc n)
+    nests n = unfold partNesting in refl
+
 action-only : (is : List Message) → ItemsAll Sound is → (k : ℕ) (b r : Plain) → AnyBack b → BodyOnly b → BodyOnly r → BodyOnly (part k (Head.action is) b r)
-action-only is names = guarded-only Head.action (Head.action is) (whole is) (word 2 0) Action action-word tt fitted reads writes frees (whole-all Sound is names)
+action-only is names = guarded-only Head.action (Head.action is) (whole is) (word 2 0) Action action-word tt fitted reads writes frees nests (whole-all Sound is names)
   where
     fitted : script.fits Action ≡ true
     fitted = unfold script.fits in refl
@@ -488,6 +494,9 @@ action-only is names = guarded-only Head.action (Head.action is) (whole is) (wor
     frees : (v : ℕ) (p : Process) → free v (piece (Head.action is) p) ≡ mentions v (whole is) + free v p
     frees v p = unfold piece in whole-free v is p
 
+    nests : (n : ℕ) → partNesting (Head.action is) n ≡ max (messageNesting (whole is)) (suc n)
+    nests n = unfold partNesting in refl
+
 fitting-all : (b : Plain) → Fits Any Sound b → Fits Any Fitting b
 fitting-all b x = fits-more Any Any Sound Fitting (λ n h. h) sound-fits b x
 
@@ -500,25 +509,41 @@ body-only (part k (Head.output m) b r) x = output-only m (x .0 .1) k b r (body-o
 
 -- ---- the call
 
-abbrev OneOrFour : ℕ → Type 0
-OneOrFour q = (q ≡ 1) ⊎ (q ≡ 4)
+-- What becomes of words, of which there are l and whose greatest nesting is n: questions 1 and 4 alone can be answered by no, and
+-- just where there are more than 1,024 words or n is above 64.
+data Admitted {A : Type 0} (l n : ℕ) : Reading A → Type 0 where
+  crowded : {j : ℕ} → 1024 < l → Admitted l n (refuse 1 j)
+  nested : {j : ℕ} → 64 < n → Admitted l n (refuse 4 j)
+  let-in : {a : A} → l ≤ 1024 → n ≤ 64 → Admitted l n (got a)
 
--- THEOREM: the words of a tree without free variables, whose names are 1 to 255 and which has at most 64 parts, are let in but
--- for questions 1 and 4.
-pub read-only : (b : Plain) → Fits Any Sound b → Closed (process b) → parts b ≤ 64 → (q j : ℕ) → readScript (write [] 0 b) ≡ refuse q j → OneOrFour q
+admitted-few : {A : Type 0} (l n : ℕ) → l ≤ 1024 → {x : Reading A} → Judged n x → Admitted l n x
+admitted-few l n m (denied h) = nested h
+admitted-few l n m (passed h) = let-in m h
+
+write-some : (ix : Indices) (i : ℕ) (b : Plain) → 1 ≤ length (write ix i b)
+unfolding write
+write-some ix i close = omega arith
+write-some ix i (part k h b r) =
+    let j : ℕ = i + length (writePart ix i h b) in
+    omega (arith, ap length (write-part ix i k h b r), length-append (writePart ix i h b) (write ix j r), write-some ix j r)
+
+-- THEOREM: the words of a tree without free variables, whose names are 1 to 255 and which has at most 64 parts, are let in just
+-- where they are at most 1,024 and nested at most 64 deep.
+read-only : (b : Plain) → Fits Any Sound b → Closed (process b) → parts b ≤ 64 → Admitted (length (write [] 0 b)) (nesting b) (readScript (write [] 0 b))
 unfolding readScript newIndex
-read-only b x o l =
-    refused-all OneOrFour (ask 1 0 (leb 1 (length ws) && leb (length ws) 1024)) _ (λ q j y. inl (ask-stops 1 0 (leb 1 (length ws) && leb (length ws) 1024) q j y))
-    (λ u e₁.
-    let few : 0 + length ws ≤ 268435456 = omega (arith, short ws u e₁) in
-    refused-all OneOrFour (readBody (length ws) 0 [] (cursor 0 0 ws)) _
-    (λ q j y. inr (body-only b x [] small [] (λ v d. absurd (d (o v))) (length ws) 0 (cursor 0 0 ws) 0 [] refl (sym (append-nil ws)) few (omega arith) q j y))
-    (λ p e₂.
-    let r = body-back Any b (fitting-all b x) [] small (length ws) 0 [] (cursor 0 0 ws) 0 [] refl (sym (append-nil ws)) few p e₂ in
-    let n : p .1 .number ≤ 64 = omega (arith, r .few, body-advances (length ws) 0 [] (cursor 0 0 ws) p e₂ .numbers) in
-    refused-all OneOrFour (ask 5 (p .1 .index) (isEmpty (p .1 .left))) _ (ask-passes OneOrFour 5 (p .1 .index) _ (ap isEmpty (r .behind .left)))
-    (λ _ _. refused-all OneOrFour (ask 6 0 (leb (p .1 .number) 64)) _ (ask-passes OneOrFour 6 0 _ (le-leb (p .1 .number) 64 n))
-    (λ _ _ q j y. got≢refuse OneOrFour p q j y))))
+read-only b x o l = byTest (leb (length ws) 1024)
+    (λ t.
+    let few : 0 + length ws ≤ 268435456 = omega (arith, leb-true (length ws) 1024 t) in
+    admitted-few (length ws) (nesting b) (leb-true (length ws) 1024 t)
+    (judged-asked (nesting b) 1 0 (leb 1 (length ws) && leb (length ws) 1024) _ (rw (some-words, t))
+    (judged-then (0 + nesting b) 0 (nesting b) (omega arith) (readBody (length ws) 0 [] (cursor 0 0 ws)) _
+    (body-only b x [] small [] (λ v d. absurd (d (o v))) (length ws) 0 (cursor 0 0 ws) 0 [] refl (sym (append-nil ws)) few (omega arith))
+    (λ p e _.
+    let r = body-back Any b (fitting-all b x) [] small (length ws) 0 [] (cursor 0 0 ws) 0 [] refl (sym (append-nil ws)) few p e in
+    let n : p .1 .number ≤ 64 = omega (arith, r .few, body-advances (length ws) 0 [] (cursor 0 0 ws) p e .numbers) in
+    judged-asked 0 5 (p .1 .index) (isEmpty (p .1 .left)) _ (ap isEmpty (r .behind .left))
+    (judged-asked 0 6 0 (leb (p .1 .number) 64) _ (le-leb (p .1 .number) 64 n) (passed (omega arith)))))))
+    (λ t. subst (Admitted (length ws) (nesting b)) (sym (bind-refuse (ask 1 0 (leb 1 (length ws) && leb (length ws) 1024)) _ 1 0 (ask-no 1 0 _ (rw (some-words, t))))) (crowded (leb-false (length ws) 1024 t)))
   where
     ws : List ℕ
     ws = write [] 0 b
@@ -526,12 +551,42 @@ read-only b x o l =
     small : Small []
     small v = let z : 0 < 268435456 = omega arith in z
 
+    some-words : leb 1 (length ws) ≡ true
+    some-words = le-leb 1 (length ws) (write-some [] 0 b)
+
 -- THEOREM: so of every tree that stands in a call, before the first move and after each.
-pub readmits : (c : Call) → Readmits c
-unfolding Readmits weightOf
-readmits c p e k m a =
+standing-admitted : (c : Call) (p : Script × Cursor) → readScript (c .script) ≡ got p → (k : ℕ) (m : Machine) → After c p k m → Admitted (length (written m)) (nesting (m .tree)) (readScript (written m))
+unfolding weightOf
+standing-admitted c p e k m a =
     let T = script-tabled (c .script) p e in
     let good = run-keeps (λ l. Good (p .1 .number) (l .tree)) (λ x y l s g d. good-move (p .1 .number) (l .tree) x y s g d) (p .1 .number) 0 (take k (c .moves)) (begun (p .0)) m (script-good (c .script) p e) a in
     let named = run-keeps (λ l. Fits Any Sound (l .tree)) (λ x y l s g d. move-fits Any Sound x y (l .tree) s d g .2) (p .1 .number) 0 (take k (c .moves)) (begun (p .0)) m (script-sound (c .script) p e) a in
     let w : parts (m .tree) + 2 * m .receipts ≤ parts (p .0) = run-weighed (p .1 .number) (take k (c .moves)) (p .0) m a in
     read-only (m .tree) named (good .unbound) (omega (arith, T .few, T .counted))
+
+refused-by : (ws : List ℕ) (l n : ℕ) {x : Reading (Script × Cursor)} → Admitted l n x → readScript ws ≡ x → LetIn ws
+refused-by ws l n (crowded h) d q i e = inl (cc)
+refused-by ws l n (nested h) d q i e = inr (cc)
+refused-by ws l n (let-in h g) d q i e = refuse≢got (sym e ∙ d)
+
+-- THEOREM: only questions 1 and 4 can refuse them.
+pub readmits : (c : Call) → Readmits c
+unfolding Readmits
+readmits c p e k m a = refused-by (written m) (length (written m)) (nesting (m .tree)) (standing-admitted c p e k m a) refl
+
+read-within : {A : Type 0} (l n : ℕ) {x : Reading A} → Admitted l n x → (a : A) → x ≡ got a → (l ≤ 1024) × (n ≤ 64)
+read-within l n (crowded h) a e = refuse≢got e
+read-within l n (nested h) a e = refuse≢got e
+read-within l n (let-in h g) a e = (h, g)
+
+within-read : {A : Type 0} (l n : ℕ) {x : Reading A} → Admitted l n x → (l ≤ 1024) × (n ≤ 64) → (a : A) × (x ≡ got a)
+within-read l n (crowded h) w = absurd (let z : ⊥ = omega arith in z)
+within-read l n (nested h) w = absurd (let z : ⊥ = omega arith in z)
+within-read l n (let-in {a} h g) w = (a, refl)
+
+-- THEOREM: and they are let in just where there are at most 1,024 and their nesting is at most 64.
+pub admits : (c : Call) → Admits c
+unfolding Admits
+admits c p e k m a =
+    let x = standing-admitted c p e k m a in
+    ((λ r. read-within (length (written m)) (nesting (m .tree)) x (r .0) (r .1)), (λ w. within-read (length (written m)) (nesting (m .tree)) x w))

@@ -4,7 +4,7 @@ use Prim.Native.Nat.{ℕ, suc, _+_, _/_, _%_, max, min}
 use mathlib.Core.Bool.{Bool, _&&_, cond}
 use mathlib.Core.List.{List, [], _∷_, _++_}
 use mathlib.Core.Option.{Option, none, some}
-use lib.ListN.{length, drop}
+use lib.ListN.{length, take, drop}
 use lib.Dec.{leb, ltb, eqb}
 use Rattle.messages.specs.Words.{kind, operand}
 use Rattle.messages.specs.Reading.{Cursor, Reading, refuse, got, _>>=_, ask}
@@ -41,6 +41,10 @@ pub record Answer : Type 0 where
   pub weight : ℕ
   pub words : ℕ
   pub buffer : List ℕ
+
+-- the words of an answer at the buffer's start
+abbrev pub leftBy : Answer → List ℕ
+leftBy a = take (a .words) (a .buffer)
 
 -- "A refused one gives number, place, moves and visits made (0 if none); deepest, weight and words are 0, and the buffer
 -- isn't written."

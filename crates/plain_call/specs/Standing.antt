@@ -5,7 +5,7 @@ use Prim.Native.Nat.{ℕ, _≤_}
 use mathlib.Core.Bool.{true, false}
 use mathlib.Core.List.{List, []}
 use mathlib.Core.Path.{_≡_}
-use mathlib.Core.Logic.{_⊎_}
+use mathlib.Core.Logic.{_⊎_, _↔_}
 use lib.ListN.{length, take}
 use Rattle.messages.specs.Reading.{Cursor, refuse, got}
 use Rattle.scripts.specs.Script.{Script, readScript}
@@ -18,6 +18,7 @@ use Rattle.calculus.specs.Calculus.{Process, _≅_, Satisfies, process}
 use Rattle.calculus.specs.Written.{written, Steps}
 use Rattle.plain_call.specs.Call.{Call, Verdict, accepted, refused, moved, run, begun, Start, partsOf, starting, door}
 use Rattle.plain_call.specs.Call as call
+use Rattle.plain_call.specs.Nesting.{nesting}
 
 -- what stands when the walk begins: the questions 1 to 6 give the start, 7 to 14 the rule, 15 and 16 the machine
 pub record Standing (c : Call) : Type 0 where
@@ -82,6 +83,11 @@ Returns c = (p : Script × Cursor) → readScript (c .script) ≡ got p → (k :
 unfoldable pub Readmits : Call → Type 0
 Readmits c = (p : Script × Cursor) → readScript (c .script) ≡ got p → (k : ℕ) (m : Machine) → After c p k m → LetIn (call.written m)
 
+-- and they are let in just where there are at most 1,024 and their nesting is at most 64
+unfoldable pub Admits : Call → Type 0
+Admits c = (p : Script × Cursor) → readScript (c .script) ≡ got p → (k : ℕ) (m : Machine) → After c p k m
+    → ((q : Script × Cursor) × (readScript (call.written m) ≡ got q)) ↔ ((length (call.written m) ≤ 1024) × (nesting (m .tree) ≤ 64))
+
 -- and so of the words that a call leaves in the buffer where it is accepted: they say the process that stands
 unfoldable pub Returned : (c : Call) → Verdict → (left : List ℕ) → Type 0
 Returned c (accepted a) ws = (s : Standing c) × ReadAs ws (s .machine)
@@ -110,5 +116,5 @@ MovesBounded ws n = (p : Script × Cursor) → readScript ws ≡ got p → n ≤
 
 -- To unfold this is to unfold every definition of this module: for a proof by computation.
 unfoldable pub computing : Unit {0}
-unfolding Decides Reduces Returns Readmits Returned Readmitted WeightHolds WeightBounded MovesBounded
+unfolding Decides Reduces Returns Readmits Admits Returned Readmitted WeightHolds WeightBounded MovesBounded
 computing = tt

@@ -3,7 +3,7 @@ use Prim.Native.Nat.{ℕ, zero, suc, _+_, _*_, _-_, _/_, _%_, _≤_, min}
 use mathlib.Core.Bool.{Bool, true, false, cond}
 use mathlib.Core.List.{List, [], _∷_, _++_}
 use mathlib.Core.Option.{Option, none, some}
-use mathlib.Core.Path.{_≡_, refl, ap, _∙_}
+use mathlib.Core.Path.{_≡_, refl, sym, ap, _∙_, subst}
 use native.Mathlib.Omega.{arith}
 use borrow.Author.Tests.{leb-true}
 use lib.Dec.{leb, ltb, lit≤}
@@ -16,6 +16,8 @@ use Rattle.digits.specs.Digits.{digit, hexadecimal, line, lines, decimalBy, dec
 use Rattle.text.specs.Text.{refusedText, atText, movesText, visitsText, deepestText, weightText, wordsText, refusalText, countsText, saidText, verdictText}
 use Rattle.replies.specs.Reply.{counted, replied, unfitText, callReply, ruleReply, movesReply, scriptReply, wordsReply}
 use Rattle.skycorbel.specs.Input.{reply}
+use Rattle.skycorbel.specs.Right.{Right}
+use Rattle.skycorbel.proofs.Deciding.{reply-right}
 
 -- ---- an answer's buffer is as long as the lent one
 
@@ -142,10 +144,12 @@ pub words-short : (s : List ℕ) → Short (wordsReply s)
 words-short s =
     replied-short (counted s) (λ script rest. scriptReply script rest) λ script rest. replied-short (counted rest) (λ moves more. movesReply script moves more) λ moves more. replied-short (counted more) (λ rule last. ruleReply script moves rule last) λ rule last. rule-short script moves rule last
 
--- the whole text stands in a buffer that is long enough
-pub puts-all : {old new : List ℕ} (input : List ℕ) {r : ℕ} {piece : List ℕ} → Puts old new 0 r piece → 40960 ≤ length old → Short piece → piece ≡ reply input → Counts r new × (take r new ≡ reply input)
+-- the whole text stands in a buffer that is long enough, and is right
+pub puts-all : {old new : List ℕ} (input : List ℕ) {r : ℕ} {piece : List ℕ} → Puts old new 0 r piece → 40960 ≤ length old → Short piece → piece ≡ reply input
+    → Counts r new × ((take r new ≡ reply input) × Right input (take r new))
 puts-all {old} {new} input {r} x e l f =
     let u = x .put (omega (arith, e, l)) in
     let h : r ≤ length new = omega (arith, u .0, x .kept, e, l) in
     let k : r ≡ length (take r new) = omega (arith, length-take r new, h) in
-    ((h, k), u .1 ∙ f)
+    let t : take r new ≡ reply input = u .1 ∙ f in
+    ((h, k), (t, subst (Right input) (sym t) (reply-right input)))

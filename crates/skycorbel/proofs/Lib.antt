@@ -1,4 +1,5 @@
--- The laws of the program's input, of its replies, and that they fit.
+-- The laws of the program's input, of its replies, that they are right, and that they fit.
 pub mod Reading
 pub mod Replies
+pub mod Deciding
 pub mod Bounds

@@ -19,7 +19,7 @@ word-is s at a b c d ea eb ec ed =
     let h : d ≡ getD (drop at s) 3 0 = ed ∙ sym (getD-drop at s 3 0) in
     λ i. (e i + 256 * f i) + 65536 * (g i + 256 * h i)
 
-length-words : (n : ℕ) (s : List ℕ) → length (wordsOf n s) ≡ n
+pub length-words : (n : ℕ) (s : List ℕ) → length (wordsOf n s) ≡ n
 unfolding wordsOf
 length-words zero s = refl
 length-words (suc n) s = ap suc (length-words n (drop 4 s))

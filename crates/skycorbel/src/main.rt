@@ -10,6 +10,7 @@ ghost use Rattle.io.specs.Counts.{Counts};
 ghost use Rattle.digits.specs.Digits.{Puts};
 ghost use Rattle.replies.specs.Reply.{wordsReply};
 ghost use Rattle.skycorbel.specs.Input.{wordOf, wordsOf, reply as replyOf};
+ghost use Rattle.skycorbel.specs.Right.{Right};
 
 // A byte as a word.
 fn wide(x: u8) -> u32
@@ -50,11 +51,13 @@ fn reply_to_bytes(input: &[u8], count: usize, text: &mut [u8]) -> usize
     reply_to_words(head(&words, count), text)
 }
 
-// What the program writes for what it reads. "else, or above 24,576 bytes, it prints `refused 20 at 0`."
+// What the program writes for what it reads. "else, or above 24,576 bytes, it prints `refused 20 at 0`." Where it begins with
+// `yes` or `no`, that is so by the paper's own relation.
 fn reply(input: &[u8], text: &mut [u8]) -> usize
     requires { ⌜ 40960 ≤ length (now text) ⌝ }
     ensures counted { λ r. ⌜ Counts r (now (text .exit)) ⌝ }
     ensures replied { λ r. ⌜ take r (now (text .exit)) ≡ replyOf (now (input .entry)) ⌝ }
+    ensures right { λ r. ⌜ Right (now (input .entry)) (take r (now (text .exit))) ⌝ }
 {
     let n = input.len();
     if 24576 < n {
