@@ -9,7 +9,7 @@ use Rattle.messages.specs.Message.{name, nameOf}
 use Rattle.scripts.specs.Tree.{Head, close, part, PlainHead, Plain}
 use Rattle.machine.specs.Moves.{headName}
 use Rattle.machine.proofs.Inversion.{plain-name}
-use Rattle.rules.specs.Rule.{Names, termName, Rule, always, negation, either, void, at, beside, some-name, sometime, somewhere, placed, Later}
+use Rattle.rules.specs.Rule.{Names, termName, Rule, truth, negation, either, void, at, beside, some-name, sometime, somewhere, placed, Later}
 use Rattle.calculus.specs.Satisfaction.{Inside, first, later, Within, here, deeper, Reaches, stay, go, Alone, wrapped, Sat}
 use Rattle.calculus.specs.Order.{Part, front, behind}
 use Rattle.calculus.specs.Calculus.{Process, 𝟎, ambient, _≅_, Refl, Symm, Trans, Amb, ZeroPar, piece, process, RedCong, _⟶*_, _↓_, Loc, _↓*_, Satisfies}
@@ -33,7 +33,7 @@ lower-congruent {x = x} (Calculus.step (Loc s) t) h = (x, Calculus.step (Loc (Tr
 -- THEOREM: congruent processes satisfy the same rules.
 pub congruent-satisfies : (r : Rule) (e : Names) (p q : Process) → p ≅ q → Satisfies e p r → Satisfies e q r
 unfolding Satisfies
-congruent-satisfies (always i) e p q h s = tt
+congruent-satisfies (truth i) e p q h s = tt
 congruent-satisfies (negation i r) e p q h s = λ x. s (congruent-satisfies r e q p (Symm h) x)
 congruent-satisfies (either i r t) e p q h s = elim s [ inl x ↦ inl (congruent-satisfies r e p q h x) | inr x ↦ inr (congruent-satisfies t e p q h x) ]
 congruent-satisfies (void i) e p q h s = Trans (Symm h) s
@@ -111,7 +111,7 @@ good-inside n k m b c g e = good-part n (wrapped k m c) close c k (name m) (subs
 -- THEOREM: a good tree meets a rule just if its process satisfies it.
 pub agree : (n : ℕ) (r : Rule) (q : ℕ) → Later q r → (e : Names) (b : Plain) → Good (n + q) b → Sat n e r b ↔ Satisfies e (process b) r
 unfolding Sat Satisfies
-agree n (always i) q w e b g = (λ _. tt, λ _. tt)
+agree n (truth i) q w e b g = (λ _. tt, λ _. tt)
 agree n (negation i r) q w e b g = let a = agree n r q w e b g in (λ x y. x (a .1 y), λ x y. x (a .0 y))
 agree n (either i r s) q w e b g = (
   λ x. elim x [ inl y ↦ inl (agree n r q (w .0) e b g .0 y) | inr y ↦ inr (agree n s q (w .1) e b g .0 y) ],

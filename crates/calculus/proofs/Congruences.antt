@@ -12,7 +12,7 @@ use Rattle.slices.proofs.Tests.{byTest}
 use Rattle.calculus.specs.Calculus.{Process, 𝟎, _∣_, ambient, action, input, output, _≅_, Refl, Alpha, Symm, Trans, Par, Amb, Action, Input, ParComm, ParAssoc, ZeroPar, Null, Path, prefix, substitute, occurs}
 use Rattle.messages.proofs.Mentioning.{mentions-none, mentions-other}
 use Rattle.calculus.proofs.Variables.{eqb-same, eqb-flip, occurs-input, occurs-under, occurs-less}
-use Rattle.calculus.proofs.Shapes.{Tag, place, can, hear, say, Shape, nil, cell, _⊕_, chain, Pick, here, there, Same, done, match, same-refl, same-trans, same-sym, same-append, same-eq, append-nil, append-assoc, append-comm, chain-append, chain-same}
+use Rattle.calculus.proofs.Shapes.{Tag, place, can, hear, say, Shape, nil, cell, _⊕_, chain, Pick, here, there, Same, done, match, same-refl, same-trans, same-sym, same-append, same-eq, shape-nil, shape-assoc, append-comm, chain-append, chain-same}
 
 -- the message with its variables renamed
 unfoldable pub renamed : (ℕ → ℕ) → Message → Message
@@ -116,8 +116,8 @@ sound (Amb h) n σ = match here (sound h n σ) done
 sound (Action {m = m} h) n σ = chain-same (items (renamed σ m)) (sound h n σ)
 sound (Input {x = x} h) n σ = match here (sound h (suc n) (bound σ x n)) done
 sound (ParComm {p = p} {q = q}) n σ = append-comm (shape n σ p) (shape n σ q)
-sound (ParAssoc {p = p} {q = q} {r = r}) n σ = same-eq (append-assoc (shape n σ p) (shape n σ q) (shape n σ r))
-sound (ZeroPar {p = p}) n σ = same-eq (append-nil (shape n σ p))
+sound (ParAssoc {p = p} {q = q} {r = r}) n σ = same-eq (shape-assoc (shape n σ p) (shape n σ q) (shape n σ r))
+sound (ZeroPar {p = p}) n σ = same-eq (shape-nil (shape n σ p))
 sound (Null {p = p}) n σ = same-refl (shape n σ p)
 sound (Path {m = m} {k = k} {p = p}) n σ = same-eq (chain-append (items (renamed σ m)) (items (renamed σ k)) (shape n σ p))
 
@@ -164,10 +164,10 @@ unfolding written _⊕_
 written-append nil t = Symm (Trans ParComm ZeroPar)
 written-append (cell g i r) t = Trans (par-right (written-append r t)) (Symm ParAssoc)
 
-pub prefix-append : (is js : List Message) (p : Process) → prefix is (prefix js p) ≅ prefix (is ++ js) p
+pub prefix-prefix : (is js : List Message) (p : Process) → prefix is (prefix js p) ≅ prefix (is ++ js) p
 unfolding prefix
-prefix-append [] js p = Refl
-prefix-append (i ∷ is) js p = Action (prefix-append is js p)
+prefix-prefix [] js p = Refl
+prefix-prefix (i ∷ is) js p = Action (prefix-prefix is js p)
 
 -- an action and its items
 pub action-items : (m : Message) {p : Process} → action m p ≅ prefix (items m) p
@@ -178,7 +178,7 @@ action-items (enter m) = Refl
 action-items (exit m) = Refl
 action-items (opens m) = Refl
 action-items empty = Null
-action-items (path m k) {p} = Trans Path (Trans (Action (action-items k)) (Trans (action-items m) (prefix-append (items m) (items k) p)))
+action-items (path m k) {p} = Trans Path (Trans (Action (action-items k)) (Trans (action-items m) (prefix-prefix (items m) (items k) p)))
 
 pub prefix-cong : (is : List Message) {p q : Process} → p ≅ q → prefix is p ≅ prefix is q
 unfolding prefix

@@ -7,7 +7,7 @@ use mathlib.Core.Logic.{_↔_}
 use mathlib.Core.Option.{some}
 use native.Mathlib.Omega.{arith}
 use Rattle.messages.specs.Message.{Message, variable}
-use Rattle.scripts.specs.Tree.{Head, part, sum, PlainHead, Plain}
+use Rattle.scripts.specs.Tree.{Head, part, total, PlainHead, Plain}
 use Rattle.machine.specs.Moves.{Moved}
 use Rattle.machine.specs.PlainMachine.{move}
 use Rattle.rules.specs.Rule.{Names, Rule, Later}
@@ -34,7 +34,7 @@ unfolding piece
 renamed-receipt i j u v z h = Trans (Alpha z) (Input h)
 
 part-bindings : (v k : ℕ) (h : PlainHead) (i r : Plain) → bindings v (part k h i r) ≡ binds v h + (bindings v i + bindings v r)
-unfolding sum
+unfolding total
 part-bindings v k h i r = refl
 
 -- THEOREM: they stand for congruent processes.

@@ -13,7 +13,7 @@ use Rattle.calculus.specs.Calculus.{Process, 𝟎, _∣_, ambient, actio
 use Rattle.calculus.proofs.Congruences.{par-both}
 use Rattle.calculus.proofs.Substitutions.{Closed, input-substitute, closed-cong, closed-both, closed-ambient, closed-output}
 use Rattle.calculus.proofs.Divisions.{Item, Settled, as-both, divided-congruent, divided-settled}
-use Rattle.calculus.proofs.Picks.{part-sum, divided-sum, part-divided, has-ambient, has-receipt, has-output, has-action}
+use Rattle.calculus.proofs.Picks.{part-total, divided-total, part-divided, has-ambient, has-receipt, has-output, has-action}
 use Rattle.calculus.proofs.Processes.{Once, bindings, binds, own-binds, substitute-process}
 
 -- one step of the tree, and the process that then stands
@@ -80,17 +80,17 @@ reduction-step (RedOpen {n = n} {p = p} {q = q}) b w u c e =
 reduction-step (RedIO {x = v} {m = m} {p = p}) b w u c e =
     let x = has-receipt b w v p (output m) (Trans e ParComm) in
     let y = has-output (x .1 .others) (x .1 .settled) m 𝟎 (alone (x .1 .congruent)) in
-    let clear : bindings (x .0) (x .1 .inside) ≡ 0 = omega (arith, u (x .0), part-sum (λ k h. binds (x .0) h) (x .1 .at), own-binds (x .0)) in
+    let clear : bindings (x .0) (x .1 .inside) ≡ 0 = omega (arith, u (x .0), part-total (λ k h. binds (x .0) h) (x .1 .at), own-binds (x .0)) in
     let same = input-substitute (x .0) v m (closed-output m (closed-both (output m) (input v p) (closed-cong e c) .0)) (process (x .1 .inside)) p (x .2) in
     (_, taking (x .1 .at) (y .at), Trans (par-both (Trans (substitute-process (x .0) m (x .1 .inside) clear) same) (y .congruent)) ZeroPar)
 reduction-step (RedPar {p = p} {r = r} h) b w u c e =
     let x = as-both b w p r e in
     let s = divided-settled (x .2) w in
-    let y = reduction-step h (x .0) (s .0) (λ v. omega (arith, u v, divided-sum (λ k h. binds v h) (x .2))) (closed-both (process (x .0)) (process (x .1)) (closed-cong (divided-congruent (x .2)) c) .0) (x .3) in
+    let y = reduction-step h (x .0) (s .0) (λ v. omega (arith, u v, divided-total (λ k h. binds v h) (x .2))) (closed-both (process (x .0)) (process (x .1)) (closed-cong (divided-congruent (x .2)) c) .0) (x .3) in
     let z = step-divided (x .2) (y .1) in
     (z .0, z .1, Trans (z .2) (par-both (y .2) (x .4)))
 reduction-step (RedAmb {n = n} {p = p} h) b w u c e =
     let x = has-ambient b w (name n) p 𝟎 (alone e) in
-    let y = reduction-step h (x .0 .inside) (x .2) (λ v. omega (arith, u v, part-sum (λ k h. binds v h) (x .0 .at))) (closed-cong (Symm (x .1)) (closed-ambient (name n) p (closed-cong e c))) (x .1) in
+    let y = reduction-step h (x .0 .inside) (x .2) (λ v. omega (arith, u v, part-total (λ k h. binds v h) (x .0 .at))) (closed-cong (Symm (x .1)) (closed-ambient (name n) p (closed-cong e c))) (x .1) in
     (_, inside (x .0 .at) (y .1), Trans (par-both (Amb (y .2)) (x .0 .congruent)) ZeroPar)
 reduction-step (RedCong i h j) b w u c e = let x = reduction-step h b w u c (Trans e i) in (x .0, x .1, Trans (x .2) j)

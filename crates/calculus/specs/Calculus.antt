@@ -9,7 +9,7 @@ use lib.Dec.{eqb}
 use Rattle.messages.specs.Message.{Message, name, variable, enter, exit, opens, empty, path, mentions}
 use Rattle.messages.specs.Message as message
 use Rattle.scripts.specs.Tree.{Head, close, part, PlainHead, Plain}
-use Rattle.rules.specs.Rule.{Names, termName, Rule, always, negation, either, void, at, beside, some-name, sometime, somewhere, placed}
+use Rattle.rules.specs.Rule.{Names, termName, Rule, truth, negation, either, void, at, beside, some-name, sometime, somewhere, placed}
 
 infixr 30 _∣_
 infix 20 _≅_ _⟶_ _⟶*_ _↓_ _↓*_
@@ -83,7 +83,7 @@ pub data _↓*_ : Process → Process → Type 0 where
 
 -- "Satisfaction P ⊨ A": e are the names that the variables of A stand for. Names are 1, 2, 3, ..; the paper's A @ n is PLACED n A.
 unfoldable pub Satisfies : Names → Process → Rule → Type 0
-Satisfies e p (always i) = Unit {0}
+Satisfies e p (truth i) = Unit {0}
 Satisfies e p (negation i a) = ¬ Satisfies e p a
 Satisfies e p (either i a b) = Satisfies e p a ⊎ Satisfies e p b
 Satisfies e p (void i) = p ≅ 𝟎

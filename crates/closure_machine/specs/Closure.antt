@@ -38,8 +38,8 @@ abbrev pub spentOne : Action → Action
 spentOne a = record { offset = suc (a .offset); message = a .message }
 
 -- how the heads are read under the bindings; a receipt's body stays as it stands, its binding being news
-abbrev pub under : Bindings → View Action
-under σ = record { named = λ m. nameOf (resolve σ m); first = λ a. firstItem (itemsLeft σ a); spent = spentOne; delivered = λ v m b. b }
+abbrev pub viewUnder : Bindings → View Action
+viewUnder σ = record { named = λ m. nameOf (resolve σ m); first = λ a. firstItem (itemsLeft σ a); spent = spentOne; delivered = λ v m b. b }
 
 -- an action whose items are all spent
 unfoldable pub allSpent : Bindings → ClosureHead → Bool
@@ -58,7 +58,7 @@ settledUnder σ (some m) = some (record { body = settleUnder (m .news ++ σ) (m 
 
 -- the closure after the move (a, t), where the machine can make it
 unfoldable pub closureMove : Bindings → (actor target : ℕ) → Closure → Option (Moved Action)
-closureMove σ a t b = settledUnder σ (anywhere (under σ) (moveHere (under σ) a t) b)
+closureMove σ a t b = settledUnder σ (anywhere (viewUnder σ) (moveHere (viewUnder σ) a t) b)
 
 -- The plain tree that a closure stands for.
 unfoldable pub unfoldHead : Bindings → ClosureHead → PlainHead

@@ -80,11 +80,11 @@ module _ (c : Call) (s : Start) where
 -- ---- from the script's own start, along whose line no move is made
 
 module _ (c : Call) (p : Script × Cursor) (r : Rule × Cursor) (e : readWholeRule (p .1 .number) (c .rule) ≡ got r) where
-  none : terms (c .patience) (0 + length (c .moves)) ≡ terms (c .patience) (length (c .moves))
-  none = let z : 0 + length (c .moves) ≡ length (c .moves) = omega arith in ap (terms (c .patience)) z
+  no-more : terms (c .patience) (0 + length (c .moves)) ≡ terms (c .patience) (length (c .moves))
+  no-more = let z : 0 + length (c .moves) ≡ length (c .moves) = omega arith in ap (terms (c .patience)) z
 
   pub own-unasked : (q i : ℕ) → terms (c .patience) (length (c .moves)) ≡ refuse q i → door c (startOf (c .script) p) ≡ refuse q i
-  own-unasked q i d = door-unasked c (startOf (c .script) p) r e q i (none ∙ d)
+  own-unasked q i d = door-unasked c (startOf (c .script) p) r e q i (no-more ∙ d)
 
   pub own-got : terms (c .patience) (length (c .moves)) ≡ got tt → door c (startOf (c .script) p) ≡ got r
-  own-got d = door-got c (startOf (c .script) p) r e (none ∙ d)
+  own-got d = door-got c (startOf (c .script) p) r e (no-more ∙ d)

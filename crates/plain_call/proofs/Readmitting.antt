@@ -11,7 +11,7 @@ use lib.Dec.{leb, eqb}
 use lib.ListN.{length, length-append, take}
 use borrow.Author.Tests.{leb-true, le-leb}
 use Rattle.messages.specs.Words.{kind, operand, word, nameFits, member}
-use Rattle.messages.specs.Reading.{Cursor, cursor, Reading, refuse, got, _>>=_, ask, split, nextWord, nextPart, isEmpty}
+use Rattle.messages.specs.Reading.{Cursor, cursor, Reading, refuse, got, _>>=_, ask, takeWord, nextWord, nextPart, isEmpty}
 use Rattle.messages.specs.Message.{Message, name, variable, enter, exit, opens, empty, path, mentions}
 use Rattle.messages.specs.ReadMessage.{ifZero, messageKind, messageWord, fits, bound, messageFrom, readMessage}
 use Rattle.messages.specs.declared.MessageWord.{MessageWord}
@@ -147,7 +147,7 @@ abbrev Four : ℕ → Type 0
 Four q = q ≡ 4
 
 word-there : (P : ℕ → Type 0) (n : ℕ) (c : Cursor) (w : ℕ) (ws : List ℕ) → c .left ≡ w ∷ ws → (q j : ℕ) → nextWord n c ≡ refuse q j → P q
-unfolding split
+unfolding takeWord
 word-there P n c w ws e q j x = got≢refuse P (w, cursor (suc (c .index)) (c .number) ws) q j (rw e at x)
 
 -- ---- messages
