@@ -17,7 +17,8 @@ use Rattle.machine.proofs.Inversion.{move-inv}
 use Rattle.machine.proofs.Sums.{map-total, Shrinks, made-total, move-total}
 use Rattle.calculus.specs.Satisfaction.{Divided, wrapped}
 use Rattle.calculus.specs.Order.{Part}
-use Rattle.calculus.specs.Calculus.{ambient, piece, process}
+use Rattle.calculus.specs.Calculus.{ambient}
+use Rattle.calculus.specs.TreeProcess.{piece, process}
 use Rattle.calculus.proofs.Variables.{free}
 use Rattle.calculus.proofs.Substitutions.{Closed, closed-cong, closed-both, closed-ambient, reduction-closed}
 use Rattle.calculus.proofs.Divisions.{Item, Settled, closed, settled-ambient, SettledPart, ambient-part, action-part, receipt-part, output-part, settled-part, settled-rest, settled-join, settled-inside, divided-settled, divided-congruent}

@@ -19,7 +19,8 @@ use Rattle.machine.proofs.Options.{none≢some, bind-some, bind-none}
 use Rattle.machine.proofs.Inversion.{Opened, Received, Entered, Exited}
 use Rattle.machine.proofs.Sums.{find-none, removePart-none, anywhere-total}
 use Rattle.calculus.specs.Order.{Part, front, behind}
-use Rattle.calculus.specs.Calculus.{Process, _∣_, ambient, _≅_, Refl, Trans, Par, Amb, prefix, piece, process}
+use Rattle.calculus.specs.Calculus.{Process, _‖_, ambient, _≅_, StructRefl, StructTrans, StructPar, StructAmb}
+use Rattle.calculus.specs.TreeProcess.{prefix, piece, process}
 use Rattle.calculus.proofs.Variables.{eqb-same}
 use Rattle.calculus.proofs.Congruences.{par-both, par-swap}
 use Rattle.calculus.proofs.Picks.{part-total, part-swap}
@@ -187,15 +188,15 @@ module _ (a t : ℕ) where
 
   -- a move inside a named ambient of b
   within-part : {b i c : Plain} {k n : ℕ} (m : Moved (List Message)) → Part b k (Head.ambient (name n)) i c → timesIn t b ≤ 1 → 1 ≤ timesIn t i → made i ≡ some m →
-      (l : Moved (List Message)) × (within b ≡ some l) × (process (l .body) ≅ ambient (name n) (process (m .body)) ∣ process c)
+      (l : Moved (List Message)) × (within b ≡ some l) × (process (l .body) ≅ ambient (name n) (process (m .body)) ‖ process c)
   unfolding process piece headName nameOf isNamed moves.inside total
-  within-part m (front {k = k} {i = i} {r = r}) d w e = (_, or-some _ (onward-some (λ s. part k _ s r) e), Refl)
+  within-part m (front {k = k} {i = i} {r = r}) d w e = (_, or-some _ (onward-some (λ s. part k _ s r) e), StructRefl)
   within-part m (behind {l = l} {g = g} {j = j} {r = r} p) d w e =
       let z : timesIn t j ≡ 0 = omega (arith, part-times t p) in
       let x = within-part m p (omega arith) w e in (
         _,
         or-none _ (onward-none _ (cond-none (isNamed (headName plain g)) (absent j z))) ∙ onward-some (part l g j) (x .1),
-        Trans (par-both Refl (x .2)) par-swap,
+        StructTrans (par-both StructRefl (x .2)) par-swap,
       )
 
 -- a move of b, before the tree is settled, after which a process congruent to p stands
@@ -221,7 +222,7 @@ removePart-two : {b c e i j : Plain} {k l : ℕ} {h g : PlainHead} → Part b k 
 removePart-two {k = k} {l = l} p q d = ap (removePart l) (part-removePart p (d k)) ∙ part-removePart q (others-distinct p d l)
 
 run-open : {b b₁ b₂ i j : Plain} {a t n : ℕ} {is : List Message} → Distinct b → Part b t (Head.ambient (name n)) i b₁ → Part b₁ a (Head.action (opens (name n) ∷ is)) j b₂ →
-    Run b ((prefix is (process j) ∣ process i) ∣ process b₂)
+    Run b ((prefix is (process j) ‖ process i) ‖ process b₂)
 unfolding firstOf firstItem asks headName nameOf moveHere
 run-open {b} {b₁} {b₂} {i} {j} {a} {t} {n} {is} d q p =
     let x : Opened plain a t b (spend plain a (merge i (removePart t b))) = record {
@@ -246,7 +247,7 @@ run-open {b} {b₁} {b₂} {i} {j} {a} {t} {n} {is} d q p =
     }
 
 run-take : {b b₁ b₂ i j : Plain} {a t v : ℕ} {m : Message} → Distinct b → Part b a (Head.receipt v) j b₁ → Part b₁ t (Head.output m) i b₂ →
-    Run b (process (substituteBody v m j) ∣ process b₂)
+    Run b (process (substituteBody v m j) ‖ process b₂)
 unfolding moveHere
 run-take {b} {b₁} {b₂} {i} {j} {a} {t} {v} {m} d p q =
     let c : Plain = merge (substituteBody v m j) (removePart t (removePart a b)) in
@@ -265,13 +266,13 @@ run-take {b} {b₁} {b₂} {i} {j} {a} {t} {v} {m} d p q =
       target = t;
       moved = record { body = c; news = (v, m) ∷ [] };
       is-made = or-some _ (or-none _ (open-receipt a t b (x .target) (x .actor)) ∙ or-some _ (receive-made x));
-      congruent = subst (λ (s : Plain). process c ≅ process (substituteBody v m j) ∣ process s) (removePart-two p q d) (received-after d x);
+      congruent = subst (λ (s : Plain). process c ≅ process (substituteBody v m j) ‖ process s) (removePart-two p q d) (received-after d x);
       present = omega (arith, part-present q, part-times t p);
     }
 
 run-enter : {b b₁ b₂ i i₁ j room : Plain} {a t k n m : ℕ} {is : List Message} → Distinct b →
     Part b k (Head.ambient (name n)) i b₁ → Part i a (Head.action (enter (name m) ∷ is)) j i₁ → Part b₁ t (Head.ambient (name m)) room b₂ →
-    Run b (ambient (name m) (ambient (name n) (prefix is (process j) ∣ process i₁) ∣ process room) ∣ process b₂)
+    Run b (ambient (name m) (ambient (name n) (prefix is (process j) ‖ process i₁) ‖ process room) ‖ process b₂)
 unfolding firstOf firstItem asks headName nameOf moveHere
 run-enter {b} {b₁} {b₂} {i} {i₁} {j} {room} {a} {t} {k} {n} {m} {is} d p o q =
     let c : Plain = alter t (λ e. e) (put k (Head.ambient (name n)) (spend plain a i)) (removePart k b) in
@@ -306,7 +307,7 @@ run-enter {b} {b₁} {b₂} {i} {i₁} {j} {room} {a} {t} {k} {n} {m} {is} d p o
 
 run-leave : {b b₁ i i₁ j room room₁ : Plain} {a t k n m : ℕ} {is : List Message} → Distinct b →
     Part b t (Head.ambient (name m)) room b₁ → Part room k (Head.ambient (name n)) i room₁ → Part i a (Head.action (exit (name m) ∷ is)) j i₁ →
-    Run b ((ambient (name n) (prefix is (process j) ∣ process i₁) ∣ ambient (name m) (process room₁)) ∣ process b₁)
+    Run b ((ambient (name n) (prefix is (process j) ‖ process i₁) ‖ ambient (name m) (process room₁)) ‖ process b₁)
 unfolding firstOf firstItem asks headName nameOf moveHere
 run-leave {b} {b₁} {i} {i₁} {j} {room} {room₁} {a} {t} {k} {n} {m} {is} d q p o =
     let e : Distinct room = inside-distinct q d in
@@ -353,7 +354,7 @@ step-run (inside {b = b} p g) d =
       target = x .target;
       moved = y .0;
       is-made = or-none _ (here-none (x .actor) (x .target) b (deeper-none (x .target) p (d (x .target)) (x .present))) ∙ y .1;
-      congruent = Trans (y .2) (Par (Amb (x .congruent)));
+      congruent = StructTrans (y .2) (StructPar (StructAmb (x .congruent)));
       present = omega (arith, x .present, part-times (x .target) p);
     }
 
@@ -367,4 +368,4 @@ unfolding move
 step-move {b} g d =
     let x = step-run g d in
     let less : Distinct (x .moved .body) = λ j. omega (arith, d j, anywhere-total plain (λ k h. oneIf (eqb j k)) 0 (times-shrinks j) (x .actor) (x .target) b (x .moved) (x .is-made)) in
-    (x .actor, x .target, settled (x .moved), settled-some _ (x .moved) (x .is-made), Trans (settle-process (x .moved .body) less) (x .congruent))
+    (x .actor, x .target, settled (x .moved), settled-some _ (x .moved) (x .is-made), StructTrans (settle-process (x .moved .body) less) (x .congruent))

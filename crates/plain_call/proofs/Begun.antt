@@ -19,7 +19,8 @@ use Rattle.scripts.proofs.Cases as body
 use Rattle.scripts.proofs.Tabled.{script-tabled, script-number}
 use Rattle.slices.proofs.Tests.{byTest}
 use Rattle.machine.proofs.Sums.{map-total, settle-total}
-use Rattle.calculus.specs.Calculus.{Process, _∣_, action, input, _≅_, piece, process, prefix}
+use Rattle.calculus.specs.Calculus.{Process, _‖_, action, input, _≅_}
+use Rattle.calculus.specs.TreeProcess.{piece, process, prefix}
 use Rattle.calculus.specs.Written.{written}
 use Rattle.messages.proofs.Mentioning.{mentions-other}
 use Rattle.calculus.proofs.Variables.{free, free-same, free-other}
@@ -89,7 +90,7 @@ free-prefix : (m : Message) (v : ℕ) (p : Process) → mentions v m ≡ 0 → f
 unfolding free
 free-prefix m v p a b = omega (arith, free-cong v (action-items m {p = p}))
 
-both-free : (v : ℕ) (p q : Process) → free v p ≡ 0 → free v q ≡ 0 → free v (p ∣ q) ≡ 0
+both-free : (v : ℕ) (p q : Process) → free v p ≡ 0 → free v q ≡ 0 → free v (p ‖ q) ≡ 0
 unfolding free
 both-free v p q x y = omega arith
 
@@ -148,5 +149,5 @@ script-good ws p e =
       distinct = λ k. omega (arith, settle-total (λ i h. oneIf (eqb k i)) bare (hold (p .0)), held k .once);
       below = λ k h. omega (arith, settle-total (λ i h. oneIf (eqb k i)) bare (hold (p .0)), held k .over (omega arith));
       once = λ v. omega (arith, settle-total (λ i h. binds v h) bare (hold (p .0)), B .receipts v .once);
-      unbound = closed-cong (calculus.Symm (settle-process (hold (p .0)) (λ k. held k .once))) (λ v. B .bound v refl);
+      unbound = closed-cong (calculus.StructSymm (settle-process (hold (p .0)) (λ k. held k .once))) (λ v. B .bound v refl);
     }

@@ -31,7 +31,8 @@ use Rattle.slices.proofs.Tests.{byTest}
 use Rattle.machine.proofs.Everywhere.{Everywhere, map-everywhere, settle-everywhere}
 use Rattle.message_writer.specs.Write.{Indices, newIndex, writeMessage, whole, writeHead, within, writeInside, write, writePart}
 use Rattle.message_writer.proofs.Trees.{write-part}
-use Rattle.calculus.specs.Calculus.{Process, input, piece, process}
+use Rattle.calculus.specs.Calculus.{Process, input}
+use Rattle.calculus.specs.TreeProcess.{piece, process}
 use Rattle.calculus.proofs.Variables.{eqb-same, free, free-other}
 use Rattle.calculus.proofs.Substitutions.{Closed}
 use Rattle.calculus.proofs.Kept.{Good, good-move}

@@ -22,7 +22,8 @@ use Rattle.scripts.proofs.Laws.{short}
 use Rattle.slices.proofs.Tests.{byTest}
 use Rattle.message_writer.specs.Write.{Indices, newIndex, writeMessage, whole, writeHead, within, writeInside, write, writePart}
 use Rattle.message_writer.proofs.Trees.{write-part}
-use Rattle.calculus.specs.Calculus.{Process, 𝟎, _∣_, input, _≅_, prefix, piece, process}
+use Rattle.calculus.specs.Calculus.{Process, 𝟎, _‖_, input, _≅_}
+use Rattle.calculus.specs.TreeProcess.{prefix, piece, process}
 use Rattle.calculus.specs.Written.{writtenPart, written}
 use Rattle.calculus.proofs.Variables.{eqb-same, eqb-flip, free, free-other}
 use Rattle.calculus.proofs.Shapes.{Shape, nil, cell, place, hear, say, _⊕_, chain, chain-append, same-eq}
@@ -181,11 +182,11 @@ close-back ix s f nest around c i rest ei e l =
 beside-says : (k : ℕ) (h : PlainHead) (b r : Plain) (ix : Indices) (i o : ℕ) → i ≤ o → (p q : Process)
     → ((n : ℕ) (ρ σ : ℕ → ℕ) → Alike i ix ρ σ (piece h (process b)) → shape n ρ p ≡ shape n σ (piece h (process b)))
     → ((n : ℕ) (ρ σ : ℕ → ℕ) → Alike o ix ρ σ (process r) → shape n ρ q ≡ shape n σ (process r))
-    → (n : ℕ) (ρ σ : ℕ → ℕ) → Alike i ix ρ σ (process (part k h b r)) → shape n ρ (p ∣ q) ≡ shape n σ (process (part k h b r))
+    → (n : ℕ) (ρ σ : ℕ → ℕ) → Alike i ix ρ σ (process (part k h b r)) → shape n ρ (p ‖ q) ≡ shape n σ (process (part k h b r))
 unfolding process shape free
 beside-says k h b r ix i o l p q x y n ρ σ a =
-    ap₂ _⊕_ (x n ρ σ (alike-less i i ix ρ σ (piece h (process b)) (piece h (process b) ∣ process r) (omega arith) (λ v z. omega arith) a))
-    (y n ρ σ (alike-less i o ix ρ σ (process r) (piece h (process b) ∣ process r) l (λ v z. omega arith) a))
+    ap₂ _⊕_ (x n ρ σ (alike-less i i ix ρ σ (piece h (process b)) (piece h (process b) ‖ process r) (omega arith) (λ v z. omega arith) a))
+    (y n ρ σ (alike-less i o ix ρ σ (process r) (piece h (process b) ‖ process r) l (λ v z. omega arith) a))
 
 -- a part that has a message and a body: an ambient, an action
 module _ (F : Message → Head Message) (h : PlainHead) (m : Message) (wd : ℕ) (W : PartWord) (worded : partWord wd ≡ W) (parted : IsPart W)

@@ -14,7 +14,8 @@ use Rattle.scripts.specs.Tree.{parts}
 use Rattle.machine.specs.PlainMachine.{Machine, weightOf}
 use Rattle.rules.specs.Rule.{Rule}
 use Rattle.calculus.specs.Satisfaction.{Sat}
-use Rattle.calculus.specs.Calculus.{Process, _≅_, Satisfies, process}
+use Rattle.calculus.specs.Calculus.{Process, _≅_, Satisfies}
+use Rattle.calculus.specs.TreeProcess.{process}
 use Rattle.calculus.specs.Written.{written, Steps}
 use Rattle.plain_call.specs.Call.{Call, Verdict, accepted, refused, moved, run, begun, Start, partsOf, starting, door}
 use Rattle.plain_call.specs.Call as call
