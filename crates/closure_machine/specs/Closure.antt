@@ -1,6 +1,6 @@
--- The closure machine (004; document 01, "The engine keeps closures: message once, newest binding first, an offset into each
--- action"): the same moves as the plain machine's, on a tree whose messages are the script's, beside the bindings; and the
--- plain tree that a closure stands for. Assumes nothing: these are definitions.
+-- The closure machine (document 01, "The engine keeps closures (004): message once, newest binding first, an offset into each
+-- action"): the same moves as the plain machine's, on a tree whose messages are the script's, beside the bindings; the plain
+-- tree that a closure stands for; and the closure that a script begins with. Assumes nothing: these are definitions.
 use Prim.Native.Nat.{ℕ, suc}
 use mathlib.Core.Bool.{Bool, false}
 use mathlib.Core.List.{List, [], _∷_, _++_}

@@ -1,5 +1,5 @@
--- What the engine's passes over the part sets find and leave: the part in whose body a part stands, and the bodies after
--- every action with no items left is gone. Assumes nothing: these are definitions.
+-- What the engine's passes over the part sets find and leave: the part in whose body a part stands, the bodies after every
+-- action with no items left is gone, and the number of parts. Assumes nothing: these are definitions.
 use Prim.Native.Nat.{ℕ, _≤_, _<_}
 use mathlib.Core.Bool.{cond}
 use mathlib.Core.List.{List}

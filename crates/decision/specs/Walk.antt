@@ -81,7 +81,7 @@ module _ {S : Type 0} (space : Space S) (s : Setting) where
   unfoldable pub counted : (depth : ℕ) → Count → Count
   counted depth n = record { visits = suc (n .visits); deepest = max depth (n .deepest) }
 
-  -- A visit at that depth, `left` depths being allowed from here on. "17. Depth at most 256? 18. Are visits left?"
+  -- A visit at that depth, `left` depths being allowed from here on. "17. Depth at most 256?", "18. Are visits left?"
   unfoldable pub walk : (left depth : ℕ) → Names → Rule → S → Count → Walked
   walk zero depth e r b n = stopped 17 (ruleIndex r) (n .visits)
   walk (suc left) depth e r b n =

@@ -108,7 +108,7 @@ unfolding mapHeads total
 map-total f F close = refl
 map-total f F (part i h b r) = rw (map-total f F b, map-total f F r)
 
--- "An action with no items is gone": settled, whatever head counts as one
+-- "An action with no items .. is gone": settled, whatever head counts as one
 pub settle-total : {A : Type 0} (f : ℕ → Head A → ℕ) (empty : Head A → Bool) (b : Body (Head A)) → total f (settleBy empty b) ≤ total f b
 unfolding settleBy total
 settle-total f empty close = omega arith

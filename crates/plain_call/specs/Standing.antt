@@ -1,6 +1,6 @@
--- What a call's yes or no is about (demand 2), what its moves are in the paper's calculus, and what they keep to (demand 3's
--- weight and bound). Not the walk: the script and the rule as read, and the tree that stands after the moves. Assumes
--- nothing: these are definitions.
+-- What a call's yes or no is about (demand 2), what its moves are in the paper's calculus, what is read again of the tree that
+-- it writes, and what the moves keep to (demand 3's weight and bound). Not the walk: the script and the rule as read, and the
+-- tree that stands after the moves. Assumes nothing: these are definitions.
 use Prim.Native.Nat.{ℕ, _≤_}
 use mathlib.Core.Bool.{true, false}
 use mathlib.Core.List.{List, []}
@@ -92,7 +92,8 @@ unfoldable pub Readmitted : Verdict → (left : List ℕ) → Type 0
 Readmitted (accepted a) ws = LetIn ws
 Readmitted (refused q i) ws = Unit {0}
 
--- "parts in the tree plus twice the receipts made are at most the script's parts", before the first move and after each
+-- the weight, "the parts in the tree plus twice the receipts made", is at most the script's parts, before the first move and
+-- after each
 unfoldable pub WeightHolds : Call → Type 0
 WeightHolds c = (p : Script × Cursor) → readScript (c .script) ≡ got p → (k : ℕ) (m : Machine) → After c p k m → weightOf m ≤ parts (p .0)
 

@@ -25,7 +25,8 @@ oneIf true = 1
 oneIf false = 0
 
 module _ {A : Type 0} where
-  -- "1 AMB: message, body. 2 ACT (action): message, body. 3 REC (receipt): body. 4 OUT (output): message."
+  -- "1 AMB: message, body. 2 ACT (action): message, body. 3 REC (receipt): body; its variable is this
+  -- word's index. 4 OUT (output): message."
   unfoldable pub kindNumber : Head A → ℕ
   kindNumber (ambient m) = 1
   kindNumber (action a) = 2

@@ -1,5 +1,5 @@
--- What the walk's small functions answer: whether a part is called so, and states that are lent and borrowed again. Assumes
--- nothing.
+-- What the walk's small functions answer: whether a part is called so, the rule's words and table loaded into one array, and
+-- states that are lent and borrowed again. Assumes nothing.
 use Prim.Native.Nat.{ℕ, _+_, _<_}
 use mathlib.Core.Bool.{true, false}
 use mathlib.Core.List.{List}
