@@ -23,7 +23,8 @@ pub record Room (bodies : ℕ → List ℕ) (heads : ℕ → ClosureHead) (b : C
   pub own : bodies i ≡ tops c
   pub piece : Piece bodies heads b c
 
--- "left with the share, on yes right with the rest": d divides b, whose top parts are the members of `top`, into `share` and the rest
+-- "left with the share, on yes right with the rest": d divides b, whose top parts are the members of `top`, into `share` and
+-- the rest
 pub record Divides (bodies : ℕ → List ℕ) (heads : ℕ → ClosureHead) (b : Closure) (top share : ℕ) (d : Closure × Closure) : Type 0 where
   pub taken : members share ≡ tops (d .0)
   pub others : but (members top) (members share) ≡ tops (d .1)
