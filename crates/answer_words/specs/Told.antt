@@ -4,7 +4,7 @@ use mathlib.Core.Bool.{true, false}
 use mathlib.Core.List.{List, [], _∷_}
 use Rattle.plain_call.specs.Call.{Verdict, accepted, refused, Answer}
 
--- "0 refused, 1 no, 2 yes"
+-- what is said: 0 for a refusal, 1 for no, 2 for yes
 unfoldable pub saidOf : Verdict → ℕ
 saidOf (accepted true) = 2
 saidOf (accepted false) = 1
@@ -19,7 +19,7 @@ unfoldable pub placeOf : Verdict → ℕ
 placeOf (accepted a) = 0
 placeOf (refused q i) = i
 
--- the eight words of an answer: "0 refused, 1 no, 2 yes; number; place; moves; visits; deepest; weight; words"
+-- the eight words of an answer: what is said; number; place; moves; visits; deepest; weight; words
 unfoldable pub told : Answer → List ℕ
 told a =
     saidOf (a .verdict)

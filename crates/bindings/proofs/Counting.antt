@@ -1,4 +1,5 @@
--- Laws of what is counted: numbers of items, what is kept with the bindings, and items from an offset on. Assumes nothing.
+-- Laws of what is counted: numbers of items, what is kept with the bindings, and items from an offset on; and a measure for
+-- passes that go from binding to binding. Assumes nothing.
 use Prim.Native.Nat.{ℕ, zero, suc, _+_, _-_, _*_, _^_, _≤_, _<_}
 use mathlib.Core.List.{List, [], _∷_, _++_}
 use mathlib.Core.Path.{_≡_, refl, sym, ap, _∙_}

@@ -9,10 +9,11 @@ use borrow.Author.Tests.{eqb-true, ne-eqb}
 use Rattle.messages.specs.Message.{Message, name, variable, enter, exit, opens, empty, path, items, mentions}
 use Rattle.messages.specs.Message as message
 use Rattle.slices.proofs.Tests.{byTest}
-use Rattle.calculus.specs.Calculus.{Process, 𝟎, _∣_, ambient, action, input, output, _≅_, Refl, Alpha, Symm, Trans, Par, Amb, Action, Input, ParComm, ParAssoc, ZeroPar, Null, Path, prefix, substitute, occurs}
+use Rattle.calculus.specs.Calculus.{Process, 𝟎, _‖_, ambient, action, input, output, _≅_, StructRefl, StructAlpha, StructSymm, StructTrans, StructPar, StructAmb, StructAction, StructInput, StructParComm, StructParAssoc, StructZeroPar, Structε, StructPath, substitute, occurs}
+use Rattle.calculus.specs.TreeProcess.{prefix}
 use Rattle.messages.proofs.Mentioning.{mentions-none, mentions-other}
 use Rattle.calculus.proofs.Variables.{eqb-same, eqb-flip, occurs-input, occurs-under, occurs-less}
-use Rattle.calculus.proofs.Shapes.{Tag, place, can, hear, say, Shape, nil, cell, _⊕_, chain, Pick, here, there, Same, done, match, same-refl, same-trans, same-sym, same-append, same-eq, append-nil, append-assoc, append-comm, chain-append, chain-same}
+use Rattle.calculus.proofs.Shapes.{Tag, place, can, hear, say, Shape, nil, cell, _⊕_, chain, Pick, here, there, Same, done, match, same-refl, same-trans, same-sym, same-append, same-eq, shape-nil, shape-assoc, append-comm, chain-append, chain-same}
 
 -- the message with its variables renamed
 unfoldable pub renamed : (ℕ → ℕ) → Message → Message
@@ -31,7 +32,7 @@ bound σ x n z = cond (eqb z x) n (σ z)
 -- The shape: a bound variable has the number of the inputs around it for its name, from n up.
 unfoldable pub shape : ℕ → (ℕ → ℕ) → Process → Shape
 shape n σ 𝟎 = nil
-shape n σ (p ∣ q) = shape n σ p ⊕ shape n σ q
+shape n σ (p ‖ q) = shape n σ p ⊕ shape n σ q
 shape n σ (ambient m p) = cell (place (renamed σ m)) (shape n σ p) nil
 shape n σ (action m p) = chain (items (renamed σ m)) (shape n σ p)
 shape n σ (input x p) = cell (hear n) (shape (suc n) (bound σ x n) p) nil
@@ -62,7 +63,7 @@ message-alike σ τ y (path m k) a h = ap₂ path (message-alike σ τ y m (omeg
 shape-alike : (n : ℕ) (σ τ : ℕ → ℕ) (y : ℕ) (p : Process) → occurs y p ≡ 0 → ((z : ℕ) → eqb z y ≡ false → σ z ≡ τ z) → shape n σ p ≡ shape n τ p
 unfolding shape occurs
 shape-alike n σ τ y 𝟎 a h = refl
-shape-alike n σ τ y (p ∣ q) a h = ap₂ _⊕_ (shape-alike n σ τ y p (omega arith) h) (shape-alike n σ τ y q (omega arith) h)
+shape-alike n σ τ y (p ‖ q) a h = ap₂ _⊕_ (shape-alike n σ τ y p (omega arith) h) (shape-alike n σ τ y q (omega arith) h)
 shape-alike n σ τ y (ambient m p) a h = ap₂ (λ (k : Message) (s : Shape). cell (place k) s nil) (message-alike σ τ y m (omega arith) h) (shape-alike n σ τ y p (omega arith) h)
 shape-alike n σ τ y (action m p) a h = ap₂ (λ (k : Message) (s : Shape). chain (items k) s) (message-alike σ τ y m (omega arith) h) (shape-alike n σ τ y p (omega arith) h)
 shape-alike n σ τ y (input x p) a h = let w = occurs-input x y p a in ap (λ (s : Shape). cell (hear n) s nil) (shape-alike (suc n) (bound σ x n) (bound τ x n) y p (w .1) (bound-alike σ τ x n y (λ z _ e. h z e)))
@@ -93,7 +94,7 @@ fresh-under σ τ x y z n a b h = (
 pub rename-shape : (n : ℕ) (σ τ : ℕ → ℕ) (x y : ℕ) (p : Process) → occurs y p ≡ 0 → Fresh σ τ x y → shape n σ p ≡ shape n τ (substitute x (variable y) p)
 unfolding shape occurs substitute
 rename-shape n σ τ x y 𝟎 a h = refl
-rename-shape n σ τ x y (p ∣ q) a h = ap₂ _⊕_ (rename-shape n σ τ x y p (omega arith) h) (rename-shape n σ τ x y q (omega arith) h)
+rename-shape n σ τ x y (p ‖ q) a h = ap₂ _⊕_ (rename-shape n σ τ x y p (omega arith) h) (rename-shape n σ τ x y q (omega arith) h)
 rename-shape n σ τ x y (ambient m p) a h = ap₂ (λ (k : Message) (s : Shape). cell (place k) s nil) (rename-message σ τ x y m (omega arith) h) (rename-shape n σ τ x y p (omega arith) h)
 rename-shape n σ τ x y (action m p) a h = ap₂ (λ (k : Message) (s : Shape). chain (items k) s) (rename-message σ τ x y m (omega arith) h) (rename-shape n σ τ x y p (omega arith) h)
 rename-shape n σ τ x y (input z p) a h = let w = occurs-input z y p a in byTest (eqb z x)
@@ -107,19 +108,19 @@ bound-fresh σ x y n = (bound-same σ x n x (eqb-same x) ∙ sym (bound-same σ 
 -- THEOREM: the shapes of congruent processes are the same.
 pub sound : {p q : Process} → p ≅ q → (n : ℕ) (σ : ℕ → ℕ) → Same (shape n σ p) (shape n σ q)
 unfolding shape items chain renamed
-sound (Refl {p = p}) n σ = same-refl (shape n σ p)
-sound (Alpha {x = x} {y = y} {p = p} z) n σ = match here (same-eq (rename-shape (suc n) (bound σ x n) (bound σ y n) x y p z (bound-fresh σ x y n))) done
-sound (Symm h) n σ = same-sym (sound h n σ)
-sound (Trans h k) n σ = same-trans (sound h n σ) (sound k n σ)
-sound (Par {r = r} h) n σ = same-append (sound h n σ) (same-refl (shape n σ r))
-sound (Amb h) n σ = match here (sound h n σ) done
-sound (Action {m = m} h) n σ = chain-same (items (renamed σ m)) (sound h n σ)
-sound (Input {x = x} h) n σ = match here (sound h (suc n) (bound σ x n)) done
-sound (ParComm {p = p} {q = q}) n σ = append-comm (shape n σ p) (shape n σ q)
-sound (ParAssoc {p = p} {q = q} {r = r}) n σ = same-eq (append-assoc (shape n σ p) (shape n σ q) (shape n σ r))
-sound (ZeroPar {p = p}) n σ = same-eq (append-nil (shape n σ p))
-sound (Null {p = p}) n σ = same-refl (shape n σ p)
-sound (Path {m = m} {k = k} {p = p}) n σ = same-eq (chain-append (items (renamed σ m)) (items (renamed σ k)) (shape n σ p))
+sound (StructRefl {p = p}) n σ = same-refl (shape n σ p)
+sound (StructAlpha {x = x} {y = y} {p = p} z) n σ = match here (same-eq (rename-shape (suc n) (bound σ x n) (bound σ y n) x y p z (bound-fresh σ x y n))) done
+sound (StructSymm h) n σ = same-sym (sound h n σ)
+sound (StructTrans h k) n σ = same-trans (sound h n σ) (sound k n σ)
+sound (StructPar {r = r} h) n σ = same-append (sound h n σ) (same-refl (shape n σ r))
+sound (StructAmb h) n σ = match here (sound h n σ) done
+sound (StructAction {m = m} h) n σ = chain-same (items (renamed σ m)) (sound h n σ)
+sound (StructInput {x = x} h) n σ = match here (sound h (suc n) (bound σ x n)) done
+sound (StructParComm {p = p} {q = q}) n σ = append-comm (shape n σ p) (shape n σ q)
+sound (StructParAssoc {p = p} {q = q} {r = r}) n σ = same-eq (shape-assoc (shape n σ p) (shape n σ q) (shape n σ r))
+sound (StructZeroPar {p = p}) n σ = same-eq (shape-nil (shape n σ p))
+sound (Structε {p = p}) n σ = same-refl (shape n σ p)
+sound (StructPath {m = m} {k = k} {p = p}) n σ = same-eq (chain-append (items (renamed σ m)) (items (renamed σ k)) (shape n σ p))
 
 -- the process of a shape
 unfoldable prime : Tag → Process → Process
@@ -130,65 +131,65 @@ prime (say m) p = output m
 
 unfoldable written : Shape → Process
 written nil = 𝟎
-written (cell g i r) = prime g (written i) ∣ written r
+written (cell g i r) = prime g (written i) ‖ written r
 
-par-right : {p q r : Process} → q ≅ r → p ∣ q ≅ p ∣ r
-par-right h = Trans ParComm (Trans (Par h) ParComm)
+par-right : {p q r : Process} → q ≅ r → p ‖ q ≅ p ‖ r
+par-right h = StructTrans StructParComm (StructTrans (StructPar h) StructParComm)
 
-pub par-both : {p q r s : Process} → p ≅ q → r ≅ s → p ∣ r ≅ q ∣ s
-par-both h k = Trans (Par h) (par-right k)
+pub par-both : {p q r s : Process} → p ≅ q → r ≅ s → p ‖ r ≅ q ‖ s
+par-both h k = StructTrans (StructPar h) (par-right k)
 
 -- p | (q | r) to q | (p | r)
-pub par-swap : {p q r : Process} → p ∣ (q ∣ r) ≅ q ∣ (p ∣ r)
-par-swap = Trans (Symm ParAssoc) (Trans (Par ParComm) ParAssoc)
+pub par-swap : {p q r : Process} → p ‖ (q ‖ r) ≅ q ‖ (p ‖ r)
+par-swap = StructTrans (StructSymm StructParAssoc) (StructTrans (StructPar StructParComm) StructParAssoc)
 
 prime-cong : (g : Tag) {p q : Process} → p ≅ q → prime g p ≅ prime g q
 unfolding prime
-prime-cong (place m) h = Amb h
-prime-cong (can m) h = Action h
-prime-cong (hear x) h = Input h
-prime-cong (say m) h = Refl
+prime-cong (place m) h = StructAmb h
+prime-cong (can m) h = StructAction h
+prime-cong (hear x) h = StructInput h
+prime-cong (say m) h = StructRefl
 
-pick-written : {d q j : Shape} {g : Tag} → Pick d g j q → written d ≅ prime g (written j) ∣ written q
+pick-written : {d q j : Shape} {g : Tag} → Pick d g j q → written d ≅ prime g (written j) ‖ written q
 unfolding written
-pick-written here = Refl
-pick-written (there p) = Trans (par-right (pick-written p)) par-swap
+pick-written here = StructRefl
+pick-written (there p) = StructTrans (par-right (pick-written p)) par-swap
 
 same-written : {s t : Shape} → Same s t → written s ≅ written t
 unfolding written
-same-written done = Refl
-same-written (match {g = g} p a h) = Trans (par-both (prime-cong g (same-written a)) (same-written h)) (Symm (pick-written p))
+same-written done = StructRefl
+same-written (match {g = g} p a h) = StructTrans (par-both (prime-cong g (same-written a)) (same-written h)) (StructSymm (pick-written p))
 
-written-append : (s t : Shape) → written (s ⊕ t) ≅ written s ∣ written t
+written-append : (s t : Shape) → written (s ⊕ t) ≅ written s ‖ written t
 unfolding written _⊕_
-written-append nil t = Symm (Trans ParComm ZeroPar)
-written-append (cell g i r) t = Trans (par-right (written-append r t)) (Symm ParAssoc)
+written-append nil t = StructSymm (StructTrans StructParComm StructZeroPar)
+written-append (cell g i r) t = StructTrans (par-right (written-append r t)) (StructSymm StructParAssoc)
 
-pub prefix-append : (is js : List Message) (p : Process) → prefix is (prefix js p) ≅ prefix (is ++ js) p
+pub prefix-prefix : (is js : List Message) (p : Process) → prefix is (prefix js p) ≅ prefix (is ++ js) p
 unfolding prefix
-prefix-append [] js p = Refl
-prefix-append (i ∷ is) js p = Action (prefix-append is js p)
+prefix-prefix [] js p = StructRefl
+prefix-prefix (i ∷ is) js p = StructAction (prefix-prefix is js p)
 
 -- an action and its items
 pub action-items : (m : Message) {p : Process} → action m p ≅ prefix (items m) p
 unfolding prefix items
-action-items (name n) = Refl
-action-items (variable v) = Refl
-action-items (enter m) = Refl
-action-items (exit m) = Refl
-action-items (opens m) = Refl
-action-items empty = Null
-action-items (path m k) {p} = Trans Path (Trans (Action (action-items k)) (Trans (action-items m) (prefix-append (items m) (items k) p)))
+action-items (name n) = StructRefl
+action-items (variable v) = StructRefl
+action-items (enter m) = StructRefl
+action-items (exit m) = StructRefl
+action-items (opens m) = StructRefl
+action-items empty = Structε
+action-items (path m k) {p} = StructTrans StructPath (StructTrans (StructAction (action-items k)) (StructTrans (action-items m) (prefix-prefix (items m) (items k) p)))
 
 pub prefix-cong : (is : List Message) {p q : Process} → p ≅ q → prefix is p ≅ prefix is q
 unfolding prefix
 prefix-cong [] h = h
-prefix-cong (i ∷ is) h = Action (prefix-cong is h)
+prefix-cong (i ∷ is) h = StructAction (prefix-cong is h)
 
 written-chain : (is : List Message) (s : Shape) → written (chain is s) ≅ prefix is (written s)
 unfolding written chain prefix prime
-written-chain [] s = Refl
-written-chain (i ∷ is) s = Trans ZeroPar (Action (written-chain is s))
+written-chain [] s = StructRefl
+written-chain (i ∷ is) s = StructTrans StructZeroPar (StructAction (written-chain is s))
 
 -- every variable is its own name
 abbrev pub own : ℕ → ℕ
@@ -210,7 +211,7 @@ Below n p = (v : ℕ) → n ≤ v → occurs v p ≡ 0
 
 unfoldable size : Process → ℕ
 size 𝟎 = 0
-size (p ∣ q) = suc (size p + size q)
+size (p ‖ q) = suc (size p + size q)
 size (ambient m p) = suc (size p)
 size (action m p) = suc (size p)
 size (input x p) = suc (size p)
@@ -219,7 +220,7 @@ size (output m) = 0
 size-substitute : (x : ℕ) (r : Message) (p : Process) → size (substitute x r p) ≡ size p
 unfolding size substitute
 size-substitute x r 𝟎 = refl
-size-substitute x r (p ∣ q) = omega (arith, size-substitute x r p, size-substitute x r q)
+size-substitute x r (p ‖ q) = omega (arith, size-substitute x r p, size-substitute x r q)
 size-substitute x r (ambient m p) = omega (arith, size-substitute x r p)
 size-substitute x r (action m p) = omega (arith, size-substitute x r p)
 size-substitute x r (input y p) = byTest (eqb y x) (λ t. rw t) (λ t. rw t (omega (arith, size-substitute x r p)))
@@ -237,19 +238,19 @@ own-fresh x n = (bound-same own x n x (eqb-same x), λ z a b. bound-other own x 
 shape-written : (f n : ℕ) (p : Process) → size p < f → Below n p → p ≅ written (shape n own p)
 unfolding shape written prime size occurs
 shape-written zero n p l b = absurd (omega arith)
-shape-written (suc f) n 𝟎 l b = Refl
-shape-written (suc f) n (p ∣ q) l b = Trans (par-both (shape-written f n p (omega arith) (λ v h. omega (arith, b v h))) (shape-written f n q (omega arith) (λ v h. omega (arith, b v h)))) (Symm (written-append (shape n own p) (shape n own q)))
-shape-written (suc f) n (ambient m p) l b = rw (renamed-own m) (Trans (Amb (shape-written f n p (omega arith) (λ v h. omega (arith, b v h)))) (Symm ZeroPar))
-shape-written (suc f) n (action m p) l b = rw (renamed-own m) (Trans (action-items m) (Trans (prefix-cong (items m) (shape-written f n p (omega arith) (λ v h. omega (arith, b v h)))) (Symm (written-chain (items m) (shape n own p)))))
+shape-written (suc f) n 𝟎 l b = StructRefl
+shape-written (suc f) n (p ‖ q) l b = StructTrans (par-both (shape-written f n p (omega arith) (λ v h. omega (arith, b v h))) (shape-written f n q (omega arith) (λ v h. omega (arith, b v h)))) (StructSymm (written-append (shape n own p) (shape n own q)))
+shape-written (suc f) n (ambient m p) l b = rw (renamed-own m) (StructTrans (StructAmb (shape-written f n p (omega arith) (λ v h. omega (arith, b v h)))) (StructSymm StructZeroPar))
+shape-written (suc f) n (action m p) l b = rw (renamed-own m) (StructTrans (action-items m) (StructTrans (prefix-cong (items m) (shape-written f n p (omega arith) (λ v h. omega (arith, b v h)))) (StructSymm (written-chain (items m) (shape n own p)))))
 shape-written (suc f) n (input x p) l b =
     let c = below-under n x p b in
     let e : shape (suc n) (bound own x n) p ≡ shape (suc n) own (substitute x (variable n) p) = rename-shape (suc n) (bound own x n) own x n p (c n (omega arith)) (own-fresh x n) in
-    rw e (Trans (Alpha {x = x} {y = n} (c n (omega arith))) (Trans (Input (shape-written f (suc n) (substitute x (variable n) p) (omega (arith, size-substitute x (variable n) p)) (below-renamed n x p c))) (Symm ZeroPar)))
-shape-written (suc f) n (output m) l b = rw (renamed-own m) (Symm ZeroPar)
+    rw e (StructTrans (StructAlpha {x = x} {y = n} (c n (omega arith))) (StructTrans (StructInput (shape-written f (suc n) (substitute x (variable n) p) (omega (arith, size-substitute x (variable n) p)) (below-renamed n x p c))) (StructSymm StructZeroPar)))
+shape-written (suc f) n (output m) l b = rw (renamed-own m) (StructSymm StructZeroPar)
 
 -- THEOREM: processes are congruent where their shapes are the same, n being above all their variables.
 pub complete : (n : ℕ) {p q : Process} → Below n p → Below n q → Same (shape n own p) (shape n own q) → p ≅ q
-complete n {p} {q} a b h = Trans (shape-written (suc (size p)) n p (omega arith) a) (Trans (same-written h) (Symm (shape-written (suc (size q)) n q (omega arith) b)))
+complete n {p} {q} a b h = StructTrans (shape-written (suc (size p)) n p (omega arith) a) (StructTrans (same-written h) (StructSymm (shape-written (suc (size q)) n q (omega arith) b)))
 
 -- a number above every variable
 unfoldable pub topMessage : Message → ℕ
@@ -263,7 +264,7 @@ topMessage (path m k) = topMessage m + topMessage k
 
 unfoldable pub top : Process → ℕ
 top 𝟎 = 0
-top (p ∣ q) = top p + top q
+top (p ‖ q) = top p + top q
 top (ambient m p) = topMessage m + top p
 top (action m p) = topMessage m + top p
 top (input x p) = suc x + top p
@@ -282,7 +283,7 @@ top-message (path m k) v h = omega (arith, top-message m v (omega arith), top-me
 pub top-below : (p : Process) (n : ℕ) → top p ≤ n → Below n p
 unfolding top occurs
 top-below 𝟎 n l v h = refl
-top-below (p ∣ q) n l v h = omega (arith, top-below p n (omega arith) v h, top-below q n (omega arith) v h)
+top-below (p ‖ q) n l v h = omega (arith, top-below p n (omega arith) v h, top-below q n (omega arith) v h)
 top-below (ambient m p) n l v h = omega (arith, top-message m v (omega arith), top-below p n (omega arith) v h)
 top-below (action m p) n l v h = omega (arith, top-message m v (omega arith), top-below p n (omega arith) v h)
 top-below (input x p) n l v h = rw (ne-eqb x v (λ e. omega arith)) (top-below p n (omega arith) v h)

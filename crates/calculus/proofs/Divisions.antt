@@ -8,7 +8,8 @@ use native.Mathlib.Omega.{arith}
 use Rattle.messages.specs.Message.{Message, empty, items}
 use Rattle.scripts.specs.Tree.{Head, close, part, PlainHead, Plain}
 use Rattle.calculus.specs.Satisfaction.{Divided, nothing, left, right}
-use Rattle.calculus.specs.Calculus.{occurs, Process, 𝟎, _∣_, ambient, _≅_, Refl, Symm, Trans, ParAssoc, ZeroPar, prefix, piece, process}
+use Rattle.calculus.specs.Calculus.{occurs, Process, 𝟎, _‖_, ambient, _≅_, StructRefl, StructSymm, StructTrans, StructParAssoc, StructZeroPar}
+use Rattle.calculus.specs.TreeProcess.{prefix, piece, process}
 use Rattle.calculus.proofs.Shapes.{Tag, place, can, hear, say, Shape, nil, cell, _⊕_, chain, Same, done, match, same-sym, pick-sum}
 use Rattle.calculus.proofs.Congruences.{renamed-own, bound, own, shape, sound, complete, Below, top, top-below, par-both, par-swap}
 
@@ -152,7 +153,7 @@ pub as-nothing : (b : Plain) → Settled b → process b ≅ 𝟎 → b ≡ clos
 unfolding shape
 as-nothing b w h = only-nil 0 b w (tree-sound 0 b h)
 
-pub as-both : (b : Plain) → Settled b → (p q : Process) → process b ≅ p ∣ q → (c : Plain) × (d : Plain) × Divided b c d × (process c ≅ p) × (process d ≅ q)
+pub as-both : (b : Plain) → Settled b → (p q : Process) → process b ≅ p ‖ q → (c : Plain) × (d : Plain) × Divided b c d × (process c ≅ p) × (process d ≅ q)
 unfolding shape
 as-both b w p q h =
     let n : ℕ = top (process b) + (top p + top q) in
@@ -165,11 +166,11 @@ as-both b w p q h =
       tree-complete n (x .1) (λ v l. omega (arith, below v l, divided-occurs v (x .2))) (top-below q n (omega arith)) (x .4),
     )
 
-pub divided-congruent : {b c d : Plain} → Divided b c d → process b ≅ process c ∣ process d
+pub divided-congruent : {b c d : Plain} → Divided b c d → process b ≅ process c ‖ process d
 unfolding process
-divided-congruent nothing = Symm ZeroPar
-divided-congruent (left x) = Trans (par-both Refl (divided-congruent x)) (Symm ParAssoc)
-divided-congruent (right x) = Trans (par-both Refl (divided-congruent x)) par-swap
+divided-congruent nothing = StructSymm StructZeroPar
+divided-congruent (left x) = StructTrans (par-both StructRefl (divided-congruent x)) (StructSymm StructParAssoc)
+divided-congruent (right x) = StructTrans (par-both StructRefl (divided-congruent x)) par-swap
 
 pub divided-settled : {b c d : Plain} → Divided b c d → Settled b → Settled c × Settled d
 divided-settled nothing w = (closed, closed)

@@ -9,20 +9,21 @@ use lib.Dec.{eqb, ltb}
 use borrow.Author.Tests.{eqb-true, ne-eqb}
 use Rattle.messages.specs.Message.{Message, name, variable, enter, exit, opens, empty, path, items, substituteItems, mentions}
 use Rattle.messages.specs.Message as message
-use Rattle.scripts.specs.Tree.{Head, close, part, one, isAmbient, sum, count, put, merge, settleBy, bare, PlainHead, Plain, settle}
+use Rattle.scripts.specs.Tree.{Head, close, part, oneIf, isAmbient, total, timesIn, put, merge, settleBy, bare, PlainHead, Plain, settle}
 use Rattle.machine.specs.Moves.{Moved, spentHead}
 use Rattle.machine.specs.PlainMachine.{rest, substituteHead, substituteBody, plain, move}
 use Rattle.slices.proofs.Tests.{byTest}
 use Rattle.machine.proofs.Inversion.{move-inv}
-use Rattle.machine.proofs.Sums.{map-sum, Shrinks, made-sum, move-sum}
+use Rattle.machine.proofs.Sums.{map-total, Shrinks, made-total, move-total}
 use Rattle.calculus.specs.Satisfaction.{Divided, wrapped}
 use Rattle.calculus.specs.Order.{Part}
-use Rattle.calculus.specs.Calculus.{ambient, piece, process}
+use Rattle.calculus.specs.Calculus.{ambient}
+use Rattle.calculus.specs.TreeProcess.{piece, process}
 use Rattle.calculus.proofs.Variables.{free}
 use Rattle.calculus.proofs.Substitutions.{Closed, closed-cong, closed-both, closed-ambient, reduction-closed}
 use Rattle.calculus.proofs.Divisions.{Item, Settled, closed, settled-ambient, SettledPart, ambient-part, action-part, receipt-part, output-part, settled-part, settled-rest, settled-join, settled-inside, divided-settled, divided-congruent}
-use Rattle.calculus.proofs.Picks.{part-sum, divided-sum, part-process, part-settled}
-use Rattle.calculus.proofs.Processes.{Distinct, Once, binds, count-shrinks}
+use Rattle.calculus.proofs.Picks.{part-total, divided-total, part-process, part-settled}
+use Rattle.calculus.proofs.Processes.{Distinct, Once, binds, times-shrinks}
 use Rattle.calculus.proofs.Reductions.{move-reduces}
 
 -- one where the message is no item
@@ -90,8 +91,8 @@ unfolding merge
 merge-settled close c w s = s
 merge-settled (part k h b r) c w s = put-settled k h b (merge r c) (settled-part w) (merge-settled r c (settled-rest w) s)
 
-settleBy-settled : (b : Plain) → sum (λ k h. untidy h) b ≡ 0 → Settled (settleBy bare b)
-unfolding settleBy bare isAmbient sum untidy compounds
+settleBy-settled : (b : Plain) → total (λ k h. untidy h) b ≡ 0 → Settled (settleBy bare b)
+unfolding settleBy bare isAmbient total untidy compounds
 settleBy-settled close z = closed
 settleBy-settled (part k (Head.ambient m) b r) z = put-settled k (Head.ambient m) (settleBy bare b) (settleBy bare r) (ambient-part (settleBy-settled b (omega arith))) (settleBy-settled r (omega arith))
 settleBy-settled (part k (Head.action []) b r) z = merge-settled (settleBy bare b) (settleBy bare r) (settleBy-settled b (omega arith)) (settleBy-settled r (omega arith))
@@ -100,21 +101,21 @@ settleBy-settled (part k (Head.receipt v) b r) z = put-settled k (Head.receipt v
 settleBy-settled (part k (Head.output m) b r) z = put-settled k (Head.output m) b (settleBy bare r) output-part (settleBy-settled r (omega arith))
 
 -- THEOREM: what is settled is settled, where actions hold items.
-pub settle-settled : (b : Plain) → sum (λ k h. untidy h) b ≡ 0 → Settled (settle b)
+pub settle-settled : (b : Plain) → total (λ k h. untidy h) b ≡ 0 → Settled (settle b)
 unfolding settle
 settle-settled b z = settleBy-settled b z
 
 -- a sum over heads that a spent item and a delivered message don't make greater
-sum-less : (u w : PlainHead → ℕ) → ((h : PlainHead) → u h ≤ w h) → (b : Plain) → sum (λ k h. u h) b ≤ sum (λ k h. w h) b
-unfolding sum
-sum-less u w l close = omega arith
-sum-less u w l (part k h b r) = omega (arith, l h, sum-less u w l b, sum-less u w l r)
+total-less : (u w : PlainHead → ℕ) → ((h : PlainHead) → u h ≤ w h) → (b : Plain) → total (λ k h. u h) b ≤ total (λ k h. w h) b
+unfolding total
+total-less u w l close = omega arith
+total-less u w l (part k h b r) = omega (arith, l h, total-less u w l b, total-less u w l r)
 
 by-heads : (u : PlainHead → ℕ) → ((h : PlainHead) → u (spentHead plain h) ≤ u h) → ((v : ℕ) (m : Message) (h : PlainHead) → u (substituteHead v m h) ≤ u h) → Shrinks plain (λ k h. u h) 0
 unfolding substituteBody
 by-heads u s l = record {
   spends = λ k h. s h;
-  delivers = λ v m b. omega (arith, map-sum (λ k h. u h) (substituteHead v m) b, sum-less (λ h. u (substituteHead v m h)) u (l v m) b);
+  delivers = λ v m b. omega (arith, map-total (λ k h. u h) (substituteHead v m) b, total-less (λ h. u (substituteHead v m h)) u (l v m) b);
   takes = λ k l v m. omega arith;
 }
 
@@ -161,45 +162,45 @@ untidy-shrinks = by-heads untidy untidy-spent untidy-substitute
 -- and no variable free.
 pub record Good (n : ℕ) (b : Plain) : Type 0 where
   pub settled : Settled b
-  pub itemised : sum (λ k h. untidy h) b ≡ 0
+  pub itemised : total (λ k h. untidy h) b ≡ 0
   pub distinct : Distinct b
-  pub below : (k : ℕ) → n ≤ k → count k b ≡ 0
+  pub below : (k : ℕ) → n ≤ k → timesIn k b ≡ 0
   pub once : Once b
   pub unbound : Closed (process b)
 
 -- what is less in every sum is good too
-good-less : (n : ℕ) (b c : Plain) → Good n b → Settled c → Closed (process c) → ((f : ℕ → PlainHead → ℕ) → Shrinks plain f 0 → sum f c ≤ sum f b) → Good n c
+good-less : (n : ℕ) (b c : Plain) → Good n b → Settled c → Closed (process c) → ((f : ℕ → PlainHead → ℕ) → Shrinks plain f 0 → total f c ≤ total f b) → Good n c
 good-less n b c g s o l = record {
   settled = s;
   itemised = omega (arith, l _ untidy-shrinks, g .itemised);
-  distinct = λ k. omega (arith, l _ (count-shrinks k), g .distinct k);
-  below = λ k h. omega (arith, l _ (count-shrinks k), g .below k h);
+  distinct = λ k. omega (arith, l _ (times-shrinks k), g .distinct k);
+  below = λ k h. omega (arith, l _ (times-shrinks k), g .below k h);
   once = λ v. omega (arith, l _ (binds-shrinks v), g .once v);
   unbound = o;
 }
 
-moved-settled : (b : Plain) (a t : ℕ) (m : Moved (List Message)) → sum (λ k h. untidy h) b ≡ 0 → move a t b ≡ some m → Settled (m .body)
-moved-settled b a t m z e = let x = move-inv a t b m e in rw (x .2) (settle-settled (x .0) (omega (arith, made-sum plain (λ k h. untidy h) 0 untidy-shrinks a t (x .1))))
+moved-settled : (b : Plain) (a t : ℕ) (m : Moved (List Message)) → total (λ k h. untidy h) b ≡ 0 → move a t b ≡ some m → Settled (m .body)
+moved-settled b a t m z e = let x = move-inv a t b m e in rw (x .2) (settle-settled (x .0) (omega (arith, made-total plain (λ k h. untidy h) 0 untidy-shrinks a t (x .1))))
 
 pub good-move : (n : ℕ) (b : Plain) (a t : ℕ) (m : Moved (List Message)) → Good n b → move a t b ≡ some m → Good n (m .body)
 good-move n b a t m g e =
     good-less n b (m .body) g (moved-settled b a t m (g .itemised) e) (reduction-closed (move-reduces a t b m (g .distinct) (g .once) e) (g .unbound))
-    (λ f w. omega (arith, move-sum f 0 w a t b m e))
+    (λ f w. omega (arith, move-total f 0 w a t b m e))
 
 pub good-divided : (n : ℕ) (b c d : Plain) → Good n b → Divided b c d → Good n c × Good n d
 good-divided n b c d g x =
     let s = divided-settled x (g .settled) in
     let o = closed-both (process c) (process d) (closed-cong (divided-congruent x) (g .unbound)) in
-    (good-less n b c g (s .0) (o .0) (λ f w. omega (arith, divided-sum f x)), good-less n b d g (s .1) (o .1) (λ f w. omega (arith, divided-sum f x)))
+    (good-less n b c g (s .0) (o .0) (λ f w. omega (arith, divided-total f x)), good-less n b d g (s .1) (o .1) (λ f w. omega (arith, divided-total f x)))
 
 pub good-part : (n : ℕ) (b c i : Plain) (k : ℕ) (m : Message) → Good n b → Part b k (Head.ambient m) i c → Good n i
 unfolding piece
 good-part n b c i k m g p =
     good-less n b i g (settled-inside (part-settled p (g .settled)))
-    (closed-ambient m (process i) (closed-both (ambient m (process i)) (process c) (closed-cong (part-process p) (g .unbound)) .0)) (λ f w. omega (arith, part-sum f p))
+    (closed-ambient m (process i) (closed-both (ambient m (process i)) (process c) (closed-cong (part-process p) (g .unbound)) .0)) (λ f w. omega (arith, part-total f p))
 
 pub good-placed : (n k j : ℕ) (b : Plain) → Good n b → n ≤ k → Good (suc k) (wrapped k j b)
-unfolding sum untidy binds process piece free mentions
+unfolding total untidy binds process piece free mentions
 good-placed n k i b g l = record {
   settled = settled-ambient (g .settled) closed;
   itemised = omega (arith, g .itemised);
@@ -209,10 +210,10 @@ good-placed n k i b g l = record {
   unbound = λ v. omega (arith, g .unbound v);
 }
   where
-    other : (j : ℕ) → eqb j k ≡ false → one (eqb j k) ≡ 0
+    other : (j : ℕ) → eqb j k ≡ false → oneIf (eqb j k) ≡ 0
     other j e = rw e
 
-    apart : (j : ℕ) → one (eqb j k) + (count j b + 0) ≤ 1
+    apart : (j : ℕ) → oneIf (eqb j k) + (timesIn j b + 0) ≤ 1
     apart j = byTest (eqb j k)
         (λ t. let e : j ≡ k = eqb-true j k t in rw t (omega (arith, g .below j (omega arith))))
         (λ t. rw t (omega (arith, g .distinct j)))

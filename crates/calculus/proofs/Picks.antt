@@ -6,24 +6,25 @@ use mathlib.Core.Path.{_≡_, refl, sym, ap, _∙_, subst}
 use mathlib.Core.Logic.{_⊎_, inl, inr}
 use native.Mathlib.Omega.{arith}
 use Rattle.messages.specs.Message.{Message, items}
-use Rattle.scripts.specs.Tree.{Head, close, part, sum, PlainHead, Plain}
+use Rattle.scripts.specs.Tree.{Head, close, part, total, PlainHead, Plain}
 use Rattle.calculus.specs.Satisfaction.{Divided, nothing, left, right}
 use Rattle.calculus.specs.Order.{Part, front, behind}
-use Rattle.calculus.specs.Calculus.{occurs, Process, 𝟎, _∣_, ambient, action, input, output, _≅_, Refl, Symm, Trans, ZeroPar, prefix, piece, process}
+use Rattle.calculus.specs.Calculus.{occurs, Process, 𝟎, _‖_, ambient, action, input, output, _≅_, StructRefl, StructSymm, StructTrans, StructZeroPar}
+use Rattle.calculus.specs.TreeProcess.{prefix, piece, process}
 use Rattle.calculus.proofs.Shapes.{Tag, place, can, hear, say, Shape, nil, cell, _⊕_, chain, Pick, here, there, Same, done, match, same-sym}
 use Rattle.calculus.proofs.Congruences.{renamed-own, bound, own, shape, complete, Below, top, top-below, par-both, par-swap}
 use Rattle.calculus.proofs.Divisions.{Item, Settled, SettledPart, action-part, settled-part, settled-rest, settled-inside, settled-join, tag, core, flat, settled-flat, flat-close, tag-place, tree-sound, tree-complete, as-nothing}
 
-pub part-sum : (f : ℕ → PlainHead → ℕ) {b i c : Plain} {k : ℕ} {h : PlainHead} → Part b k h i c → sum f b ≡ f k h + (sum f i + sum f c)
-unfolding sum
-part-sum f front = refl
-part-sum f (behind p) = omega (arith, part-sum f p)
+pub part-total : (f : ℕ → PlainHead → ℕ) {b i c : Plain} {k : ℕ} {h : PlainHead} → Part b k h i c → total f b ≡ f k h + (total f i + total f c)
+unfolding total
+part-total f front = refl
+part-total f (behind p) = omega (arith, part-total f p)
 
-pub divided-sum : (f : ℕ → PlainHead → ℕ) {b c d : Plain} → Divided b c d → sum f b ≡ sum f c + sum f d
-unfolding sum
-divided-sum f nothing = omega arith
-divided-sum f (left x) = omega (arith, divided-sum f x)
-divided-sum f (right x) = omega (arith, divided-sum f x)
+pub divided-total : (f : ℕ → PlainHead → ℕ) {b c d : Plain} → Divided b c d → total f b ≡ total f c + total f d
+unfolding total
+divided-total f nothing = omega arith
+divided-total f (left x) = omega (arith, divided-total f x)
+divided-total f (right x) = omega (arith, divided-total f x)
 
 pub part-divided : {b c d i q : Plain} {k : ℕ} {h : PlainHead} → Divided b c d → Part c k h i q → (r : Plain) × Part b k h i r × Divided r q d
 part-divided (left x) front = (_, front, x)
@@ -37,10 +38,10 @@ part-swap (behind p) front = (_, front, p)
 part-swap (behind p) (behind q) = let x = part-swap p q in (_, behind (x .1), behind (x .2))
 
 -- the process of the body, by one of its parts
-pub part-process : {b i c : Plain} {k : ℕ} {h : PlainHead} → Part b k h i c → process b ≅ piece h (process i) ∣ process c
+pub part-process : {b i c : Plain} {k : ℕ} {h : PlainHead} → Part b k h i c → process b ≅ piece h (process i) ‖ process c
 unfolding process
-part-process front = Refl
-part-process (behind p) = Trans (par-both Refl (part-process p)) par-swap
+part-process front = StructRefl
+part-process (behind p) = StructTrans (par-both StructRefl (part-process p)) par-swap
 
 pub part-settled : {b i c : Plain} {k : ℕ} {h : PlainHead} → Part b k h i c → Settled b → SettledPart h i
 part-settled front s = settled-part s
@@ -121,14 +122,14 @@ module _ (n : ℕ) where
   -- what stands first in a shape is a part of the tree
   prime : (b : Plain) → Settled b → Below n (process b) → (g : Tag) (s : Shape) (q : Process) → Below n q → Same (cell g s (shape n own q)) (flat n b) →
       (h : PlainHead) × (tag n h ≡ g) × Cored b q s h
-  prime b w low g s q high (match p a e) =
+  prime b w tree-low g s q high (match p a e) =
       let x = pick-part b w g _ _ p in
       let y : Has b (x .head) q = record {
         number = x .number;
         inside = x .inside;
         others = x .others;
         at = x .at;
-        congruent = tree-complete n (x .others) (λ v l. omega (arith, low v l, part-occurs v (x .at))) high (subst (λ u. Same u (shape n own q)) (sym (x .left-over)) (same-sym e));
+        congruent = tree-complete n (x .others) (λ v l. omega (arith, tree-low v l, part-occurs v (x .at))) high (subst (λ u. Same u (shape n own q)) (sym (x .left-over)) (same-sym e));
         settled = x .settled;
       } in
       (x .head, x .tagged, (y, subst (λ u. Same u s) (sym (x .cored)) (same-sym a), x .whole))
@@ -169,52 +170,52 @@ module _ (b : Plain) (w : Settled b) where
   abbrev above : Process → ℕ
   above q = top (process b) + top q
 
-  low : (q : Process) → Below (above q) (process b)
-  low q = top-below (process b) (above q) (omega arith)
+  tree-low : (q : Process) → Below (above q) (process b)
+  tree-low q = top-below (process b) (above q) (omega arith)
 
-  pub has-ambient : (m : Message) (p q : Process) → process b ≅ ambient m p ∣ q → (x : Has b (Head.ambient m) q) × (process (x .inside) ≅ p) × Settled (x .inside)
+  pub has-ambient : (m : Message) (p q : Process) → process b ≅ ambient m p ‖ q → (x : Has b (Head.ambient m) q) × (process (x .inside) ≅ p) × Settled (x .inside)
   unfolding shape _⊕_ core top
   has-ambient m p q h =
-      let n : ℕ = above (p ∣ q) in
-      let y = prime n b w (low (p ∣ q)) (place m) (shape n own p) q (top-below q n (omega arith))
+      let n : ℕ = above (p ‖ q) in
+      let y = prime n b w (tree-low (p ‖ q)) (place m) (shape n own p) q (top-below q n (omega arith))
       (same-sym (subst (λ (u : Message). Same (flat n b) (cell (place u) (shape n own p) (shape n own q))) (renamed-own m) (tree-sound n b h))) in
       let z : Cored n b q (shape n own p) (Head.ambient m) = subst (Cored n b q (shape n own p)) (tag-place n (y .0) m (y .1)) (y .2) in (
         z .0,
-        complete n (λ v l. omega (arith, low (p ∣ q) v l, part-occurs v (z .0 .at), occurs-ambient v m (process (z .0 .inside)))) (top-below p n (omega arith)) (z .1),
+        complete n (λ v l. omega (arith, tree-low (p ‖ q) v l, part-occurs v (z .0 .at), occurs-ambient v m (process (z .0 .inside)))) (top-below p n (omega arith)) (z .1),
         settled-inside (z .2),
       )
 
-  pub has-receipt : (v : ℕ) (p q : Process) → process b ≅ input v p ∣ q → (u : ℕ) × (x : Has b (Head.receipt u) q) × (input u (process (x .inside)) ≅ input v p)
+  pub has-receipt : (v : ℕ) (p q : Process) → process b ≅ input v p ‖ q → (u : ℕ) × (x : Has b (Head.receipt u) q) × (input u (process (x .inside)) ≅ input v p)
   unfolding shape _⊕_ core piece top
   has-receipt v p q h =
-      let n : ℕ = above (input v p ∣ q) in
+      let n : ℕ = above (input v p ‖ q) in
       let s : Shape = shape (suc n) (bound own v n) p in
-      let y = prime n b w (low (input v p ∣ q)) (hear n) s q (top-below q n (omega arith)) (same-sym (tree-sound n b h)) in
+      let y = prime n b w (tree-low (input v p ‖ q)) (hear n) s q (top-below q n (omega arith)) (same-sym (tree-sound n b h)) in
       let f = tag-hear n (y .0) (y .1) in
       let z : Cored n b q s (Head.receipt (f .0)) = subst (Cored n b q s) (f .1) (y .2) in (
         f .0,
         z .0,
-        complete n (λ u l. omega (arith, low (input v p ∣ q) u l, part-occurs u (z .0 .at))) (top-below (input v p) n (omega arith)) (match here (z .1) done),
+        complete n (λ u l. omega (arith, tree-low (input v p ‖ q) u l, part-occurs u (z .0 .at))) (top-below (input v p) n (omega arith)) (match here (z .1) done),
       )
 
-  pub has-output : (m : Message) (q : Process) → process b ≅ output m ∣ q → Has b (Head.output m) q
+  pub has-output : (m : Message) (q : Process) → process b ≅ output m ‖ q → Has b (Head.output m) q
   unfolding shape _⊕_
   has-output m q h =
       let n : ℕ = above q in
-      let y = prime n b w (low q) (say m) nil q (top-below q n (omega arith)) (same-sym (subst (λ (u : Message). Same (flat n b) (cell (say u) nil (shape n own q))) (renamed-own m) (tree-sound n b h))) in
+      let y = prime n b w (tree-low q) (say m) nil q (top-below q n (omega arith)) (same-sym (subst (λ (u : Message). Same (flat n b) (cell (say u) nil (shape n own q))) (renamed-own m) (tree-sound n b h))) in
       subst (λ g. Has b g q) (tag-say n (y .0) m (y .1)) (y .2 .0)
 
-  pub has-action : (i : Message) → Item i → (p q : Process) → process b ≅ action i p ∣ q → (is : List Message) × (x : Has b (Head.action (i ∷ is)) q) × (prefix is (process (x .inside)) ≅ p)
+  pub has-action : (i : Message) → Item i → (p q : Process) → process b ≅ action i p ‖ q → (is : List Message) × (x : Has b (Head.action (i ∷ is)) q) × (prefix is (process (x .inside)) ≅ p)
   unfolding shape _⊕_ core chain top
   has-action i u p q h =
-      let n : ℕ = above (p ∣ q) in
-      let y = prime n b w (low (p ∣ q)) (can i) (shape n own p) q (top-below q n (omega arith))
+      let n : ℕ = above (p ‖ q) in
+      let y = prime n b w (tree-low (p ‖ q)) (can i) (shape n own p) q (top-below q n (omega arith))
       (same-sym (subst (λ l. Same (flat n b) (chain l (shape n own p) ⊕ shape n own q)) (ap items (renamed-own i) ∙ u) (tree-sound n b h))) in
       let f = tag-can n (y .0) (y .2 .0 .inside) i (y .2 .2) (y .1) in
       let z : Cored n b q (shape n own p) (Head.action (i ∷ f .0)) = subst (Cored n b q (shape n own p)) (f .1) (y .2) in (
         f .0,
         z .0,
-        complete n (λ v l. omega (arith, low (p ∣ q) v l, part-occurs v (z .0 .at), occurs-action v i (f .0) (process (z .0 .inside)))) (top-below p n (omega arith)) (z .1),
+        complete n (λ v l. omega (arith, tree-low (p ‖ q) v l, part-occurs v (z .0 .at), occurs-action v i (f .0) (process (z .0 .inside)))) (top-below p n (omega arith)) (z .1),
       )
 
 only-part : {b i c : Plain} {k : ℕ} {h : PlainHead} → Part b k h i c → c ≡ close → b ≡ part k h i close
@@ -224,5 +225,5 @@ only-part (behind p) e = let z : _≡_ {A = ℕ} 0 1 = cc in absurd (omega arith
 -- 000, proposition 3.1: what is congruent to n[Q]
 pub as-ambient : (b : Plain) → Settled b → (m : Message) (q : Process) → process b ≅ ambient m q → (k : ℕ) × (c : Plain) × (b ≡ part k (Head.ambient m) c close) × (process c ≅ q)
 as-ambient b w m q h =
-    let x = has-ambient b w m q 𝟎 (Trans h (Symm ZeroPar)) in
+    let x = has-ambient b w m q 𝟎 (StructTrans h (StructSymm StructZeroPar)) in
     (x .0 .number, x .0 .inside, only-part (x .0 .at) (as-nothing (x .0 .others) (x .0 .settled) (x .0 .congruent)), x .1)

@@ -10,64 +10,65 @@ use lib.Dec.{eqb, ltb}
 use borrow.Author.Tests.{eqb-true}
 use Rattle.messages.specs.Message.{Message, items, substituteItems}
 use Rattle.messages.specs.Message as message
-use Rattle.scripts.specs.Tree.{Head, close, part, one, isAmbient, sum, count, put, merge, mapHeads, settleBy, bare, PlainHead, Plain, settle}
-use Rattle.machine.specs.Bodies.{find, drop, alter}
+use Rattle.scripts.specs.Tree.{Head, close, part, oneIf, isAmbient, total, timesIn, put, merge, mapHeads, settleBy, bare, PlainHead, Plain, settle}
+use Rattle.machine.specs.Bodies.{find, removePart, alter}
 use Rattle.machine.specs.PlainMachine.{substituteHead, substituteBody, plain}
 use Rattle.slices.proofs.Tests.{byTest}
 use Rattle.machine.proofs.Options.{some-is, none≢some}
-use Rattle.machine.proofs.Sums.{drop-none, merge-sum, settle-sum, Shrinks, plain-numbers}
-use Rattle.calculus.specs.Calculus.{Process, _∣_, ambient, action, output, _≅_, Refl, Symm, Trans, Amb, Input, ParComm, ParAssoc, ZeroPar, prefix, piece, process, substitute}
+use Rattle.machine.proofs.Sums.{removePart-none, merge-total, settle-total, Shrinks, plain-numbers}
+use Rattle.calculus.specs.Calculus.{Process, _‖_, ambient, action, output, _≅_, StructRefl, StructSymm, StructTrans, StructAmb, StructInput, StructParComm, StructParAssoc, StructZeroPar, substitute}
+use Rattle.calculus.specs.TreeProcess.{prefix, piece, process}
 use Rattle.calculus.proofs.Variables.{eqb-same, eqb-flip}
-use Rattle.calculus.proofs.Congruences.{par-both, par-swap, action-items, prefix-cong, prefix-append}
+use Rattle.calculus.proofs.Congruences.{par-both, par-swap, action-items, prefix-cong, prefix-prefix}
 
 -- no two parts of the tree have one number
 abbrev pub Distinct : Plain → Type 0
-Distinct b = (j : ℕ) → count j b ≤ 1
+Distinct b = (j : ℕ) → timesIn j b ≤ 1
 
-pub own-count : (k : ℕ) → one (eqb k k) ≡ 1
-own-count k = rw (eqb-same k)
+pub own-times : (k : ℕ) → oneIf (eqb k k) ≡ 1
+own-times k = rw (eqb-same k)
 
 -- a number that does not stand in the tree is not the first part's
-pub count-other : (n k : ℕ) → one (eqb n k) ≡ 0 → eqb n k ≡ false
-count-other n k z = byTest (eqb n k) (λ t. absurd (omega (arith, rw t at z))) (λ t. t)
+pub times-other : (n k : ℕ) → oneIf (eqb n k) ≡ 0 → eqb n k ≡ false
+times-other n k z = byTest (eqb n k) (λ t. absurd (omega (arith, rw t at z))) (λ t. t)
 
 -- moves don't make a number stand more often
-pub count-shrinks : (j : ℕ) → Shrinks plain (λ k h. one (eqb j k)) 0
-count-shrinks j = plain-numbers (λ k. one (eqb j k)) 0 (λ k l. omega arith)
+pub times-shrinks : (j : ℕ) → Shrinks plain (λ k h. oneIf (eqb j k)) 0
+times-shrinks j = plain-numbers (λ k. oneIf (eqb j k)) 0 (λ k l. omega arith)
 
 pub piece-cong : (h : PlainHead) {p q : Process} → p ≅ q → piece h p ≅ piece h q
 unfolding piece
-piece-cong (Head.ambient m) e = Amb e
+piece-cong (Head.ambient m) e = StructAmb e
 piece-cong (Head.action is) e = prefix-cong is e
-piece-cong (Head.receipt v) e = Input e
-piece-cong (Head.output m) e = Refl
+piece-cong (Head.receipt v) e = StructInput e
+piece-cong (Head.output m) e = StructRefl
 
-pub put-process : (n : ℕ) (g : PlainHead) (i b : Plain) → count n b ≡ 0 → process (put n g i b) ≅ piece g (process i) ∣ process b
-unfolding put process sum
-put-process n g i close e = Refl
-put-process n g i (part k h b r) e = byTest (ltb n k) (λ t. rw t Refl)
+pub put-process : (n : ℕ) (g : PlainHead) (i b : Plain) → timesIn n b ≡ 0 → process (put n g i b) ≅ piece g (process i) ‖ process b
+unfolding put process total
+put-process n g i close e = StructRefl
+put-process n g i (part k h b r) e = byTest (ltb n k) (λ t. rw t StructRefl)
     (λ t. byTest (eqb n k)
     (λ u. absurd (omega (arith, rw u at e)))
-    (λ u. rw (t, u) (Trans (par-both Refl (put-process n g i r (omega arith))) par-swap)))
+    (λ u. rw (t, u) (StructTrans (par-both StructRefl (put-process n g i r (omega arith))) par-swap)))
 
-pub merge-process : (b c : Plain) → ((j : ℕ) → count j b + count j c ≤ 1) → process (merge b c) ≅ process b ∣ process c
-unfolding merge process sum
-merge-process close c d = Symm (Trans ParComm ZeroPar)
+pub merge-process : (b c : Plain) → ((j : ℕ) → timesIn j b + timesIn j c ≤ 1) → process (merge b c) ≅ process b ‖ process c
+unfolding merge process total
+merge-process close c d = StructSymm (StructTrans StructParComm StructZeroPar)
 merge-process (part k h b r) c d =
-    Trans (put-process k h b (merge r c) (omega (arith, d k, own-count k, merge-sum (λ i g. one (eqb k i)) r c)))
-    (Trans (par-both Refl (merge-process r c (λ j. omega (arith, d j)))) (Symm ParAssoc))
+    StructTrans (put-process k h b (merge r c) (omega (arith, d k, own-times k, merge-total (λ i g. oneIf (eqb k i)) r c)))
+    (StructTrans (par-both StructRefl (merge-process r c (λ j. omega (arith, d j)))) (StructSymm StructParAssoc))
 
 module _ (n : ℕ) (F : PlainHead → PlainHead) (G : Plain → Plain) where
   -- the part altered, beside the others
-  pub alter-process : (b : Plain) (p : PlainHead × Plain) → count n b ≤ 1 → find n b ≡ some p → process (alter n F G b) ≅ piece (F (p .0)) (process (G (p .1))) ∣ process (drop n b)
-  unfolding find drop alter process sum
+  pub alter-process : (b : Plain) (p : PlainHead × Plain) → timesIn n b ≤ 1 → find n b ≡ some p → process (alter n F G b) ≅ piece (F (p .0)) (process (G (p .1))) ‖ process (removePart n b)
+  unfolding find removePart alter process total
   alter-process close p d e = none≢some e
   alter-process (part k h b r) p d e = byTest (eqb n k)
       (λ t.
       let q : (h, b) ≡ p = some-is (rw t at e) in
-      let z : drop n r ≡ r = drop-none n r (omega (arith, rw t at d)) in
-      rw (t, z, ← q) Refl)
-      (λ t. rw t (Trans (par-both Refl (alter-process r p (omega arith) (rw t at e))) par-swap))
+      let z : removePart n r ≡ r = removePart-none n r (omega (arith, rw t at d)) in
+      rw (t, z, ← q) StructRefl)
+      (λ t. rw t (StructTrans (par-both StructRefl (alter-process r p (omega arith) (rw t at e))) par-swap))
 
   -- a part is altered beside others that are put in
   alter-put : (k : ℕ) (h : PlainHead) (s b : Plain) → eqb n k ≡ false → alter n F G (put k h s b) ≡ put k h s (alter n F G b)
@@ -79,10 +80,10 @@ module _ (n : ℕ) (F : PlainHead → PlainHead) (G : Plain → Plain) where
       (λ u. let w : eqb n i ≡ false = ap (eqb n) (sym (eqb-true k i u)) ∙ d in rw (t, u, w, t, u))
       (λ u. byTest (eqb n i) (λ w. rw (t, u, w, t, u)) (λ w. rw (t, u, w, t, u) (ap (part i g c) (alter-put k h s r d)))))
 
-  pub alter-merge : (b c : Plain) → count n b ≡ 0 → alter n F G (merge b c) ≡ merge b (alter n F G c)
-  unfolding merge sum
+  pub alter-merge : (b c : Plain) → timesIn n b ≡ 0 → alter n F G (merge b c) ≡ merge b (alter n F G c)
+  unfolding merge total
   alter-merge close c d = refl
-  alter-merge (part k h s r) c d = alter-put k h s (merge r c) (count-other n k (omega arith)) ∙ ap (put k h s) (alter-merge r c (omega arith))
+  alter-merge (part k h s r) c d = alter-put k h s (merge r c) (times-other n k (omega arith)) ∙ ap (put k h s) (alter-merge r c (omega arith))
 
 alter-nothing : (n : ℕ) (b : Plain) → alter n (λ h. h) (λ s. s) b ≡ b
 unfolding alter
@@ -90,7 +91,7 @@ alter-nothing n close = refl
 alter-nothing n (part k h b r) = byTest (eqb n k) (λ t. rw t) (λ t. rw t (ap (part k h b) (alter-nothing n r)))
 
 -- the part found, beside the others
-pub find-process : (n : ℕ) (b : Plain) (p : PlainHead × Plain) → count n b ≤ 1 → find n b ≡ some p → process b ≅ piece (p .0) (process (p .1)) ∣ process (drop n b)
+pub find-process : (n : ℕ) (b : Plain) (p : PlainHead × Plain) → timesIn n b ≤ 1 → find n b ≡ some p → process b ≅ piece (p .0) (process (p .1)) ‖ process (removePart n b)
 find-process n b p d e = rw (alter-nothing n b) at (alter-process n (λ h. h) (λ s. s) b p d e)
 
 -- an action with no items
@@ -108,18 +109,18 @@ bare-process h p e = rw (bare-inv h e)
 
 either-process : (t : Bool) (b c : Plain) → process b ≅ process c → process (cond t b c) ≅ process c
 either-process true b c e = e
-either-process false b c e = Refl
+either-process false b c e = StructRefl
 
 settleBy-process : (b : Plain) → Distinct b → process (settleBy bare b) ≅ process b
-unfolding settleBy process sum
-settleBy-process close d = Refl
+unfolding settleBy process total
+settleBy-process close d = StructRefl
 settleBy-process (part k h b r) d =
     let x = settleBy-process b (λ j. omega (arith, d j)) in
     let y = settleBy-process r (λ j. omega (arith, d j)) in
-    let less : (c : Plain) (j : ℕ) → count j (settleBy bare c) ≤ count j c = λ c j. settle-sum (λ i g. one (eqb j i)) bare c in
+    let less : (c : Plain) (j : ℕ) → timesIn j (settleBy bare c) ≤ timesIn j c = λ c j. settle-total (λ i g. oneIf (eqb j i)) bare c in
     byTest (bare h)
-    (λ t. rw (t, bare-process h (process b) t) (Trans (merge-process (settleBy bare b) (settleBy bare r) (λ j. omega (arith, d j, less b j, less r j))) (par-both x y)))
-    (λ t. rw t (Trans (put-process k h (cond (isAmbient h) (settleBy bare b) b) (settleBy bare r) (omega (arith, d k, own-count k, less r k)))
+    (λ t. rw (t, bare-process h (process b) t) (StructTrans (merge-process (settleBy bare b) (settleBy bare r) (λ j. omega (arith, d j, less b j, less r j))) (par-both x y)))
+    (λ t. rw t (StructTrans (put-process k h (cond (isAmbient h) (settleBy bare b) b) (settleBy bare r) (omega (arith, d k, own-times k, less r k)))
     (par-both (piece-cong h (either-process (isAmbient h) (settleBy bare b) b x)) y)))
 
 pub settle-process : (b : Plain) → Distinct b → process (settle b) ≅ process b
@@ -130,12 +131,12 @@ settle-process b d = settleBy-process b d
 unfoldable pub binds : ℕ → PlainHead → ℕ
 binds v (Head.ambient m) = 0
 binds v (Head.action is) = 0
-binds v (Head.receipt u) = one (eqb v u)
+binds v (Head.receipt u) = oneIf (eqb v u)
 binds v (Head.output m) = 0
 
 -- the receipts of v in the tree
 abbrev pub bindings : ℕ → Plain → ℕ
-bindings v b = sum (λ k h. binds v h) b
+bindings v b = total (λ k h. binds v h) b
 
 -- no variable is bound twice
 abbrev pub Once : Plain → Type 0
@@ -143,24 +144,24 @@ Once b = (v : ℕ) → bindings v b ≤ 1
 
 pub own-binds : (v : ℕ) → binds v (Head.receipt v) ≡ 1
 unfolding binds
-own-binds v = own-count v
+own-binds v = own-times v
 
 substitute-prefix : (v : ℕ) (m : Message) (is : List Message) (p : Process) {q : Process} → q ≅ substitute v m p → prefix (substituteItems v m is) q ≅ substitute v m (prefix is p)
 unfolding prefix substituteItems substitute
 substitute-prefix v m [] p h = h
 substitute-prefix v m (i ∷ is) p {q} h =
     let j : Message = message.substitute v m i in
-    Trans (Symm (prefix-append (items j) (substituteItems v m is) q)) (Trans (prefix-cong (items j) (substitute-prefix v m is p h)) (Symm (action-items j)))
+    StructTrans (StructSymm (prefix-prefix (items j) (substituteItems v m is) q)) (StructTrans (prefix-cong (items j) (substitute-prefix v m is p h)) (StructSymm (action-items j)))
 
 substitute-piece : (v : ℕ) (m : Message) (h : PlainHead) (p : Process) {q : Process} → binds v h ≡ 0 → q ≅ substitute v m p → piece (substituteHead v m h) q ≅ substitute v m (piece h p)
 unfolding piece substituteHead substitute binds
-substitute-piece v m (Head.ambient n) p z h = Amb h
+substitute-piece v m (Head.ambient n) p z h = StructAmb h
 substitute-piece v m (Head.action is) p z h = substitute-prefix v m is p h
-substitute-piece v m (Head.receipt u) p z h = rw (eqb-flip v u (count-other v u z)) (Input h)
-substitute-piece v m (Head.output n) p z h = Refl
+substitute-piece v m (Head.receipt u) p z h = rw (eqb-flip v u (times-other v u z)) (StructInput h)
+substitute-piece v m (Head.output n) p z h = StructRefl
 
 pub substitute-process : (v : ℕ) (m : Message) (b : Plain) → bindings v b ≡ 0 → process (substituteBody v m b) ≅ substitute v m (process b)
-unfolding substituteBody mapHeads process substitute sum
-substitute-process v m close z = Refl
+unfolding substituteBody mapHeads process substitute total
+substitute-process v m close z = StructRefl
 substitute-process v m (part k h b r) z =
     par-both (substitute-piece v m h (process b) (omega arith) (substitute-process v m b (omega arith))) (substitute-process v m r (omega arith))

@@ -67,15 +67,15 @@ pub same-sym : {a b : Shape} → Same a b → Same b a
 same-sym done = done
 same-sym (match p a s) = same-pick p (same-sym a) (same-sym s)
 
-pub append-nil : (s : Shape) → s ⊕ nil ≡ s
+pub shape-nil : (s : Shape) → s ⊕ nil ≡ s
 unfolding _⊕_
-append-nil nil = refl
-append-nil (cell g i r) = ap (cell g i) (append-nil r)
+shape-nil nil = refl
+shape-nil (cell g i r) = ap (cell g i) (shape-nil r)
 
-pub append-assoc : (s t u : Shape) → (s ⊕ t) ⊕ u ≡ s ⊕ (t ⊕ u)
+pub shape-assoc : (s t u : Shape) → (s ⊕ t) ⊕ u ≡ s ⊕ (t ⊕ u)
 unfolding _⊕_
-append-assoc nil t u = refl
-append-assoc (cell g i r) t u = ap (cell g i) (append-assoc r t u)
+shape-assoc nil t u = refl
+shape-assoc (cell g i r) t u = ap (cell g i) (shape-assoc r t u)
 
 pick-left : {a b i : Shape} {g : Tag} (c : Shape) → Pick a g i b → Pick (a ⊕ c) g i (b ⊕ c)
 unfolding _⊕_
@@ -97,7 +97,7 @@ same-eq {a} e = subst (Same a) e (same-refl a)
 
 pub append-comm : (a b : Shape) → Same (a ⊕ b) (b ⊕ a)
 unfolding _⊕_
-append-comm nil b = same-eq (sym (append-nil b))
+append-comm nil b = same-eq (sym (shape-nil b))
 append-comm (cell g i r) b = match (pick-right b here) (same-refl i) (append-comm r b)
 
 pub chain-append : (is js : List Message) (s : Shape) → chain (is ++ js) s ≡ chain is (chain js s)

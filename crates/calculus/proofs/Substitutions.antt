@@ -9,7 +9,7 @@ use borrow.Author.Tests.{eqb-true}
 use Rattle.messages.specs.Message.{Message, variable, mentions}
 use Rattle.messages.specs.Message as message
 use Rattle.slices.proofs.Tests.{byTest}
-use Rattle.calculus.specs.Calculus.{Process, _∣_, ambient, input, output, _≅_, Refl, Alpha, Symm, Trans, Par, Amb, Action, Input, ParComm, ParAssoc, ZeroPar, Null, Path, substitute, occurs, _⟶_, RedIn, RedOut, RedOpen, RedIO, RedPar, RedAmb, RedCong}
+use Rattle.calculus.specs.Calculus.{Process, _‖_, ambient, input, output, _≅_, StructRefl, StructAlpha, StructSymm, StructTrans, StructPar, StructAmb, StructAction, StructInput, StructParComm, StructParAssoc, StructZeroPar, Structε, StructPath, substitute, occurs, _⟶_, RedIn, RedOut, RedOpen, RedIO, RedPar, RedAmb, RedCong}
 use Rattle.messages.proofs.Mentioning.{mentions-other}
 use Rattle.calculus.proofs.Variables.{occurs-less, input-same, input-other, substitute-absent, substitute-twice, substitute-comm, substitute-free, free, free-same, free-other, free-occurs, free-gone, free-less, free-more}
 use Rattle.calculus.proofs.Shapes.{Same, same-one}
@@ -26,32 +26,32 @@ Closed p = (v : ℕ) → free v p ≡ 0
 substitute-alpha : (v : ℕ) (r : Message) → Ground r → (x y : ℕ) (p : Process) → occurs y p ≡ 0 → substitute v r (input x p) ≅ substitute v r (input y (substitute x (variable y) p))
 substitute-alpha v r g x y p z = byTest (eqb x v)
     (λ s. byTest (eqb y v)
-    (λ t. rw (input-same x v r p s, input-same y v r (substitute x (variable y) p) t) (Alpha z))
+    (λ t. rw (input-same x v r p s, input-same y v r (substitute x (variable y) p) t) (StructAlpha z))
     (λ t. rw (
       input-same x v r p s,
       input-other y v r (substitute x (variable y) p) t,
       substitute-free v r (substitute x (variable y) p) (subst (λ w. free w (substitute x (variable y) p) ≡ 0) (eqb-true x v s) (free-gone x (variable y) p (mentions-other y x (subst (λ w. eqb y w ≡ false) (sym (eqb-true x v s)) t)))),
-    ) (Alpha z)))
+    ) (StructAlpha z)))
     (λ s. byTest (eqb y v)
-    (λ t. rw (input-other x v r p s, input-same y v r (substitute x (variable y) p) t, substitute-absent v r p (subst (λ w. occurs w p ≡ 0) (eqb-true y v t) z)) (Alpha z))
+    (λ t. rw (input-other x v r p s, input-same y v r (substitute x (variable y) p) t, substitute-absent v r p (subst (λ w. occurs w p ≡ 0) (eqb-true y v t) z)) (StructAlpha z))
     (λ t. let o : occurs y (substitute v r p) ≡ 0 = omega (arith, occurs-less y v r p (g y)) in
-    rw (input-other x v r p s, input-other y v r (substitute x (variable y) p) t, substitute-comm v x y r p s t (g x)) (Alpha o)))
+    rw (input-other x v r p s, input-other y v r (substitute x (variable y) p) t, substitute-comm v x y r p s t (g x)) (StructAlpha o)))
 
 pub substitute-cong : (v : ℕ) (r : Message) → Ground r → {p q : Process} → p ≅ q → substitute v r p ≅ substitute v r q
 unfolding substitute message.substitute
-substitute-cong v r g Refl = Refl
-substitute-cong v r g (Alpha {x = x} {y = y} {p = p} z) = substitute-alpha v r g x y p z
-substitute-cong v r g (Symm h) = Symm (substitute-cong v r g h)
-substitute-cong v r g (Trans h k) = Trans (substitute-cong v r g h) (substitute-cong v r g k)
-substitute-cong v r g (Par h) = Par (substitute-cong v r g h)
-substitute-cong v r g (Amb h) = Amb (substitute-cong v r g h)
-substitute-cong v r g (Action h) = Action (substitute-cong v r g h)
-substitute-cong v r g (Input {x = x} h) = byTest (eqb x v) (λ t. rw t (Input h)) (λ t. rw t (Input (substitute-cong v r g h)))
-substitute-cong v r g ParComm = ParComm
-substitute-cong v r g ParAssoc = ParAssoc
-substitute-cong v r g ZeroPar = ZeroPar
-substitute-cong v r g Null = Null
-substitute-cong v r g Path = Path
+substitute-cong v r g StructRefl = StructRefl
+substitute-cong v r g (StructAlpha {x = x} {y = y} {p = p} z) = substitute-alpha v r g x y p z
+substitute-cong v r g (StructSymm h) = StructSymm (substitute-cong v r g h)
+substitute-cong v r g (StructTrans h k) = StructTrans (substitute-cong v r g h) (substitute-cong v r g k)
+substitute-cong v r g (StructPar h) = StructPar (substitute-cong v r g h)
+substitute-cong v r g (StructAmb h) = StructAmb (substitute-cong v r g h)
+substitute-cong v r g (StructAction h) = StructAction (substitute-cong v r g h)
+substitute-cong v r g (StructInput {x = x} h) = byTest (eqb x v) (λ t. rw t (StructInput h)) (λ t. rw t (StructInput (substitute-cong v r g h)))
+substitute-cong v r g StructParComm = StructParComm
+substitute-cong v r g StructParAssoc = StructParAssoc
+substitute-cong v r g StructZeroPar = StructZeroPar
+substitute-cong v r g Structε = Structε
+substitute-cong v r g StructPath = StructPath
 
 -- what two congruent inputs become
 pub input-substitute : (x y : ℕ) (r : Message) → Ground r → (p q : Process) → input x p ≅ input y q → substitute x r p ≅ substitute y r q
@@ -86,24 +86,24 @@ free-alpha v x y p z = byTest (eqb x v)
 
 pub free-cong : (v : ℕ) {p q : Process} → p ≅ q → free v p ≡ free v q
 unfolding free mentions
-free-cong v Refl = refl
-free-cong v (Alpha {x = x} {y = y} {p = p} z) = free-alpha v x y p z
-free-cong v (Symm h) = sym (free-cong v h)
-free-cong v (Trans h k) = free-cong v h ∙ free-cong v k
-free-cong v (Par h) = omega (arith, free-cong v h)
-free-cong v (Amb h) = omega (arith, free-cong v h)
-free-cong v (Action h) = omega (arith, free-cong v h)
-free-cong v (Input {x = x} h) = byTest (eqb x v) (λ t. rw t) (λ t. rw t (free-cong v h))
-free-cong v ParComm = omega arith
-free-cong v ParAssoc = omega arith
-free-cong v ZeroPar = omega arith
-free-cong v Null = omega arith
-free-cong v Path = omega arith
+free-cong v StructRefl = refl
+free-cong v (StructAlpha {x = x} {y = y} {p = p} z) = free-alpha v x y p z
+free-cong v (StructSymm h) = sym (free-cong v h)
+free-cong v (StructTrans h k) = free-cong v h ∙ free-cong v k
+free-cong v (StructPar h) = omega (arith, free-cong v h)
+free-cong v (StructAmb h) = omega (arith, free-cong v h)
+free-cong v (StructAction h) = omega (arith, free-cong v h)
+free-cong v (StructInput {x = x} h) = byTest (eqb x v) (λ t. rw t) (λ t. rw t (free-cong v h))
+free-cong v StructParComm = omega arith
+free-cong v StructParAssoc = omega arith
+free-cong v StructZeroPar = omega arith
+free-cong v Structε = omega arith
+free-cong v StructPath = omega arith
 
 pub closed-cong : {p q : Process} → p ≅ q → Closed p → Closed q
 closed-cong h c v = sym (free-cong v h) ∙ c v
 
-pub closed-both : (p q : Process) → Closed (p ∣ q) → Closed p × Closed q
+pub closed-both : (p q : Process) → Closed (p ‖ q) → Closed p × Closed q
 unfolding free
 closed-both p q c = (λ v. omega (arith, c v), λ v. omega (arith, c v))
 

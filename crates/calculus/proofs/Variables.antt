@@ -10,7 +10,7 @@ use Rattle.messages.specs.Message.{Message, name, variable, enter, exit, opens,
 use Rattle.messages.specs.Message as message
 use Rattle.messages.proofs.Mentioning.{mentions-none, mentions-other}
 use Rattle.slices.proofs.Tests.{byTest}
-use Rattle.calculus.specs.Calculus.{Process, 𝟎, _∣_, ambient, action, input, output, substitute, occurs}
+use Rattle.calculus.specs.Calculus.{Process, 𝟎, _‖_, ambient, action, input, output, substitute, occurs}
 
 pub eqb-same : (x : ℕ) → eqb x x ≡ true
 eqb-same x = eq-eqb x x refl
@@ -101,7 +101,7 @@ input-same x v m p t = rw t
 pub substitute-absent : (y : ℕ) (r : Message) (p : Process) → occurs y p ≡ 0 → substitute y r p ≡ p
 unfolding substitute occurs
 substitute-absent y r 𝟎 z = refl
-substitute-absent y r (p ∣ q) z = ap₂ _∣_ (substitute-absent y r p (omega arith)) (substitute-absent y r q (omega arith))
+substitute-absent y r (p ‖ q) z = ap₂ _‖_ (substitute-absent y r p (omega arith)) (substitute-absent y r q (omega arith))
 substitute-absent y r (ambient m p) z = ap₂ ambient (message-absent y r m (omega arith)) (substitute-absent y r p (omega arith))
 substitute-absent y r (action m p) z = ap₂ action (message-absent y r m (omega arith)) (substitute-absent y r p (omega arith))
 substitute-absent y r (input x p) z = let w = occurs-input x y p z in input-other x y r p (w .0) ∙ ap (input x) (substitute-absent y r p (w .1))
@@ -110,7 +110,7 @@ substitute-absent y r (output m) z = ap output (message-absent y r m z)
 pub substitute-twice : (x y : ℕ) (r : Message) (p : Process) → occurs y p ≡ 0 → substitute y r (substitute x (variable y) p) ≡ substitute x r p
 unfolding substitute occurs
 substitute-twice x y r 𝟎 z = refl
-substitute-twice x y r (p ∣ q) z = ap₂ _∣_ (substitute-twice x y r p (omega arith)) (substitute-twice x y r q (omega arith))
+substitute-twice x y r (p ‖ q) z = ap₂ _‖_ (substitute-twice x y r p (omega arith)) (substitute-twice x y r q (omega arith))
 substitute-twice x y r (ambient m p) z = ap₂ ambient (message-twice x y r m (omega arith)) (substitute-twice x y r p (omega arith))
 substitute-twice x y r (action m p) z = ap₂ action (message-twice x y r m (omega arith)) (substitute-twice x y r p (omega arith))
 substitute-twice x y r (input u p) z = let w = occurs-input u y p z in
@@ -122,7 +122,7 @@ substitute-twice x y r (output m) z = ap output (message-twice x y r m z)
 pub substitute-comm : (v x y : ℕ) (r : Message) (p : Process) → eqb x v ≡ false → eqb y v ≡ false → mentions x r ≡ 0 → substitute v r (substitute x (variable y) p) ≡ substitute x (variable y) (substitute v r p)
 unfolding substitute
 substitute-comm v x y r 𝟎 a b z = refl
-substitute-comm v x y r (p ∣ q) a b z = ap₂ _∣_ (substitute-comm v x y r p a b z) (substitute-comm v x y r q a b z)
+substitute-comm v x y r (p ‖ q) a b z = ap₂ _‖_ (substitute-comm v x y r p a b z) (substitute-comm v x y r q a b z)
 substitute-comm v x y r (ambient m p) a b z = ap₂ ambient (message-comm v x y r m a b z) (substitute-comm v x y r p a b z)
 substitute-comm v x y r (action m p) a b z = ap₂ action (message-comm v x y r m a b z) (substitute-comm v x y r p a b z)
 substitute-comm v x y r (input u p) a b z = byTest (eqb u x)
@@ -140,7 +140,7 @@ occurs-input-less u v p q h = byTest (eqb u v) (λ t. rw t (omega arith)) (λ t.
 pub occurs-less : (v x : ℕ) (r : Message) (p : Process) → mentions v r ≡ 0 → occurs v (substitute x r p) ≤ occurs v p
 unfolding substitute occurs
 occurs-less v x r 𝟎 z = omega arith
-occurs-less v x r (p ∣ q) z = omega (arith, occurs-less v x r p z, occurs-less v x r q z)
+occurs-less v x r (p ‖ q) z = omega (arith, occurs-less v x r p z, occurs-less v x r q z)
 occurs-less v x r (ambient m p) z = omega (arith, message-less v x r m z, occurs-less v x r p z)
 occurs-less v x r (action m p) z = omega (arith, message-less v x r m z, occurs-less v x r p z)
 occurs-less v x r (input u p) z = byTest (eqb u x)
@@ -151,7 +151,7 @@ occurs-less v x r (output m) z = message-less v x r m z
 -- how often a variable stands free
 unfoldable pub free : ℕ → Process → ℕ
 free v 𝟎 = 0
-free v (p ∣ q) = free v p + free v q
+free v (p ‖ q) = free v p + free v q
 free v (ambient m p) = mentions v m + free v p
 free v (action m p) = mentions v m + free v p
 free v (input x p) = cond (eqb x v) 0 (free v p)
@@ -171,7 +171,7 @@ free-input-less u v p q h = byTest (eqb u v) (λ t. omega (arith, free-same u v 
 pub free-occurs : (v : ℕ) (p : Process) → free v p ≤ occurs v p
 unfolding free occurs
 free-occurs v 𝟎 = omega arith
-free-occurs v (p ∣ q) = omega (arith, free-occurs v p, free-occurs v q)
+free-occurs v (p ‖ q) = omega (arith, free-occurs v p, free-occurs v q)
 free-occurs v (ambient m p) = omega (arith, free-occurs v p)
 free-occurs v (action m p) = omega (arith, free-occurs v p)
 free-occurs v (input x p) = byTest (eqb x v) (λ t. rw t (omega arith)) (λ t. rw t (free-occurs v p))
@@ -180,7 +180,7 @@ free-occurs v (output m) = omega arith
 pub free-gone : (x : ℕ) (r : Message) (p : Process) → mentions x r ≡ 0 → free x (substitute x r p) ≡ 0
 unfolding substitute free
 free-gone x r 𝟎 z = refl
-free-gone x r (p ∣ q) z = omega (arith, free-gone x r p z, free-gone x r q z)
+free-gone x r (p ‖ q) z = omega (arith, free-gone x r p z, free-gone x r q z)
 free-gone x r (ambient m p) z = omega (arith, message-gone x r m z, free-gone x r p z)
 free-gone x r (action m p) z = omega (arith, message-gone x r m z, free-gone x r p z)
 free-gone x r (input u p) z = byTest (eqb u x)
@@ -191,7 +191,7 @@ free-gone x r (output m) z = message-gone x r m z
 pub free-less : (v x : ℕ) (r : Message) (p : Process) → mentions v r ≡ 0 → free v (substitute x r p) ≤ free v p
 unfolding substitute free
 free-less v x r 𝟎 z = omega arith
-free-less v x r (p ∣ q) z = omega (arith, free-less v x r p z, free-less v x r q z)
+free-less v x r (p ‖ q) z = omega (arith, free-less v x r p z, free-less v x r q z)
 free-less v x r (ambient m p) z = omega (arith, message-less v x r m z, free-less v x r p z)
 free-less v x r (action m p) z = omega (arith, message-less v x r m z, free-less v x r p z)
 free-less v x r (input u p) z = byTest (eqb u x)
@@ -202,7 +202,7 @@ free-less v x r (output m) z = message-less v x r m z
 pub free-more : (v x : ℕ) (r : Message) (p : Process) → eqb x v ≡ false → free v p ≤ free v (substitute x r p)
 unfolding substitute free
 free-more v x r 𝟎 z = omega arith
-free-more v x r (p ∣ q) z = omega (arith, free-more v x r p z, free-more v x r q z)
+free-more v x r (p ‖ q) z = omega (arith, free-more v x r p z, free-more v x r q z)
 free-more v x r (ambient m p) z = omega (arith, message-more v x r m z, free-more v x r p z)
 free-more v x r (action m p) z = omega (arith, message-more v x r m z, free-more v x r p z)
 free-more v x r (input u p) z = byTest (eqb u x)
@@ -213,7 +213,7 @@ free-more v x r (output m) z = message-more v x r m z
 pub substitute-free : (x : ℕ) (r : Message) (p : Process) → free x p ≡ 0 → substitute x r p ≡ p
 unfolding substitute free
 substitute-free x r 𝟎 z = refl
-substitute-free x r (p ∣ q) z = ap₂ _∣_ (substitute-free x r p (omega arith)) (substitute-free x r q (omega arith))
+substitute-free x r (p ‖ q) z = ap₂ _‖_ (substitute-free x r p (omega arith)) (substitute-free x r q (omega arith))
 substitute-free x r (ambient m p) z = ap₂ ambient (message-absent x r m (omega arith)) (substitute-free x r p (omega arith))
 substitute-free x r (action m p) z = ap₂ action (message-absent x r m (omega arith)) (substitute-free x r p (omega arith))
 substitute-free x r (input u p) z = byTest (eqb u x)

@@ -5,7 +5,8 @@ use mathlib.Core.Path.{_≡_}
 use Rattle.messages.specs.Message.{variable}
 use Rattle.scripts.specs.Tree.{Head, close, part, PlainHead, Plain}
 use Rattle.machine.specs.PlainMachine.{substituteBody}
-use Rattle.calculus.specs.Calculus.{process, occurs}
+use Rattle.calculus.specs.Calculus.{occurs}
+use Rattle.calculus.specs.TreeProcess.{process}
 
 -- the body has the part k with that head and inside, and the last body is the rest
 pub data Part : Plain → ℕ → PlainHead → Plain → Plain → Type 0 where

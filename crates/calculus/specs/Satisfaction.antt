@@ -10,7 +10,7 @@ use Rattle.messages.specs.declared.Named.the-variants.{Called}
 use Rattle.scripts.specs.Tree.{ambient, close, part, PlainHead, Plain}
 use Rattle.machine.specs.Moves.{Moved, headName}
 use Rattle.machine.specs.PlainMachine.{plain, move}
-use Rattle.rules.specs.Rule.{Names, termName, Rule, always, negation, either, void, at, beside, some-name, sometime, somewhere, placed}
+use Rattle.rules.specs.Rule.{Names, termName, Rule, truth, negation, either, void, at, beside, some-name, sometime, somewhere, placed}
 
 -- "some division of the top parts": the parts of the first body are divided into those of the other two
 pub data Divided : Plain → Plain → Plain → Type 0 where
@@ -46,7 +46,7 @@ wrapped k n b = part k (ambient (name n)) b close
 
 -- The relation; n is the number of the script's parts, e the names chosen.
 unfoldable pub Sat : (n : ℕ) → Names → Rule → Plain → Type 0
-Sat n e (always i) b = Unit {0}
+Sat n e (truth i) b = Unit {0}
 Sat n e (negation i r) b = ¬ Sat n e r b
 Sat n e (either i r q) b = Sat n e r b ⊎ Sat n e q b
 Sat n e (void i) b = b ≡ close

@@ -5,7 +5,7 @@ use Prim.Native.Nat.{ℕ, suc}
 use Rattle.messages.specs.Message.{Message}
 use Rattle.scripts.specs.Tree.{Head, close, part}
 use Rattle.scripts.specs.Script.{Script}
-use Rattle.calculus.specs.Calculus.{Process, 𝟎, _∣_, ambient, action, input, output, _≅_, _⟶_}
+use Rattle.calculus.specs.Calculus.{Process, 𝟎, _‖_, ambient, action, input, output, _≅_, _⟶_}
 
 -- "1 AMB: message, body" is M[P]; "2 ACT (action): message, body" is M.P, with the whole message M; "3 REC (receipt): body;
 -- its variable is this word's index" is (x).P; "4 OUT (output): message" is ⟨M⟩
@@ -18,7 +18,7 @@ writtenPart (Head.output m) p = output m
 -- "A body is parts up to one CLOSE. The script is one body.": the parts beside one another, and behind them nothing
 unfoldable pub written : Script → Process
 written close = 𝟎
-written (part k w b r) = writtenPart (w .head) (written b) ∣ written r
+written (part k w b r) = writtenPart (w .head) (written b) ‖ written r
 
 -- so many reductions, one after the other, lead from the first process to the last
 pub data Steps : ℕ → Process → Process → Type 0 where

@@ -1,5 +1,6 @@
--- What the call for C and Rust does with the two buffers that it is lent: the eight words of an answer, and the tree.
--- Assumes nothing: these are definitions.
+-- What the call for C and Rust does with the two buffers that it is lent, for the eight words of an answer and for the tree; and
+-- what the words that it wrote promise: demand 2, the moves as reductions, the tree read again. Assumes nothing: these are
+-- definitions.
 use Prim.Native.Nat.{ℕ}
 use mathlib.Core.Bool.{Bool, true, false, cond}
 use mathlib.Core.List.{List, _++_}

@@ -13,7 +13,7 @@ use Rattle.messages.specs.Words.{kind, operand}
 use Rattle.messages.specs.Reading.{Cursor, Reading, refuse, got, _>>=_, ask, outcome}
 use Rattle.messages.specs.declared.Outcome.{Outcome}
 use Rattle.messages.specs.declared.Outcome.the-variants.{Read, Refused}
-use Rattle.scripts.specs.Tree.{count, parts}
+use Rattle.scripts.specs.Tree.{parts}
 use Rattle.scripts.specs.Script.{Script, readScript}
 use Rattle.scripts.specs.Measures.{greatestName}
 use Rattle.scripts.specs.Represents.{Tabled}

@@ -8,10 +8,10 @@ use native.Mathlib.Omega.{arith}
 use lib.Dec.{eqb}
 use lib.ListN.{length, take}
 use Rattle.messages.specs.Reading.{got}
-use Rattle.scripts.specs.Tree.{one, count}
+use Rattle.scripts.specs.Tree.{oneIf, timesIn}
 use Rattle.scripts.specs.Measures.{greatestName}
 use Rattle.scripts.specs.declared.Table.{Table}
-use Rattle.machine.proofs.Sums.{map-sum}
+use Rattle.machine.proofs.Sums.{map-total}
 use Rattle.rules.specs.Rule.{greatestRuleName}
 use Rattle.rules.specs.ReadRule.{readWholeRule}
 use Rattle.rule_reader.specs.declared.RuleTable.{RuleTable}
@@ -74,11 +74,11 @@ module _ (script moves words : List ℕ) (patience : ℕ) (buffer : List ℕ) (t
   }
 
   -- no part has a number from n on
-  below : (i : ℕ) → t .count ≤ i → count i (S .machine .tree) ≡ 0
+  below : (i : ℕ) → t .count ≤ i → timesIn i (S .machine .tree) ≡ 0
   unfolding unfoldMachine unfolded standing
   below i l =
       let z : n ≤ i = omega (arith, number) in
-      sym (map-sum (λ k h. one (eqb i k)) (unfoldHead (S .machine .bindings)) (S .machine .tree)) ∙ standing-good c standing .below i z
+      sym (map-total (λ k h. oneIf (eqb i k)) (unfoldHead (S .machine .bindings)) (S .machine .tree)) ∙ standing-good c standing .below i z
 
   short : length moves ≤ 4096
   short = terms-few patience (length moves) tt (S .asked)

@@ -10,7 +10,7 @@ use Rattle.scripts.specs.Tree.{parts}
 use Rattle.bindings.specs.Resolve.{bindingsIn}
 use Rattle.held_bindings.specs.Held.{bindingsOf}
 use Rattle.machine.specs.PlainMachine.{Machine, weightOf}
-use Rattle.machine.proofs.Sums.{map-sum}
+use Rattle.machine.proofs.Sums.{map-total}
 use Rattle.closure_machine.specs.Closure.{Closure, unfoldHead, unfolded, unfoldMachine}
 use Rattle.closures.specs.Represents.{boundIn, Counted}
 use Rattle.closures.specs.declared.State.{State}
@@ -96,4 +96,4 @@ unfolding weightOf unfoldMachine unfolded bindingsOf
 weighs-so script s b long counted w e =
     let many : length (boundIn script s) ≡ 32 - s .bindings .first
     = as-many script (drop (s .bindings .first) (s .bindings .variables)) (drop (s .bindings .first) (s .bindings .places)) (counted .cached .counted .aligned) ∙ length-drop (s .bindings .first) (s .bindings .variables) ∙ ap (λ (k : ℕ). k - s .bindings .first) long in
-    e ∙ (λ i. sym (map-sum (λ j h. 1) (unfoldHead (boundIn script s)) b) i + 2 * sym many i)
+    e ∙ (λ i. sym (map-total (λ j h. 1) (unfoldHead (boundIn script s)) b) i + 2 * sym many i)

@@ -8,23 +8,23 @@ use mathlib.Core.Option.{some}
 use native.Mathlib.Omega.{arith}
 use native.Mathlib.Nat.{pow-zero, pow-succ', mul-assoc, mul-le-mul-right, pow-le-pow-right, le-trans}
 use lib.Dec.{eqb, ltb}
-use lib.ListN.{length, length-append, drop as skip}
+use lib.ListN.{length, length-append, drop}
 use borrow.Author.Tests.{eq-eqb, leb-false}
 use Rattle.messages.specs.Message.{Message, name, variable, enter, exit, opens, empty, path, items, firstItem, substitute}
 use Rattle.messages.specs.declared.First.{First}
 use Rattle.messages.specs.declared.First.the-variants.{Nothing}
 use Rattle.messages.specs.Reading.{Cursor, got}
-use Rattle.scripts.specs.Tree.{Head, ambient, action, receipt, output, Body, close, part, one, sum, count, greatest, put, merge, mapHeads, noItems}
+use Rattle.scripts.specs.Tree.{Head, ambient, action, receipt, output, Body, close, part, oneIf, total, timesIn, greatest, put, merge, mapHeads, noItems}
 use Rattle.scripts.specs.Script.{Script, readScript}
 use Rattle.scripts.specs.Measures.{receiptsIn, actionsIn, mostItems, movesBound, isReceipt, isAction, itemsOf}
 use Rattle.bindings.specs.Resolve.{resolve}
-use Rattle.machine.specs.Bodies.{find, drop, alter}
+use Rattle.machine.specs.Bodies.{find, removePart, alter}
 use Rattle.machine.specs.Moves.{Moved, firstOf, spend, moveHere}
 use Rattle.slices.proofs.Tests.{byTest}
 use Rattle.machine.proofs.Inversion.{headName-inv, Here, by-open, by-receive, by-enter, by-exit, here-inv, Makes, now, inner, outer, found}
-use Rattle.machine.proofs.Sums.{find-drop, find-sum, apart, entered-target, by-numbers, made-sum, settle-sum}
-use Rattle.closure_machine.specs.Closure.{Action, ClosureHead, Closure, Bindings, itemsLeft, under, allSpent, settleUnder, closureMove, wholeHead, closureOf}
-use Rattle.closure_machine.proofs.Tallies.{Tally, of, of-drop, of-find, of-put, of-merge, of-alter, of-spent, of-settle, Step, spends, takes, closure-inv, move-step}
+use Rattle.machine.proofs.Sums.{find-removePart, find-total, apart, entered-target, by-numbers, made-total, settle-total}
+use Rattle.closure_machine.specs.Closure.{Action, ClosureHead, Closure, Bindings, itemsLeft, viewUnder, allSpent, settleUnder, closureMove, wholeHead, closureOf}
+use Rattle.closure_machine.proofs.Tallies.{Tally, of, of-removePart, of-find, of-put, of-merge, of-alter, of-spent, of-settle, Step, spends, takes, closure-inv, move-step}
 use Rattle.closure_machine.proofs.Simulation.{none-left}
 use Rattle.closure_machine.proofs.Started.{script-distinct}
 
@@ -88,19 +88,19 @@ unfolding firstItem
 first-some [] d = absurd (d refl)
 first-some (m ∷ l) d = refl
 
-active : (σ : Bindings) (h : ClosureHead) → ¬ (Nothing ≡ firstOf (under σ) h) → Active σ h
+active : (σ : Bindings) (h : ClosureHead) → ¬ (Nothing ≡ firstOf (viewUnder σ) h) → Active σ h
 unfolding firstOf itemsLeft
 active σ (ambient m) d = absurd (d refl)
 active σ (action a) d = record {
   held = a;
   same = refl;
-  left = leb-false (long (resolve σ (a .message))) (a .offset) (sym (none-left (a .offset) (items (resolve σ (a .message)))) ∙ first-some (skip (a .offset) (items (resolve σ (a .message)))) d);
+  left = leb-false (long (resolve σ (a .message))) (a .offset) (sym (none-left (a .offset) (items (resolve σ (a .message)))) ∙ first-some (drop (a .offset) (items (resolve σ (a .message)))) d);
 }
 active σ (receipt v) d = absurd (d refl)
 active σ (output m) d = absurd (d refl)
 
 -- what an action asks for is something
-asks : (σ : Bindings) (h : ClosureHead) (f : First) → firstOf (under σ) h ≡ f → ¬ (Nothing ≡ f) → Active σ h
+asks : (σ : Bindings) (h : ClosureHead) (f : First) → firstOf (viewUnder σ) h ≡ f → ¬ (Nothing ≡ f) → Active σ h
 asks σ h f e d = active σ h (λ z. d (z ∙ e))
 
 -- ---- a part that is found stays where others are put
@@ -112,8 +112,8 @@ find-put a n g s (part i h b r) d = byTest (ltb n i)
     (λ t. rw (t, d))
     (λ t. byTest (eqb n i) (λ u. rw (t, u)) (λ u. rw (t, u) (ap (cond (eqb a i) (some (h, b))) (find-put a n g s r d))))
 
-find-merge : {H : Type 0} (a : ℕ) (b c : Body H) → count a b ≡ 0 → find a (merge b c) ≡ find a c
-unfolding merge sum
+find-merge : {H : Type 0} (a : ℕ) (b c : Body H) → timesIn a b ≡ 0 → find a (merge b c) ≡ find a c
+unfolding merge total
 find-merge a close c z = refl
 find-merge a (part i h b r) c z =
     find-put a i h b (merge r c) (byTest (eqb a i) (λ t. absurd (omega (arith, rw t at z))) (λ t. t)) ∙ find-merge a r c (omega arith)
@@ -177,14 +177,14 @@ action≢ambient e = let z : _≡_ {A = ℕ} 0 1 = cc in absurd (omega arith)
 -- ---- what a move costs
 
 abbrev Distinct : Closure → Type 0
-Distinct b = (j : ℕ) → count j b ≤ 1
+Distinct b = (j : ℕ) → timesIn j b ≤ 1
 
 module _ (s r : ℕ) (σ : Bindings) (small : Small s σ) (few : length σ ≤ r) where
   B : ℕ
   B = s ^ suc r
 
   -- the actor is found, and its message has at most s items
-  spent-costs : (n : ℕ) (b c : Closure) (h : ClosureHead) → find n b ≡ some (h, c) → Active σ h → longIn h ≤ s → of (budget B) (spend (under σ) n b) + 1 ≤ of (budget B) b
+  spent-costs : (n : ℕ) (b c : Closure) (h : ClosureHead) → find n b ≡ some (h, c) → Active σ h → longIn h ≤ s → of (budget B) (spend (viewUnder σ) n b) + 1 ≤ of (budget B) b
   unfolding B
   spent-costs n b c h e x l =
       let a = x .held in
@@ -195,23 +195,23 @@ module _ (s r : ℕ) (σ : Bindings) (small : Small s σ) (few : length σ ≤ r
   found-short : (n : ℕ) (b c : Closure) (h : ClosureHead) → find n b ≡ some (h, c) → of (excess s) b ≡ 0 → (longIn h ≤ s) × (of (excess s) c ≡ 0)
   found-short n b c h e z = let f = of-find (excess s) n b (h, c) e in (omega arith, omega arith)
 
-  here-costs : (a t : ℕ) (b c : Closure) (news : Bindings) → Here (under σ) a t b c news → of (excess s) b ≡ 0 → Distinct b → of (budget B) c + 1 ≤ of (budget B) b
+  here-costs : (a t : ℕ) (b c : Closure) (news : Bindings) → Here (viewUnder σ) a t b c news → of (excess s) b ≡ 0 → Distinct b → of (budget B) c + 1 ≤ of (budget B) b
   here-costs a t b c news (by-open x e) z d =
       let k = asks σ (x .doer) _ (x .asked) (λ w. let q : _≡_ {A = ℕ} 0 1 = cc in omega arith) in
-      let g = headName-inv (under σ) (x .goal) (x .place) (x .named) in
+      let g = headName-inv (viewUnder σ) (x .goal) (x .place) (x .named) in
       let n : eqb a t ≡ false = apart a t b (x .actor) (x .target) (λ w. action≢ambient (sym (k .same) ∙ ap (λ (p : ClosureHead × Closure). p .0) w ∙ g .1)) in
-      let f : find a (drop t b) ≡ some (x .doer, x .after) = find-drop a t b n ∙ x .actor in
-      let l : count a (x .room) ≡ 0 = omega (arith, ap one (eq-eqb a a refl), find-sum (λ i h. one (eqb a i)) t b _ (x .target), find-sum (λ i h. one (eqb a i)) a (drop t b) _ f, d a) in
+      let f : find a (removePart t b) ≡ some (x .doer, x .after) = find-removePart a t b n ∙ x .actor in
+      let l : timesIn a (x .room) ≡ 0 = omega (arith, ap oneIf (eq-eqb a a refl), find-total (λ i h. oneIf (eqb a i)) t b _ (x .target), find-total (λ i h. oneIf (eqb a i)) a (removePart t b) _ f, d a) in
       rw (x .result) (omega (
         arith,
-        spent-costs a (merge (x .room) (drop t b)) (x .after) (x .doer) (find-merge a (x .room) (drop t b) l ∙ f) k (found-short a b (x .after) (x .doer) (x .actor) z .0),
-        of-merge (budget B) (x .room) (drop t b),
+        spent-costs a (merge (x .room) (removePart t b)) (x .after) (x .doer) (find-merge a (x .room) (removePart t b) l ∙ f) k (found-short a b (x .after) (x .doer) (x .actor) z .0),
+        of-merge (budget B) (x .room) (removePart t b),
         of-find (budget B) t b _ (x .target),
       ))
   here-costs a t b c news (by-receive x) z d = rw (x .result) (omega (
     arith,
-    of-merge (budget B) (x .after) (drop t (drop a b)),
-    of-drop (budget B) t (drop a b),
+    of-merge (budget B) (x .after) (removePart t (removePart a b)),
+    of-removePart (budget B) t (removePart a b),
     of-find (budget B) a b _ (x .actor),
   ))
   here-costs a t b c news (by-enter x e) z d =
@@ -219,8 +219,8 @@ module _ (s r : ℕ) (σ : Bindings) (small : Small s σ) (few : length σ ≤ r
       let w = found-short (x .mover) b (x .inside) (x .shell) (x .around) z .1 in
       rw (x .result) (omega (
         arith,
-        of-alter (budget B) t (put (x .mover) (x .shell) (spend (under σ) a (x .inside))) (drop (x .mover) b) _ (entered-target (under σ) x) refl,
-        of-put (budget B) (x .mover) (x .shell) (spend (under σ) a (x .inside)) (x .room),
+        of-alter (budget B) t (put (x .mover) (x .shell) (spend (viewUnder σ) a (x .inside))) (removePart (x .mover) b) _ (entered-target (viewUnder σ) x) refl,
+        of-put (budget B) (x .mover) (x .shell) (spend (viewUnder σ) a (x .inside)) (x .room),
         spent-costs a (x .inside) (x .after) (x .doer) (x .actor) k (found-short a (x .inside) (x .after) (x .doer) (x .actor) w .0),
         of-find (budget B) (x .mover) b _ (x .around),
       ))
@@ -230,15 +230,15 @@ module _ (s r : ℕ) (σ : Bindings) (small : Small s σ) (few : length σ ≤ r
       let w = found-short (x .mover) (x .room) (x .inside) (x .shell) (x .around) v .1 in
       rw (x .result) (omega (
         arith,
-        of-put (budget B) (x .mover) (x .shell) (spend (under σ) a (x .inside)) (alter t (λ g. g) (drop (x .mover)) b),
-        of-alter (budget B) t (drop (x .mover)) b _ (x .target) refl,
+        of-put (budget B) (x .mover) (x .shell) (spend (viewUnder σ) a (x .inside)) (alter t (λ g. g) (removePart (x .mover)) b),
+        of-alter (budget B) t (removePart (x .mover)) b _ (x .target) refl,
         spent-costs a (x .inside) (x .after) (x .doer) (x .actor) k (found-short a (x .inside) (x .after) (x .doer) (x .actor) w .0),
         of-find (budget B) (x .mover) (x .room) _ (x .around),
       ))
 
-  makes-costs : (a t : ℕ) {b c : Closure} {news : Bindings} → Makes (under σ) (moveHere (under σ) a t) b c news → of (excess s) b ≡ 0 → Distinct b → of (budget B) c + 1 ≤ of (budget B) b
-  unfolding of sum
-  makes-costs a t (now {b} m e) z d = here-costs a t b (m .body) (m .news) (here-inv (under σ) a t b m e) z d
+  makes-costs : (a t : ℕ) {b c : Closure} {news : Bindings} → Makes (viewUnder σ) (moveHere (viewUnder σ) a t) b c news → of (excess s) b ≡ 0 → Distinct b → of (budget B) c + 1 ≤ of (budget B) b
+  unfolding of total
+  makes-costs a t (now {b} m e) z d = here-costs a t b (m .body) (m .news) (here-inv (viewUnder σ) a t b m e) z d
   makes-costs a t (inner e x) z d = omega (arith, makes-costs a t x (omega arith) (λ j. omega (arith, d j)))
   makes-costs a t (outer x) z d = omega (arith, makes-costs a t x (omega arith) (λ j. omega (arith, d j)))
 
@@ -265,10 +265,10 @@ unfolding B
 move-costs s r σ a t b m e x =
     let y = closure-inv σ a t b m e in
     let c = y .before in
-    let k : Distinct (m .body) = λ j. subst (λ (d : Closure). count j d ≤ 1) (sym (y .settled)) (omega (
+    let k : Distinct (m .body) = λ j. subst (λ (d : Closure). timesIn j d ≤ 1) (sym (y .settled)) (omega (
       arith,
-      settle-sum (λ i h. one (eqb j i)) (allSpent (m .news ++ σ)) c,
-      made-sum (under σ) (λ i h. one (eqb j i)) 0 (by-numbers (under σ) (λ i. one (eqb j i)) 0 (λ v n d. omega arith) (λ i l. omega arith)) a t (y .makes),
+      settle-total (λ i h. oneIf (eqb j i)) (allSpent (m .news ++ σ)) c,
+      made-total (viewUnder σ) (λ i h. oneIf (eqb j i)) 0 (by-numbers (viewUnder σ) (λ i. oneIf (eqb j i)) 0 (λ v n d. omega arith) (λ i l. omega arith)) a t (y .makes),
       x .distinct j,
     )) in (
       bounded-step s r σ b (m .body) (m .news) k (move-step σ a t b m e) x,
@@ -304,12 +304,12 @@ long-start (receipt v) = refl
 long-start (output m) = refl
 
 pub budget-start : (n : ℕ) (b : Script) → of (budget n) (closureOf b) ≡ receiptsIn b + actionsIn b * n
-unfolding of closureOf mapHeads receiptsIn actionsIn sum
+unfolding of closureOf mapHeads receiptsIn actionsIn total
 budget-start n close = omega arith
 budget-start n (part i w b r) = omega (arith, due-start n (w .head), budget-start n b, budget-start n r)
 
 receiving-start : (b : Script) → of receiving (closureOf b) ≡ receiptsIn b
-unfolding of closureOf mapHeads receiptsIn sum
+unfolding of closureOf mapHeads receiptsIn total
 receiving-start close = refl
 receiving-start (part i w b r) = omega (arith, received-start (w .head), receiving-start b, receiving-start r)
 
@@ -326,7 +326,7 @@ started-bounded ws p e =
       small = tt;
       short = omega (arith, of-settle (excess (mostItems (p .0))) [] b, short-start (mostItems (p .0)) (p .0) (omega arith));
       few = omega (arith, of-settle receiving [] b, receiving-start (p .0));
-      distinct = λ j. omega (arith, settle-sum (λ i h. one (eqb j i)) (allSpent []) b, script-distinct ws p e j);
+      distinct = λ j. omega (arith, settle-total (λ i h. oneIf (eqb j i)) (allSpent []) b, script-distinct ws p e j);
     }
 
 pub started-budget : (b : Script) → of (budget (mostItems b ^ suc (receiptsIn b))) (settleUnder [] (closureOf b)) ≤ movesBound b

@@ -11,13 +11,13 @@ use borrow.Author.Tests.{eqb-false, eq-eqb}
 use Rattle.messages.specs.Message.{Message, name, variable, enter, exit, opens, empty, path, mentions}
 use Rattle.messages.proofs.Mentioning.{mentions-none}
 use Rattle.messages.specs.declared.Named.the-variants.{Called}
-use Rattle.scripts.specs.Tree.{ambient, action, receipt, output, part, one}
+use Rattle.scripts.specs.Tree.{ambient, action, receipt, output, part, oneIf}
 use Rattle.machine.specs.Moves.{Moved, headName}
 use Rattle.bindings.proofs.Substitution.{Fresh, New}
-use Rattle.closure_machine.specs.Closure.{Action, ClosureHead, Closure, Bindings, under, settleUnder, closureMove}
+use Rattle.closure_machine.specs.Closure.{Action, ClosureHead, Closure, Bindings, viewUnder, settleUnder, closureMove}
 use Rattle.closure_machine.proofs.Tallies.{Tally, of, of-part, named-open, of-settle, Takes, Step, spends, takes, move-step}
 
-one-none : (t : Bool) → one t ≡ 0 → t ≡ false
+one-none : (t : Bool) → oneIf t ≡ 0 → t ≡ false
 one-none true e = absurd (omega arith)
 one-none false e = refl
 
@@ -54,7 +54,7 @@ spentIn (output m) = 0
 -- how many receipts a variable has
 abbrev pub receipts : ℕ → Tally
 receipts v = record {
-  own = λ k h. one (receives v h);
+  own = λ k h. oneIf (receives v h);
   shut = λ h. false;
   guarded = λ k h. 0;
   ambients = λ m. refl;
@@ -78,7 +78,7 @@ pub record Good (σ : Bindings) (b : Closure) : Type 0 where
   pub apart : (v : ℕ) → 1 ≤ of (receipts v) b → of (loose v) b ≡ 0
   pub new : (v : ℕ) → 1 ≤ of (receipts v) b → New v σ
 
-pub not-received : (v : ℕ) (h : ClosureHead) → one (receives v h) ≡ 0 → receives v h ≡ false
+pub not-received : (v : ℕ) (h : ClosureHead) → oneIf (receives v h) ≡ 0 → receives v h ≡ false
 not-received v h e = one-none (receives v h) e
 
 pub received-self : (v : ℕ) → eqb v v ≡ true
@@ -99,16 +99,16 @@ pub good-rest : (σ : Bindings) (i : ℕ) (h : ClosureHead) (b r : Closure) → 
 unfolding of
 good-rest σ i h b r = good-less σ (part i h b r) r (λ T. omega arith)
 
-pub good-inside : (σ : Bindings) (i n : ℕ) (h : ClosureHead) (b r : Closure) → headName (under σ) h ≡ Called n → Good σ (part i h b r) → Good σ b
+pub good-inside : (σ : Bindings) (i n : ℕ) (h : ClosureHead) (b r : Closure) → headName (viewUnder σ) h ≡ Called n → Good σ (part i h b r) → Good σ b
 good-inside σ i n h b r e = good-less σ (part i h b r) b (λ T. omega (arith, of-part T i h b r (named-open T σ h n e)))
 
 -- what a receipt that is made does to the two
 module _ (b c : Closure) (news : Bindings) (x : Takes b c news) where
-  pub receipts-taken : (u : ℕ) → of (receipts u) c + one (eqb u (x .bound)) ≤ of (receipts u) b
+  pub receipts-taken : (u : ℕ) → of (receipts u) c + oneIf (eqb u (x .bound)) ≤ of (receipts u) b
   receipts-taken u = omega (arith, x .law (receipts u))
 
   pub bound-received : 1 ≤ of (receipts (x .bound)) b
-  bound-received = omega (arith, ap one (received-self (x .bound)), receipts-taken (x .bound))
+  bound-received = omega (arith, ap oneIf (received-self (x .bound)), receipts-taken (x .bound))
 
   loose-taken : (u : ℕ) → eqb u (x .bound) ≡ false → of (loose u) c + mentions u (x .sent) ≤ of (loose u) b
   loose-taken u t = omega (arith, rw t at (x .law (loose u)))

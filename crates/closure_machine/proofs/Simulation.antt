@@ -7,22 +7,22 @@ use mathlib.Core.Path.{_≡_, refl, sym, ap, ap₂, _∙_}
 use mathlib.Core.Option.{Option, none, some, Option·map}
 use native.Mathlib.Omega.{arith}
 use lib.Dec.{eqb, leb}
-use lib.ListN.{length, drop as skip}
+use lib.ListN.{length, drop}
 use borrow.Author.Tests.{le-leb, lt-leb}
 use Rattle.messages.specs.Message.{Message, items, nameOf, firstItem, substitute, mentions}
 use Rattle.messages.specs.declared.Named.{Named}
 use Rattle.messages.specs.declared.Named.the-variants.{Called, Nameless}
 use Rattle.messages.specs.declared.First.{First}
 use Rattle.messages.specs.declared.First.the-variants.{Nothing, Enter, Exit, Open, Other}
-use Rattle.scripts.specs.Tree.{ambient, action, receipt, output, close, part, one, sum, merge, mapHeads, noItems, bare, settle, PlainHead, Plain}
+use Rattle.scripts.specs.Tree.{ambient, action, receipt, output, close, part, oneIf, total, merge, mapHeads, noItems, bare, settle, PlainHead, Plain}
 use Rattle.bindings.specs.Resolve.{resolve}
 use Rattle.bindings.proofs.Substitution.{New, substitute-fresh, resolve-substitute, items-substitute}
-use Rattle.machine.specs.Bodies.{find, drop}
+use Rattle.machine.specs.Bodies.{find, removePart}
 use Rattle.machine.specs.Moves.{Moved, headName, moveHere, anywhere}
 use Rattle.machine.specs.PlainMachine.{rest, substituteHead, substituteBody, plain, settledBy, move}
 use Rattle.machine.proofs.Naturality.{renamed, asked, mapHead, isAmbient-map, Translates, named-map, merge-map, settle-map, receive-map, here-map, anywhere-map}
-use Rattle.closure_machine.specs.Closure.{Action, ClosureHead, Closure, Bindings, itemsLeft, under, allSpent, settleUnder, settledUnder, closureMove, unfoldHead, unfolded, plainNews, unfoldedMove}
-use Rattle.closure_machine.proofs.Tallies.{of, of-drop, of-find, of-part, named-open, Step, spends, takes, makes-step}
+use Rattle.closure_machine.specs.Closure.{Action, ClosureHead, Closure, Bindings, itemsLeft, viewUnder, allSpent, settleUnder, settledUnder, closureMove, unfoldHead, unfolded, plainNews, unfoldedMove}
+use Rattle.closure_machine.proofs.Tallies.{of, of-removePart, of-find, of-part, named-open, Step, spends, takes, makes-step}
 use Rattle.closure_machine.proofs.Invariant.{mentions-fresh, mentionsIn, receives, spentIn, receipts, loose, Good, not-received, received-self, good-inside, good-rest, bound-received}
 
 -- Unfolding is a change of heads as Naturality has them.
@@ -41,14 +41,14 @@ unfolding unfolded mapHeads
 unfolded-map σ close = refl
 unfolded-map σ (part i h b r) = rw (unfold-head σ h, unfolded-map σ b, unfolded-map σ r)
 
-rest-skip : (o : ℕ) (l : List Message) → rest (skip o l) ≡ skip (suc o) l
+rest-drop : (o : ℕ) (l : List Message) → rest (drop o l) ≡ drop (suc o) l
 unfolding rest
-rest-skip zero [] = refl
-rest-skip (suc o) [] = refl
-rest-skip zero (m ∷ l) = refl
-rest-skip (suc o) (m ∷ l) = rest-skip o l
+rest-drop zero [] = refl
+rest-drop (suc o) [] = refl
+rest-drop zero (m ∷ l) = refl
+rest-drop (suc o) (m ∷ l) = rest-drop o l
 
-pub none-left : (o : ℕ) (l : List Message) → noItems (skip o l) ≡ leb (length l) o
+pub none-left : (o : ℕ) (l : List Message) → noItems (drop o l) ≡ leb (length l) o
 none-left zero [] = refl
 none-left (suc o) [] = sym (le-leb 0 (suc o) (omega arith))
 none-left zero (m ∷ l) = sym (lt-leb (length (m ∷ l)) 0 (omega arith))
@@ -66,13 +66,13 @@ asked-same (Open x) = ap Open (renamed-same x)
 asked-same Other = refl
 
 -- the plain machine reads what is unfolded as the closure machine reads the closure
-translates : (σ : Bindings) → Translates (under σ) plain (itemsLeft σ) (resolve σ) (λ n. n)
+translates : (σ : Bindings) → Translates (viewUnder σ) plain (itemsLeft σ) (resolve σ) (λ n. n)
 unfolding itemsLeft
 translates σ = record {
   injective = λ m n. refl;
   named = λ m. sym (renamed-same (nameOf (resolve σ m)));
   first = λ a. sym (asked-same (firstItem (itemsLeft σ a)));
-  spent = λ a. rest-skip (a .offset) (items (resolve σ (a .message)));
+  spent = λ a. rest-drop (a .offset) (items (resolve σ (a .message)));
 }
 
 -- WHAT A NEW BINDING DOES.
@@ -85,7 +85,7 @@ module _ (v : ℕ) (r : Message) (σ : Bindings) where
   still-head : (h : ClosureHead) → mentionsIn v h ≡ 0 → U ((v, r) ∷ σ) h ≡ U σ h
   unfolding mapHead itemsLeft
   still-head (ambient m) z = ap ambient (still m z)
-  still-head (action a) z = ap (λ (m : Message). action (skip (a .offset) (items m))) (still (a .message) z)
+  still-head (action a) z = ap (λ (m : Message). action (drop (a .offset) (items m))) (still (a .message) z)
   still-head (receipt u) z = refl
   still-head (output m) z = ap output (still m z)
 
@@ -110,8 +110,8 @@ module _ (v : ℕ) (r : Message) (σ : Bindings) where
     filled-head (receipt u) z = refl
     filled-head (output m) z = ap output (filled m)
 
-    filled-body : (b : Closure) → sum (λ k h. spentIn h) b ≡ 0 → mapHeads (U ((v, r) ∷ σ)) b ≡ substituteBody v (resolve σ r) (mapHeads (U σ) b)
-    unfolding mapHeads sum substituteBody
+    filled-body : (b : Closure) → total (λ k h. spentIn h) b ≡ 0 → mapHeads (U ((v, r) ∷ σ)) b ≡ substituteBody v (resolve σ r) (mapHeads (U σ) b)
+    unfolding mapHeads total substituteBody
     filled-body close z = refl
     filled-body (part i h b s) z = rw (filled-head h (omega arith), filled-body b (omega arith), filled-body s (omega arith))
 
@@ -122,25 +122,25 @@ K σ m = record { body = mapHeads (U (m .news ++ σ)) (m .body); news = plainNew
 module _ (σ : Bindings) where
   -- a receipt that is made
   received : (a v : ℕ) (m : Message) (b s : Closure) → Good σ b → find a b ≡ some (receipt v, s) → (t : ℕ) →
-      merge (substituteBody v (resolve σ m) (mapHeads (U σ) s)) (mapHeads (U σ) (drop t (drop a b))) ≡ mapHeads (U ((v, m) ∷ σ)) (merge s (drop t (drop a b)))
+      merge (substituteBody v (resolve σ m) (mapHeads (U σ) s)) (mapHeads (U σ) (removePart t (removePart a b))) ≡ mapHeads (U ((v, m) ∷ σ)) (merge s (removePart t (removePart a b)))
   received a v m b s G e t =
       let f = of-find (receipts v) a b (receipt v, s) e in
-      let k : one (eqb v v) ≡ 1 = ap one (received-self v) in
+      let k : oneIf (eqb v v) ≡ 1 = ap oneIf (received-self v) in
       let n : 1 ≤ of (receipts v) b = omega arith in
-      let c : of (receipts v) (drop t (drop a b)) ≡ 0 = omega (arith, G .once v, of-drop (receipts v) t (drop a b)) in
-      let l : sum (λ i h. spentIn h) s + of (loose v) (drop a b) ≤ of (loose v) b = omega (arith, rw (received-self v) at (of-find (loose v) a b (receipt v, s) e)) in
-      let z : of (loose v) (drop t (drop a b)) ≡ 0 = omega (arith, G .apart v n, of-drop (loose v) t (drop a b)) in
-      let o : sum (λ i h. spentIn h) s ≡ 0 = omega (arith, G .apart v n) in
-      ap₂ merge (sym (filled-body v m σ (G .new v n) s o)) (sym (still-body v m σ (drop t (drop a b)) c z)) ∙ merge-map (U ((v, m) ∷ σ)) s (drop t (drop a b))
+      let c : of (receipts v) (removePart t (removePart a b)) ≡ 0 = omega (arith, G .once v, of-removePart (receipts v) t (removePart a b)) in
+      let l : total (λ i h. spentIn h) s + of (loose v) (removePart a b) ≤ of (loose v) b = omega (arith, rw (received-self v) at (of-find (loose v) a b (receipt v, s) e)) in
+      let z : of (loose v) (removePart t (removePart a b)) ≡ 0 = omega (arith, G .apart v n, of-removePart (loose v) t (removePart a b)) in
+      let o : total (λ i h. spentIn h) s ≡ 0 = omega (arith, G .apart v n) in
+      ap₂ merge (sym (filled-body v m σ (G .new v n) s o)) (sym (still-body v m σ (removePart t (removePart a b)) c z)) ∙ merge-map (U ((v, m) ∷ σ)) s (removePart t (removePart a b))
 
-  here : (a t : ℕ) (b : Closure) → Good σ b → moveHere plain a t (mapHeads (U σ) b) ≡ Option·map (K σ) (moveHere (under σ) a t b)
+  here : (a t : ℕ) (b : Closure) → Good σ b → moveHere plain a t (mapHeads (U σ) b) ≡ Option·map (K σ) (moveHere (viewUnder σ) a t b)
   here a t b G =
-      here-map (under σ) plain (itemsLeft σ) (resolve σ) (λ n. n) (translates σ) (K σ) (λ s. refl) a t b
-      (receive-map (under σ) plain (itemsLeft σ) (resolve σ) (λ n. n) (translates σ) (K σ) (λ s. refl) a t b
+      here-map (viewUnder σ) plain (itemsLeft σ) (resolve σ) (λ n. n) (translates σ) (K σ) (λ s. refl) a t b
+      (receive-map (viewUnder σ) plain (itemsLeft σ) (resolve σ) (λ n. n) (translates σ) (K σ) (λ s. refl) a t b
       (λ v m s c e _. ap (λ (d : Plain). record { body = d; news = (v, resolve σ m) ∷ [] }) (received a v m b s G e t)))
 
   -- what stands around or beside a move unfolds as before
-  around : (i n : ℕ) (h : ClosureHead) (b c r : Closure) (news : Bindings) → headName (under σ) h ≡ Called n → Good σ (part i h b r) → Step b c news →
+  around : (i n : ℕ) (h : ClosureHead) (b c r : Closure) (news : Bindings) → headName (viewUnder σ) h ≡ Called n → Good σ (part i h b r) → Step b c news →
       (U σ h ≡ U (news ++ σ) h) × (mapHeads (U σ) r ≡ mapHeads (U (news ++ σ)) r)
   around i n h b c r news e G (spends q l) = rw q (refl, refl)
   around i n h b c r news e G (takes x) =
@@ -165,10 +165,10 @@ module _ (σ : Bindings) where
       let u : mentionsIn v h + (of (loose v) b + of (loose v) r) ≡ 0 = rw o at w in
       rw (x .told) (sym (still-head v (x .sent) σ h (omega arith)), sym (still-body v (x .sent) σ b (omega arith) (omega arith)))
 
-  unfold-anywhere : (a t : ℕ) (b : Closure) → Good σ b → anywhere plain (moveHere plain a t) (mapHeads (U σ) b) ≡ Option·map (K σ) (anywhere (under σ) (moveHere (under σ) a t) b)
+  unfold-anywhere : (a t : ℕ) (b : Closure) → Good σ b → anywhere plain (moveHere plain a t) (mapHeads (U σ) b) ≡ Option·map (K σ) (anywhere (viewUnder σ) (moveHere (viewUnder σ) a t) b)
   unfolding mapHeads
-  unfold-anywhere a t b G = anywhere-map (under σ) plain (U σ) (K σ) (Good σ) (moveHere (under σ) a t) (moveHere plain a t) (record {
-    names = named-map (under σ) plain (itemsLeft σ) (resolve σ) (λ n. n) (translates σ);
+  unfold-anywhere a t b G = anywhere-map (viewUnder σ) plain (U σ) (K σ) (Good σ) (moveHere (viewUnder σ) a t) (moveHere plain a t) (record {
+    names = named-map (viewUnder σ) plain (itemsLeft σ) (resolve σ) (λ n. n) (translates σ);
     agree = here a t;
     good-inside = good-inside σ;
     good-rest = good-rest σ;
@@ -204,4 +204,4 @@ pub unfold-move : (σ : Bindings) (a t : ℕ) (b : Closure) → Good σ b → mo
 unfolding move closureMove
 unfold-move σ a t b G =
     ap (λ (d : Plain). settledBy (anywhere plain (moveHere plain a t) d)) (unfolded-map σ b)
-    ∙ ap settledBy (unfold-anywhere σ a t b G) ∙ settled-move σ (anywhere (under σ) (moveHere (under σ) a t) b)
+    ∙ ap settledBy (unfold-anywhere σ a t b G) ∙ settled-move σ (anywhere (viewUnder σ) (moveHere (viewUnder σ) a t) b)

@@ -1,7 +1,7 @@
 -- The closure that a script begins with: it unfolds to the plain machine's tree, and the invariant holds of it.
 -- Assumes nothing.
 use Prim.Native.Nat.{ℕ, _+_, _≤_}
-use mathlib.Core.Bool.{true, false}
+use mathlib.Core.Bool.{false, true≢false}
 use mathlib.Core.List.{List, [], _∷_}
 use mathlib.Core.Path.{_≡_, refl, sym, ap, _∙_, subst}
 use native.Mathlib.Omega.{arith}
@@ -13,7 +13,7 @@ use Rattle.messages.specs.Message.{Message, mentions}
 use Rattle.messages.proofs.Mentioning.{mentions-other}
 use Rattle.messages.proofs.Readings.{Next}
 use Rattle.messages.proofs.Cases as message
-use Rattle.scripts.specs.Tree.{Head, ambient, action, receipt, output, close, part, one, sum, count, mapHeads, settle}
+use Rattle.scripts.specs.Tree.{Head, ambient, action, receipt, output, close, part, oneIf, total, timesIn, mapHeads, settle}
 use Rattle.scripts.specs.Script.{Written, Script, readScript, holdHead, hold, started}
 use Rattle.scripts.proofs.Cases as body
 use Rattle.scripts.proofs.Numbers.{Range, two-ranges, sooner, one-range, numbered-range}
@@ -21,7 +21,7 @@ use Rattle.scripts.proofs.Tabled.{script-tabled}
 use Rattle.bindings.specs.Resolve.{resolve}
 use Rattle.bindings.proofs.Substitution.{New}
 use Rattle.slices.proofs.Tests.{byTest}
-use Rattle.machine.proofs.Sums.{map-sum}
+use Rattle.machine.proofs.Sums.{map-total}
 use Rattle.closure_machine.specs.Closure.{itemsLeft, settleUnder, unfoldHead, unfolded, wholeHead, closureOf}
 use Rattle.closure_machine.proofs.Tallies.{of}
 use Rattle.closure_machine.proofs.Invariant.{mentionsIn, receives, spentIn, receipts, loose, Good, good-settled}
@@ -53,9 +53,6 @@ record Known (around : List ℕ) (c : Cursor) (p : Message × Cursor) : Type 0 w
   rises : c .index ≤ p .1 .index
   bound : (v : ℕ) → member v around ≡ false → mentions v (p .0) ≡ 0
 
-true≢false : {B : Type 0} → true ≡ false → B
-true≢false e = let z : _≡_ {A = ℕ} 0 1 = cc in absurd (let w : ⊥ = omega arith in w)
-
 message-known : message.Cases Known
 unfolding mentions
 message-known = record {
@@ -79,10 +76,10 @@ record Bound (around : List ℕ) (c : Cursor) (p : Script × Cursor) : Type 0 wh
   rises : c .index ≤ p .1 .index
   ranges : (v : ℕ) → Range v (c .index) (p .1 .index) (of (receipts v) (closureOf (p .0)))
   bound : (v : ℕ) → member v around ≡ false → of (loose v) (closureOf (p .0)) ≡ 0
-  whole : sum (λ k h. spentIn h) (closureOf (p .0)) ≡ 0
+  whole : total (λ k h. spentIn h) (closureOf (p .0)) ≡ 0
 
 none-bound : (around : List ℕ) (c d : Cursor) → c .index ≤ d .index → Bound around c (close, d)
-unfolding closureOf mapHeads sum of
+unfolding closureOf mapHeads total of
 none-bound around c d l = record {
   rises = l;
   ranges = λ v. record { once = omega arith; under = λ h. refl; over = λ h. refl };
@@ -95,7 +92,7 @@ module _ (around : List ℕ) (c : Cursor) (q : ℕ × Cursor) (x : Next c q) (m 
   with-message : (h : Head Message) (b r : Script × Cursor) → Bound around (m .1) b → Bound around (b .1) r →
       ((v : ℕ) → receives v (wholeHead h) ≡ false) → spentIn (wholeHead h) ≡ 0 → ((v : ℕ) → mentionsIn v (wholeHead h) ≡ mentions v (m .0)) →
       Bound around c (part (c .number) (body.at (c .index) h) (b .0) (r .0), r .1)
-  unfolding closureOf mapHeads sum of
+  unfolding closureOf mapHeads total of
   with-message h b r B R n z u = record {
     rises = omega (arith, x .index, k .rises, B .rises, R .rises);
     ranges = λ v. rw (n v)
@@ -111,7 +108,7 @@ member-cons v i around t d = rw (t, d)
 
 receipt-bound : (around : List ℕ) (c : Cursor) (q : ℕ × Cursor) (b r : Script × Cursor) → Next c q → Bound (c .index ∷ around) (nextPart (q .1)) b → Bound around (b .1) r →
     Bound around c (part (c .number) (body.at (c .index) (receipt (c .index))) (b .0) (r .0), r .1)
-unfolding closureOf mapHeads sum of wholeHead
+unfolding closureOf mapHeads total of wholeHead
 receipt-bound around c q b r x B R = record {
   rises = omega (arith, x .index, B .rises, R .rises);
   ranges = λ v.
@@ -145,6 +142,6 @@ pub started-good : (ws : List ℕ) (p : Script × Cursor) → readScript ws ≡ 
 started-good ws p e = good-settled [] [] (closureOf (p .0)) (script-good ws p e)
 
 -- each number stands once in it
-pub script-distinct : (ws : List ℕ) (p : Script × Cursor) → readScript ws ≡ got p → (j : ℕ) → count j (closureOf (p .0)) ≤ 1
+pub script-distinct : (ws : List ℕ) (p : Script × Cursor) → readScript ws ≡ got p → (j : ℕ) → timesIn j (closureOf (p .0)) ≤ 1
 unfolding closureOf
-script-distinct ws p e j = omega (arith, map-sum (λ i h. one (eqb j i)) (λ (w : Written). wholeHead (w .head)) (p .0), numbered-range j 0 (p .0) (script-tabled ws p e .numbered) .once)
+script-distinct ws p e j = omega (arith, map-total (λ i h. oneIf (eqb j i)) (λ (w : Written). wholeHead (w .head)) (p .0), numbered-range j 0 (p .0) (script-tabled ws p e .numbered) .once)

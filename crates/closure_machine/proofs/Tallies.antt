@@ -10,14 +10,14 @@ use lib.Dec.{eqb, ltb}
 use borrow.Author.Tests.{eqb-true}
 use Rattle.messages.specs.Message.{Message}
 use Rattle.messages.specs.declared.Named.the-variants.{Called}
-use Rattle.scripts.specs.Tree.{ambient, action, receipt, output, isAmbient, close, part, sum, put, merge, settleBy}
-use Rattle.machine.specs.Bodies.{find, drop, alter}
+use Rattle.scripts.specs.Tree.{ambient, action, receipt, output, isAmbient, close, part, total, put, merge, settleBy}
+use Rattle.machine.specs.Bodies.{find, removePart, alter}
 use Rattle.machine.specs.Moves.{Moved, headName, spentHead, spend, moveHere, anywhere}
 use Rattle.slices.proofs.Tests.{byTest}
 use Rattle.machine.proofs.Options.{some-is, none≢some}
 use Rattle.machine.proofs.Inversion.{headName-inv, Here, by-open, by-receive, by-enter, by-exit, here-inv, Makes, now, inner, outer, anywhere-inv}
 use Rattle.machine.proofs.Sums.{entered-target, received-target}
-use Rattle.closure_machine.specs.Closure.{Action, ClosureHead, Closure, Bindings, spentOne, under, allSpent, settleUnder, settledUnder, closureMove}
+use Rattle.closure_machine.specs.Closure.{Action, ClosureHead, Closure, Bindings, spentOne, viewUnder, allSpent, settleUnder, settledUnder, closureMove}
 
 pub record Tally : Type 0 where
   pub own : ℕ → ClosureHead → ℕ  -- what a part counts by its number and its head
@@ -30,13 +30,13 @@ pub record Tally : Type 0 where
 module _ (T : Tally) where
   unfoldable pub of : Closure → ℕ
   of close = 0
-  of (part i h b r) = T .own i h + (cond (T .shut h) (sum (T .guarded) b) (of b) + of r)
+  of (part i h b r) = T .own i h + (cond (T .shut h) (total (T .guarded) b) (of b) + of r)
 
   -- one part by itself
   abbrev pub alone : ℕ → ClosureHead → Closure → ℕ
-  alone i h b = T .own i h + cond (T .shut h) (sum (T .guarded) b) (of b)
+  alone i h b = T .own i h + cond (T .shut h) (total (T .guarded) b) (of b)
 
-  pub open-inside : (h : ClosureHead) (b : Closure) → T .shut h ≡ false → cond (T .shut h) (sum (T .guarded) b) (of b) ≡ of b
+  pub open-inside : (h : ClosureHead) (b : Closure) → T .shut h ≡ false → cond (T .shut h) (total (T .guarded) b) (of b) ≡ of b
   open-inside h b e = rw e
 
   pub of-part : (i : ℕ) (h : ClosureHead) (b r : Closure) → T .shut h ≡ false → of (part i h b r) ≡ T .own i h + (of b + of r)
@@ -44,21 +44,21 @@ module _ (T : Tally) where
   of-part i h b r e = rw e
 
   -- an ambient with a name is not shut
-  pub named-open : (σ : Bindings) (h : ClosureHead) (n : ℕ) → headName (under σ) h ≡ Called n → T .shut h ≡ false
-  named-open σ h n e = let x = headName-inv (under σ) h n e in ap (T .shut) (x .1) ∙ T .ambients (x .0)
+  pub named-open : (σ : Bindings) (h : ClosureHead) (n : ℕ) → headName (viewUnder σ) h ≡ Called n → T .shut h ≡ false
+  named-open σ h n e = let x = headName-inv (viewUnder σ) h n e in ap (T .shut) (x .1) ∙ T .ambients (x .0)
 
-  pub of-drop : (a : ℕ) (b : Closure) → of (drop a b) ≤ of b
-  unfolding drop of
-  of-drop a close = omega arith
-  of-drop a (part i h b r) = byTest (eqb a i) (λ t. rw t (omega (arith, of-drop a r))) (λ t. rw t (omega (arith, of-drop a r)))
+  pub of-removePart : (a : ℕ) (b : Closure) → of (removePart a b) ≤ of b
+  unfolding removePart of
+  of-removePart a close = omega arith
+  of-removePart a (part i h b r) = byTest (eqb a i) (λ t. rw t (omega (arith, of-removePart a r))) (λ t. rw t (omega (arith, of-removePart a r)))
 
-  pub of-find : (a : ℕ) (b : Closure) (p : ClosureHead × Closure) → find a b ≡ some p → alone a (p .0) (p .1) + of (drop a b) ≤ of b
-  unfolding find drop of
+  pub of-find : (a : ℕ) (b : Closure) (p : ClosureHead × Closure) → find a b ≡ some p → alone a (p .0) (p .1) + of (removePart a b) ≤ of b
+  unfolding find removePart of
   of-find a close p e = none≢some e
   of-find a (part i h b r) p e = byTest (eqb a i)
       (λ t.
       let q : (h, b) ≡ p = some-is (rw t at e) in
-      rw (t, ← q, eqb-true a i t) (omega (arith, of-drop i r)))
+      rw (t, ← q, eqb-true a i t) (omega (arith, of-removePart i r)))
       (λ t. rw t (omega (arith, of-find a r p (rw t at e))))
 
   pub of-put : (n : ℕ) (g : ClosureHead) (s b : Closure) → of (put n g s b) ≤ alone n g s + of b
@@ -85,21 +85,21 @@ module _ (T : Tally) where
       (λ t. rw t (omega (arith, of-alter n G r p (rw t at e) s)))
 
   module _ (σ : Bindings) where
-    spent-less : (k : ℕ) (h : ClosureHead) (b : Closure) → alone k (spentHead (under σ) h) b ≤ alone k h b
+    spent-less : (k : ℕ) (h : ClosureHead) (b : Closure) → alone k (spentHead (viewUnder σ) h) b ≤ alone k h b
     unfolding spentHead
     spent-less k (ambient m) b = omega arith
     spent-less k (action a) b = omega (arith, open-inside (action a) b (T .actions a), open-inside (action (spentOne a)) b (T .actions (spentOne a)), T .spends k a)
     spent-less k (receipt v) b = omega arith
     spent-less k (output m) b = omega arith
 
-    of-spend : (n : ℕ) (b : Closure) → of (spend (under σ) n b) ≤ of b
+    of-spend : (n : ℕ) (b : Closure) → of (spend (viewUnder σ) n b) ≤ of b
     unfolding alter of
     of-spend n close = omega arith
     of-spend n (part i h b r) = byTest (eqb n i) (λ t. rw t (omega (arith, spent-less i h b))) (λ t. rw t (omega (arith, of-spend n r)))
 
     -- exactly, where the actor is found
     pub of-spent : (n : ℕ) (b : Closure) (a : Action) (s : Closure) → find n b ≡ some (action a, s) →
-        of (spend (under σ) n b) + T .own n (action a) ≡ of b + T .own n (action (spentOne a))
+        of (spend (viewUnder σ) n b) + T .own n (action a) ≡ of b + T .own n (action (spentOne a))
     unfolding find alter of spentHead
     of-spent n close a s e = none≢some e
     of-spent n (part i h b r) a s e = byTest (eqb n i)
@@ -149,11 +149,11 @@ pub data Step (b c : Closure) (news : Bindings) : Type 0 where
   takes : Takes b c news → Step b c news
 
 module _ (σ : Bindings) where
-  pub here-step : (a t : ℕ) (b c : Closure) (news : Bindings) → Here (under σ) a t b c news → Step b c news
+  pub here-step : (a t : ℕ) (b c : Closure) (news : Bindings) → Here (viewUnder σ) a t b c news → Step b c news
   here-step a t b c news (by-open x e) = spends e (λ T. rw (x .result) (omega (
     arith,
-    of-spend T σ a (merge (x .room) (drop t b)),
-    of-merge T (x .room) (drop t b),
+    of-spend T σ a (merge (x .room) (removePart t b)),
+    of-merge T (x .room) (removePart t b),
     of-find T t b _ (x .target),
     open-inside T (x .goal) (x .room) (named-open T σ (x .goal) (x .place) (x .named)),
   )))
@@ -167,28 +167,28 @@ module _ (σ : Bindings) where
     told = x .told;
     law = λ T. rw (x .result) (omega (
       arith,
-      of-merge T (x .after) (drop t (drop a b)),
+      of-merge T (x .after) (removePart t (removePart a b)),
       of-find T a b _ (x .actor),
-      of-find T t (drop a b) _ (received-target (under σ) x),
+      of-find T t (removePart a b) _ (received-target (viewUnder σ) x),
     ));
   })
   here-step a t b c news (by-enter x e) = spends e (λ T. rw (x .result) (omega (
     arith,
-    of-alter T t (put (x .mover) (x .shell) (spend (under σ) a (x .inside))) (drop (x .mover) b) _ (entered-target (under σ) x) (named-open T σ (x .goal) (x .place) (x .named)),
-    of-put T (x .mover) (x .shell) (spend (under σ) a (x .inside)) (x .room),
+    of-alter T t (put (x .mover) (x .shell) (spend (viewUnder σ) a (x .inside))) (removePart (x .mover) b) _ (entered-target (viewUnder σ) x) (named-open T σ (x .goal) (x .place) (x .named)),
+    of-put T (x .mover) (x .shell) (spend (viewUnder σ) a (x .inside)) (x .room),
     of-spend T σ a (x .inside),
     of-find T (x .mover) b _ (x .around),
     open-inside T (x .shell) (x .inside) (named-open T σ (x .shell) (x .own) (x .shell-named)),
-    open-inside T (x .shell) (spend (under σ) a (x .inside)) (named-open T σ (x .shell) (x .own) (x .shell-named)),
+    open-inside T (x .shell) (spend (viewUnder σ) a (x .inside)) (named-open T σ (x .shell) (x .own) (x .shell-named)),
   )))
   here-step a t b c news (by-exit x e) = spends e (λ T. rw (x .result) (omega (
     arith,
-    of-put T (x .mover) (x .shell) (spend (under σ) a (x .inside)) (alter t (λ g. g) (drop (x .mover)) b),
-    of-alter T t (drop (x .mover)) b _ (x .target) (named-open T σ (x .goal) (x .place) (x .named)),
+    of-put T (x .mover) (x .shell) (spend (viewUnder σ) a (x .inside)) (alter t (λ g. g) (removePart (x .mover)) b),
+    of-alter T t (removePart (x .mover)) b _ (x .target) (named-open T σ (x .goal) (x .place) (x .named)),
     of-spend T σ a (x .inside),
     of-find T (x .mover) (x .room) _ (x .around),
     open-inside T (x .shell) (x .inside) (named-open T σ (x .shell) (x .own) (x .shell-named)),
-    open-inside T (x .shell) (spend (under σ) a (x .inside)) (named-open T σ (x .shell) (x .own) (x .shell-named)),
+    open-inside T (x .shell) (spend (viewUnder σ) a (x .inside)) (named-open T σ (x .shell) (x .own) (x .shell-named)),
   )))
 
 -- a step in a body is a step of what stands around it, and settling afterwards changes nothing in that
@@ -207,9 +207,9 @@ lift b c d e news f (takes x) = takes (record {
 
 module _ (σ : Bindings) (a t : ℕ) where
   -- THEOREM: what a move does to every tally, before the closure is settled and after.
-  pub makes-step : {b c : Closure} {news : Bindings} → Makes (under σ) (moveHere (under σ) a t) b c news → Step b c news
+  pub makes-step : {b c : Closure} {news : Bindings} → Makes (viewUnder σ) (moveHere (viewUnder σ) a t) b c news → Step b c news
   unfolding of
-  makes-step (now {b} m e) = here-step σ a t b (m .body) (m .news) (here-inv (under σ) a t b m e)
+  makes-step (now {b} m e) = here-step σ a t b (m .body) (m .news) (here-inv (viewUnder σ) a t b m e)
   makes-step (inner {k} {n} {h} {b} {c} {r} {news} e x) = lift b c (part k h b r) (part k h c r) news
       (λ T. omega (arith, open-inside T h b (named-open T σ h n e), open-inside T h c (named-open T σ h n e))) (makes-step x)
   makes-step (outer {k} {h} {b} {c} {r} {news} x) = lift r c (part k h b r) (part k h b c) news (λ T. omega arith) (makes-step x)
@@ -217,17 +217,17 @@ module _ (σ : Bindings) (a t : ℕ) where
   -- a closure move that is made: the step, and then the closure is settled under the bindings that hold after it
   pub record Moves (b : Closure) (m : Moved Action) : Type 0 where
     pub before : Closure
-    pub makes : Makes (under σ) (moveHere (under σ) a t) b before (m .news)
+    pub makes : Makes (viewUnder σ) (moveHere (viewUnder σ) a t) b before (m .news)
     pub settled : m .body ≡ settleUnder (m .news ++ σ) before
 
-  settled-inv : (b : Closure) (x : Option (Moved Action)) → anywhere (under σ) (moveHere (under σ) a t) b ≡ x → (m : Moved Action) → settledUnder σ x ≡ some m → Moves b m
+  settled-inv : (b : Closure) (x : Option (Moved Action)) → anywhere (viewUnder σ) (moveHere (viewUnder σ) a t) b ≡ x → (m : Moved Action) → settledUnder σ x ≡ some m → Moves b m
   unfolding settledUnder
   settled-inv b none q m e = none≢some e
-  settled-inv b (some l) q m e = subst (Moves b) (some-is e) (record { before = l .body; makes = anywhere-inv (under σ) (moveHere (under σ) a t) b l q; settled = refl })
+  settled-inv b (some l) q m e = subst (Moves b) (some-is e) (record { before = l .body; makes = anywhere-inv (viewUnder σ) (moveHere (viewUnder σ) a t) b l q; settled = refl })
 
   pub closure-inv : (b : Closure) (m : Moved Action) → closureMove σ a t b ≡ some m → Moves b m
   unfolding closureMove
-  closure-inv b m e = settled-inv b (anywhere (under σ) (moveHere (under σ) a t) b) refl m e
+  closure-inv b m e = settled-inv b (anywhere (viewUnder σ) (moveHere (viewUnder σ) a t) b) refl m e
 
   pub move-step : (b : Closure) (m : Moved Action) → closureMove σ a t b ≡ some m → Step b (m .body) (m .news)
   move-step b m e =

@@ -1,6 +1,6 @@
--- The closure machine (004; document 01, "The engine keeps closures: message once, newest binding first, an offset into each
--- action"): the same moves as the plain machine's, on a tree whose messages are the script's, beside the bindings; and the
--- plain tree that a closure stands for. Assumes nothing: these are definitions.
+-- The closure machine (document 01, "The engine keeps closures (004): message once, newest binding first, an offset into each
+-- action"): the same moves as the plain machine's, on a tree whose messages are the script's, beside the bindings; the plain
+-- tree that a closure stands for; and the closure that a script begins with. Assumes nothing: these are definitions.
 use Prim.Native.Nat.{ℕ, suc}
 use mathlib.Core.Bool.{Bool, false}
 use mathlib.Core.List.{List, [], _∷_, _++_}
@@ -38,8 +38,8 @@ abbrev pub spentOne : Action → Action
 spentOne a = record { offset = suc (a .offset); message = a .message }
 
 -- how the heads are read under the bindings; a receipt's body stays as it stands, its binding being news
-abbrev pub under : Bindings → View Action
-under σ = record { named = λ m. nameOf (resolve σ m); first = λ a. firstItem (itemsLeft σ a); spent = spentOne; delivered = λ v m b. b }
+abbrev pub viewUnder : Bindings → View Action
+viewUnder σ = record { named = λ m. nameOf (resolve σ m); first = λ a. firstItem (itemsLeft σ a); spent = spentOne; delivered = λ v m b. b }
 
 -- an action whose items are all spent
 unfoldable pub allSpent : Bindings → ClosureHead → Bool
@@ -58,7 +58,7 @@ settledUnder σ (some m) = some (record { body = settleUnder (m .news ++ σ) (m 
 
 -- the closure after the move (a, t), where the machine can make it
 unfoldable pub closureMove : Bindings → (actor target : ℕ) → Closure → Option (Moved Action)
-closureMove σ a t b = settledUnder σ (anywhere (under σ) (moveHere (under σ) a t) b)
+closureMove σ a t b = settledUnder σ (anywhere (viewUnder σ) (moveHere (viewUnder σ) a t) b)
 
 -- The plain tree that a closure stands for.
 unfoldable pub unfoldHead : Bindings → ClosureHead → PlainHead

@@ -5,7 +5,7 @@ use mathlib.Core.List.{List}
 use mathlib.Core.Path.{_≡_, sym, ap, _∙_}
 use lib.ListN.{getD, set, length}
 use lib.Seq.{getD-set-same, getD-set-other, lt-length-set}
-use Rattle.sets.specs.Sets.{members, insert, remove}
+use Rattle.sets.specs.Sets.{members, inserted, remove}
 use Rattle.scripts.specs.Represents.{bodyIn}
 
 -- the sets after that of b has become l
@@ -16,7 +16,7 @@ pub record Replaced (k k′ : ℕ → List ℕ) (b : ℕ) (l : List ℕ) : Type 
 -- the sets after p has gone out of one body into another
 pub record Carried (k k′ : ℕ → List ℕ) (p from into : ℕ) : Type 0 where
   pub loses : k′ from ≡ remove p (k from)
-  pub gains : k′ into ≡ insert p (k into)
+  pub gains : k′ into ≡ inserted p (k into)
   pub others : (i : ℕ) → (i ≡ from → ⊥) → (i ≡ into → ⊥) → k i ≡ k′ i
 
 -- the offsets after one more item of a is spent
@@ -33,11 +33,11 @@ module _ (kids : List ℕ) where
 
   -- first out of the one body, then into the other
   pub set-carried : (p from into m n : ℕ) → from < length kids → into < length kids → (from ≡ into → ⊥) → members m ≡ remove p (bodyIn kids from)
-      → members n ≡ insert p (bodyIn (set kids from m) into) → Carried (bodyIn kids) (bodyIn (set (set kids from m) into n)) p from into
+      → members n ≡ inserted p (bodyIn (set kids from m) into) → Carried (bodyIn kids) (bodyIn (set (set kids from m) into n)) p from into
   set-carried p from into m n low high two loses gains = record {
     loses = ap members (getD-set-other (set kids from m) into from n 0 two) ∙ ap members (getD-set-same kids from m 0 low) ∙ loses;
     gains = ap members (getD-set-same (set kids from m) into n 0 (lt-length-set kids from m high)) ∙ gains
-        ∙ ap (λ (x : ℕ). insert p (members x)) (getD-set-other kids from into m 0 (λ e. two (sym e)));
+        ∙ ap (λ (x : ℕ). inserted p (members x)) (getD-set-other kids from into m 0 (λ e. two (sym e)));
     others = λ i d e. sym (ap members (getD-set-other (set kids from m) into i n 0 e ∙ getD-set-other kids from i m 0 d));
   }
 

@@ -12,13 +12,13 @@ use Rattle.messages.specs.Message.{Message, name, variable, enter, exit, opens,
 use Rattle.messages.specs.Spelling.{messageAt}
 use Rattle.messages.specs.declared.Named.{Named}
 use Rattle.messages.specs.declared.First.{First}
-use Rattle.sets.specs.Sets.{members, elem, insert, remove}
-use Rattle.sets.proofs.Lists.{elem-insert, elem-remove}
+use Rattle.sets.specs.Sets.{members, elem, inserted, remove}
+use Rattle.sets.proofs.Lists.{elem-inserted, elem-remove}
 use Rattle.bindings.specs.Resolve.{resolve}
 use Rattle.scripts.specs.Tree.{ambient, action, receipt, output}
 use Rattle.machine.specs.Moves.{sameName, firstOf, headName}
 use Rattle.slices.proofs.Tests.{byTest}
-use Rattle.closure_machine.specs.Closure.{Action, ClosureHead, Bindings, itemsLeft, under, allSpent}
+use Rattle.closure_machine.specs.Closure.{Action, ClosureHead, Bindings, itemsLeft, viewUnder, allSpent}
 use Rattle.closures.specs.Represents.{headOf, heads}
 use Rattle.closures.specs.Seen.{nameIn, isNothing, itemAct, itemName, actOf, aimOf, busyOf, isOutput, actUnder, aimUnder, busyUnder, Does, kept, Seen}
 use Rattle.closures.specs.declared.Looks.{Looks}
@@ -62,33 +62,33 @@ module _ (script : List ℕ) (kind start offset : ℕ) where
       (λ x y z. lt-ltb 3 kind (omega arith))
 
   module _ (σ : Bindings) where
-    act-is : actOf kind (firstOf (under σ) h) ≡ actUnder σ h
+    act-is : actOf kind (firstOf (viewUnder σ) h) ≡ actUnder σ h
     unfolding actOf actUnder itemAct firstOf
-    act-is = by-kind script kind start offset (λ x. actOf kind (firstOf (under σ) x) ≡ actUnder σ x)
+    act-is = by-kind script kind start offset (λ x. actOf kind (firstOf (viewUnder σ) x) ≡ actUnder σ x)
         (λ e. rw e)
         (λ e. rw e)
         (λ e. rw e)
         (λ x y z. rw (ne-eqb kind 2 y, ne-eqb kind 3 z))
 
-    aim-is : (g : ClosureHead) → aimOf kind (firstOf (under σ) h) (isOutput g) (headName (under σ) g) ≡ aimUnder σ h g
+    aim-is : (g : ClosureHead) → aimOf kind (firstOf (viewUnder σ) h) (isOutput g) (headName (viewUnder σ) g) ≡ aimUnder σ h g
     unfolding aimOf aimUnder itemName firstOf
-    aim-is g = by-kind script kind start offset (λ x. aimOf kind (firstOf (under σ) x) (isOutput g) (headName (under σ) g) ≡ aimUnder σ x g)
+    aim-is g = by-kind script kind start offset (λ x. aimOf kind (firstOf (viewUnder σ) x) (isOutput g) (headName (viewUnder σ) g) ≡ aimUnder σ x g)
         (λ e. rw e)
         (λ e. rw e)
         (λ e. rw e)
         (λ x y z. rw (ne-eqb kind 2 y, ne-eqb kind 3 z))
 
-    busy-is : busyOf kind (firstOf (under σ) h) ≡ busyUnder σ h
+    busy-is : busyOf kind (firstOf (viewUnder σ) h) ≡ busyUnder σ h
     unfolding busyOf busyUnder firstOf allSpent itemsLeft
-    busy-is = by-kind script kind start offset (λ x. busyOf kind (firstOf (under σ) x) ≡ busyUnder σ x)
+    busy-is = by-kind script kind start offset (λ x. busyOf kind (firstOf (viewUnder σ) x) ≡ busyUnder σ x)
         (λ e. rw e)
         (λ e. rw e (none-left (items (resolve σ (messageAt (drop start script)))) offset))
         (λ e. rw e)
         (λ x y z. rw (ne-eqb kind 1 x, ne-eqb kind 2 y))
 
-    pub does-is : (w : ℕ → ClosureHead) (item : First) (d : Deed) (o : ℕ → Bool) (n : ℕ → Named) → item ≡ firstOf (under σ) h
+    pub does-is : (w : ℕ → ClosureHead) (item : First) (d : Deed) (o : ℕ → Bool) (n : ℕ → Named) → item ≡ firstOf (viewUnder σ) h
         → (d .act ≡ actOf kind item) × ((i : ℕ) → i < 64 → elem i (members (d .aim)) ≡ aimOf kind item (o i) (n i)) × (d .busy ≡ busyOf kind item)
-        → ((j : ℕ) → j < 64 → o j ≡ isOutput (w j)) → ((j : ℕ) → j < 64 → n j ≡ headName (under σ) (w j)) → Does σ w h d
+        → ((j : ℕ) → j < 64 → o j ≡ isOutput (w j)) → ((j : ℕ) → j < 64 → n j ≡ headName (viewUnder σ) (w j)) → Does σ w h d
     does-is w item d o n e D p q = record {
       acts = D .0 ∙ ap (actOf kind) e ∙ act-is;
       aims = λ j m. D .1 j m ∙ (λ i. aimOf kind (e i) (p j m i) (q j m i)) ∙ aim-is (w j);
@@ -100,32 +100,32 @@ module _ (script : List ℕ) (kind start offset : ℕ) where
 pub deed-same : (d e : Deed) → d .act ≡ e .act → d .aim ≡ e .aim → d .busy ≡ e .busy → d ≡ e
 deed-same d e a b c = λ i. record { act = a i; aim = b i; busy = c i }
 
-module _ (so : Bool) (i : ℕ) (l k : List ℕ) (x : k ≡ cond so (insert i (remove i l)) (remove i l)) where
+module _ (so : Bool) (i : ℕ) (l k : List ℕ) (x : k ≡ cond so (inserted i (remove i l)) (remove i l)) where
   taken-out : (j : ℕ) → elem j (remove i l) ≡ (not (eqb i j) && elem j l)
   taken-out j = elem-remove j i l
 
   pub put-here : elem i k ≡ so
   put-here = ap (elem i) x ∙ byTest so
-      (λ t. rw t (elem-insert i i (remove i l) ∙ ap (λ (b : Bool). b || elem i (remove i l)) (eq-eqb i i refl)))
+      (λ t. rw t (elem-inserted i i (remove i l) ∙ ap (λ (b : Bool). b || elem i (remove i l)) (eq-eqb i i refl)))
       (λ t. rw t (taken-out i ∙ ap (λ (b : Bool). not b && elem i l) (eq-eqb i i refl)))
 
   pub put-other : (j : ℕ) → (j ≡ i → ⊥) → elem j k ≡ elem j l
   put-other j n =
       let gone : elem j (remove i l) ≡ elem j l = taken-out j ∙ ap (λ (b : Bool). not b && elem j l) (ne-eqb i j (λ e. n (sym e))) in
       ap (elem j) x ∙ byTest so
-      (λ t. rw t (elem-insert j i (remove i l) ∙ ap (λ (b : Bool). b || elem j (remove i l)) (ne-eqb j i n) ∙ gone))
+      (λ t. rw t (elem-inserted j i (remove i l) ∙ ap (λ (b : Bool). b || elem j (remove i l)) (ne-eqb j i n) ∙ gone))
       (λ t. rw t gone)
 
 -- what is kept of part j by the arrays
 pub kept-set : (l r : Looks) (i : ℕ) (d : Deed) → i < length (l .acts) → i < length (l .aims) → r .acts ≡ set (l .acts) i (d .act) → r .aims ≡ set (l .aims) i (d .aim)
-    → members (r .busy) ≡ cond (d .busy) (insert i (remove i (members (l .busy)))) (remove i (members (l .busy))) → kept r i ≡ d
+    → members (r .busy) ≡ cond (d .busy) (inserted i (remove i (members (l .busy)))) (remove i (members (l .busy))) → kept r i ≡ d
 kept-set l r i d m n a b c = deed-same (kept r i) d
     (ap (λ (x : List ℕ). getD x i 0) a ∙ getD-set-same (l .acts) i (d .act) 0 m)
     (ap (λ (x : List ℕ). getD x i 0) b ∙ getD-set-same (l .aims) i (d .aim) 0 n)
     (put-here (d .busy) i (members (l .busy)) (members (r .busy)) c)
 
 pub kept-other : (l r : Looks) (i : ℕ) (d : Deed) → r .acts ≡ set (l .acts) i (d .act) → r .aims ≡ set (l .aims) i (d .aim)
-    → members (r .busy) ≡ cond (d .busy) (insert i (remove i (members (l .busy)))) (remove i (members (l .busy))) → (j : ℕ) → (j ≡ i → ⊥) → kept r j ≡ kept l j
+    → members (r .busy) ≡ cond (d .busy) (inserted i (remove i (members (l .busy)))) (remove i (members (l .busy))) → (j : ℕ) → (j ≡ i → ⊥) → kept r j ≡ kept l j
 kept-other l r i d a b c j n = deed-same (kept r j) (kept l j)
     (ap (λ (x : List ℕ). getD x j 0) a ∙ getD-set-other (l .acts) i j (d .act) 0 n)
     (ap (λ (x : List ℕ). getD x j 0) b ∙ getD-set-other (l .aims) i j (d .aim) 0 n)
@@ -155,19 +155,19 @@ module _ (script : List ℕ) (kind start offset offset′ : ℕ) where
   unfolding isOutput
   output-stays = by-head (λ g h. isOutput g ≡ isOutput h) (λ m. refl) (λ a b. refl) (λ v. refl) (λ m. refl)
 
-  pub name-stays : (σ : Bindings) → headName (under σ) (headOf script kind start offset) ≡ headName (under σ) (headOf script kind start offset′)
+  pub name-stays : (σ : Bindings) → headName (viewUnder σ) (headOf script kind start offset) ≡ headName (viewUnder σ) (headOf script kind start offset′)
   unfolding headName
-  name-stays σ = by-head (λ g h. headName (under σ) g ≡ headName (under σ) h) (λ m. refl) (λ a b. refl) (λ v. refl) (λ m. refl)
+  name-stays σ = by-head (λ g h. headName (viewUnder σ) g ≡ headName (viewUnder σ) h) (λ m. refl) (λ a b. refl) (λ v. refl) (λ m. refl)
 
-aim-alike : (σ : Bindings) (h g g′ : ClosureHead) → isOutput g ≡ isOutput g′ → headName (under σ) g ≡ headName (under σ) g′ → aimUnder σ h g ≡ aimUnder σ h g′
+aim-alike : (σ : Bindings) (h g g′ : ClosureHead) → isOutput g ≡ isOutput g′ → headName (viewUnder σ) g ≡ headName (viewUnder σ) g′ → aimUnder σ h g ≡ aimUnder σ h g′
 unfolding aimUnder
 aim-alike σ (ambient m) g g′ o n = refl
-aim-alike σ (action a) g g′ o n = ap (sameName (itemName (firstOf (under σ) (action a)))) n
+aim-alike σ (action a) g g′ o n = ap (sameName (itemName (firstOf (viewUnder σ) (action a)))) n
 aim-alike σ (receipt v) g g′ o n = o
 aim-alike σ (output m) g g′ o n = refl
 
 -- what a part does, to parts of which names and outputs are as they were
-does-alike : (σ : Bindings) (w w′ : ℕ → ClosureHead) (h : ClosureHead) (d : Deed) → ((j : ℕ) → isOutput (w j) ≡ isOutput (w′ j)) → ((j : ℕ) → headName (under σ) (w j) ≡ headName (under σ) (w′ j))
+does-alike : (σ : Bindings) (w w′ : ℕ → ClosureHead) (h : ClosureHead) (d : Deed) → ((j : ℕ) → isOutput (w j) ≡ isOutput (w′ j)) → ((j : ℕ) → headName (viewUnder σ) (w j) ≡ headName (viewUnder σ) (w′ j))
     → Does σ w h d → Does σ w′ h d
 does-alike σ w w′ h d o n D = record { acts = D .acts; aims = λ j m. D .aims j m ∙ aim-alike σ h (w j) (w′ j) (o j) (n j); settles = D .settles }
 
@@ -181,13 +181,13 @@ module _ (script kinds starts offsets : List ℕ) (σ : Bindings) (a : ℕ) (l r
   abbrev w′ : ℕ → ClosureHead
   w′ = heads script kinds starts next
 
-  names-stay : (j : ℕ) → headName (under σ) (w j) ≡ headName (under σ) (w′ j)
+  names-stay : (j : ℕ) → headName (viewUnder σ) (w j) ≡ headName (viewUnder σ) (w′ j)
   names-stay j = name-stays script (getD kinds j 0) (getD starts j 0) (getD offsets j 0) (getD next j 0) σ
 
   outputs-stay : (j : ℕ) → isOutput (w j) ≡ isOutput (w′ j)
   outputs-stay j = output-stays script (getD kinds j 0) (getD starts j 0) (getD offsets j 0) (getD next j 0)
 
-  pub seen-spent : Seen σ w l → item ≡ firstOf (under σ) (headOf script (getD kinds a 0) (getD starts a 0) (getD offsets a 0 + 1))
+  pub seen-spent : Seen σ w l → item ≡ firstOf (viewUnder σ) (headOf script (getD kinds a 0) (getD starts a 0) (getD offsets a 0 + 1))
       → ((o : Bool) → (d .act ≡ actOf 2 item) × ((i : ℕ) → i < 64 → elem i (members (d .aim)) ≡ aimOf 2 item o (nameIn (l .named) (l .names) i)) × (d .busy ≡ busyOf 2 item))
       → kept r a ≡ d → ((j : ℕ) → (j ≡ a → ⊥) → kept r j ≡ kept l j) → r .named ≡ l .named → r .names ≡ l .names → Seen σ w′ r
   seen-spent S first deed here others en es = record {

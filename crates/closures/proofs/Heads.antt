@@ -15,7 +15,7 @@ use Rattle.scripts.specs.Tree.{ambient, action, receipt, output, isAmbient}
 use Rattle.bindings.specs.Resolve.{resolve, messageOf}
 use Rattle.machine.specs.Moves.{headName, firstOf, spentHead}
 use Rattle.slices.proofs.Tests.{byTest}
-use Rattle.closure_machine.specs.Closure.{ClosureHead, Bindings, itemsLeft, under}
+use Rattle.closure_machine.specs.Closure.{ClosureHead, Bindings, itemsLeft, viewUnder}
 use Rattle.closures.specs.Represents.{headOf}
 
 module _ (script : List ℕ) (kind start offset : ℕ) where
@@ -44,7 +44,7 @@ module _ (script : List ℕ) (kind start offset : ℕ) where
   head-receipt e = by-kind (λ h. h ≡ receipt start) (λ f. absurd (omega arith)) (λ f. absurd (omega arith)) (λ f. refl) (λ a b c. absurd (c e))
 
   -- an action with one item more spent; every other part is the same at each offset
-  pub head-spent : (σ : Bindings) → headOf script kind start (offset + 1) ≡ spentHead (under σ) (headOf script kind start offset)
+  pub head-spent : (σ : Bindings) → headOf script kind start (offset + 1) ≡ spentHead (viewUnder σ) (headOf script kind start offset)
   unfolding headOf spentHead
   head-spent σ = byTest (eqb kind 1)
       (λ t. rw t)
@@ -65,18 +65,18 @@ module _ (script : List ℕ) (kind start offset : ℕ) where
   kind-ambient = byTest (eqb kind 1) (λ t. t ∙ sym (is-ambient (eqb-true kind 1 t))) (λ t. t ∙ sym (not-ambient (eqb-false kind 1 t)))
 
   module _ (σ : Bindings) where
-    pub no-name : (kind ≡ 1 → ⊥) → Nameless ≡ headName (under σ) (headOf script kind start offset)
+    pub no-name : (kind ≡ 1 → ⊥) → Nameless ≡ headName (viewUnder σ) (headOf script kind start offset)
     unfolding headName
-    no-name n = by-kind (λ h. Nameless ≡ headName (under σ) h) (λ f. absurd (n f)) (λ f. refl) (λ f. refl) (λ a b c. refl)
+    no-name n = by-kind (λ h. Nameless ≡ headName (viewUnder σ) h) (λ f. absurd (n f)) (λ f. refl) (λ f. refl) (λ a b c. refl)
 
-    pub the-name : kind ≡ 1 → nameOf (resolve σ (messageOf script start)) ≡ headName (under σ) (headOf script kind start offset)
+    pub the-name : kind ≡ 1 → nameOf (resolve σ (messageOf script start)) ≡ headName (viewUnder σ) (headOf script kind start offset)
     unfolding headName
-    the-name e = sym (ap (headName (under σ)) (head-ambient e))
+    the-name e = sym (ap (headName (viewUnder σ)) (head-ambient e))
 
-    pub no-item : (kind ≡ 2 → ⊥) → Nothing ≡ firstOf (under σ) (headOf script kind start offset)
+    pub no-item : (kind ≡ 2 → ⊥) → Nothing ≡ firstOf (viewUnder σ) (headOf script kind start offset)
     unfolding firstOf
-    no-item n = by-kind (λ h. Nothing ≡ firstOf (under σ) h) (λ f. refl) (λ f. absurd (n f)) (λ f. refl) (λ a b c. refl)
+    no-item n = by-kind (λ h. Nothing ≡ firstOf (viewUnder σ) h) (λ f. refl) (λ f. absurd (n f)) (λ f. refl) (λ a b c. refl)
 
-    pub the-item : kind ≡ 2 → firstItem (drop offset (items (resolve σ word))) ≡ firstOf (under σ) (headOf script kind start offset)
+    pub the-item : kind ≡ 2 → firstItem (drop offset (items (resolve σ word))) ≡ firstOf (viewUnder σ) (headOf script kind start offset)
     unfolding firstOf itemsLeft
-    the-item e = sym (ap (firstOf (under σ)) (head-action e))
+    the-item e = sym (ap (firstOf (viewUnder σ)) (head-action e))

@@ -8,20 +8,20 @@ use mathlib.Core.Path.{_≡_, refl, sym, ap, _∙_, subst}
 use native.Mathlib.Omega.{arith}
 use lib.Dec.{eqb, ltb}
 use borrow.Author.Tests.{eqb-true, eq-eqb}
-use Rattle.sets.specs.Sets.{elem, insert, remove, join, keep, isNone}
-use Rattle.scripts.specs.Tree.{Body, close, part, one, tops, sum, count, put, merge}
+use Rattle.sets.specs.Sets.{elem, inserted, remove, joined, keep, isNone}
+use Rattle.scripts.specs.Tree.{Body, close, part, oneIf, tops, total, timesIn, put, merge}
 use Rattle.scripts.specs.Represents.{Held}
-use Rattle.machine.specs.Bodies.{find, drop, alter, holder}
+use Rattle.machine.specs.Bodies.{find, removePart, alter, holder}
 use Rattle.slices.proofs.Tests.{byTest}
 use Rattle.machine.proofs.Options.{some-is, none≢some}
-use Rattle.machine.proofs.Sums.{drop-none, find-sum}
+use Rattle.machine.proofs.Sums.{removePart-none, find-total}
 
 -- a sum over the numbers of all parts, at any depth
-abbrev pub total : {H : Type 0} → (ℕ → ℕ) → Body H → ℕ
-total v b = sum (λ i h. v i) b
+abbrev pub numbersTotal : {H : Type 0} → (ℕ → ℕ) → Body H → ℕ
+numbersTotal v b = total (λ i h. v i) b
 
-pub self : (i : ℕ) → one (eqb i i) ≡ 1
-self i = ap one (eq-eqb i i refl)
+pub self : (i : ℕ) → oneIf (eqb i i) ≡ 1
+self i = ap oneIf (eq-eqb i i refl)
 
 pub no-cons : (x : ℕ) (l : List ℕ) → x ∷ l ≡ [] → ⊥
 no-cons x l e = true≢false (sym (ap isNone e))
@@ -29,47 +29,47 @@ no-cons x l e = true≢false (sym (ap isNone e))
 module _ {H : Type 0} where
   -- ---- a body's own numbers
 
-  pub tops-put : (n : ℕ) (g : H) (s b : Body H) → tops (put n g s b) ≡ insert n (tops b)
-  unfolding tops put insert
+  pub tops-put : (n : ℕ) (g : H) (s b : Body H) → tops (put n g s b) ≡ inserted n (tops b)
+  unfolding tops put inserted
   tops-put n g s close = refl
   tops-put n g s (part i h b r) = byTest (ltb n i) (λ t. rw t)
       (λ t. byTest (eqb n i) (λ u. rw (t, u)) (λ u. rw (t, u) (ap (λ (l : List ℕ). i ∷ l) (tops-put n g s r))))
 
-  pub tops-drop : (n : ℕ) (b : Body H) → tops (drop n b) ≡ remove n (tops b)
-  unfolding tops drop keep
-  tops-drop n close = refl
-  tops-drop n (part i h b r) = byTest (eqb n i) (λ t. rw t (tops-drop n r)) (λ t. rw t (ap (λ (l : List ℕ). i ∷ l) (tops-drop n r)))
+  pub tops-removePart : (n : ℕ) (b : Body H) → tops (removePart n b) ≡ remove n (tops b)
+  unfolding tops removePart keep
+  tops-removePart n close = refl
+  tops-removePart n (part i h b r) = byTest (eqb n i) (λ t. rw t (tops-removePart n r)) (λ t. rw t (ap (λ (l : List ℕ). i ∷ l) (tops-removePart n r)))
 
   pub tops-alter : (n : ℕ) (f : H → H) (g : Body H → Body H) (b : Body H) → tops (alter n f g b) ≡ tops b
   unfolding tops alter
   tops-alter n f g close = refl
   tops-alter n f g (part i h b r) = byTest (eqb n i) (λ t. rw t) (λ t. rw t (ap (λ (l : List ℕ). i ∷ l) (tops-alter n f g r)))
 
-  pub tops-merge : (b c : Body H) → tops (merge b c) ≡ join (tops b) (tops c)
-  unfolding tops merge join
+  pub tops-merge : (b c : Body H) → tops (merge b c) ≡ joined (tops b) (tops c)
+  unfolding tops merge joined
   tops-merge close c = refl
-  tops-merge (part i h b r) c = tops-put i h b (merge r c) ∙ ap (insert i) (tops-merge r c)
+  tops-merge (part i h b r) c = tops-put i h b (merge r c) ∙ ap (inserted i) (tops-merge r c)
 
   -- a number among them stands in the body, and one that stands nowhere is not among them
-  pub in-count : (n : ℕ) (b : Body H) → elem n (tops b) ≡ true → 1 ≤ count n b
-  unfolding tops elem sum
-  in-count n close e = absurd (true≢false (sym e))
-  in-count n (part i h b r) e = byTest (eqb n i)
+  pub in-times : (n : ℕ) (b : Body H) → elem n (tops b) ≡ true → 1 ≤ timesIn n b
+  unfolding tops elem total
+  in-times n close e = absurd (true≢false (sym e))
+  in-times n (part i h b r) e = byTest (eqb n i)
       (λ t. rw t (omega arith))
-      (λ t. omega (arith, in-count n r (rw t at e)))
+      (λ t. omega (arith, in-times n r (rw t at e)))
 
-  pub not-in : (n : ℕ) (b : Body H) → count n b ≡ 0 → elem n (tops b) ≡ false
-  not-in n b e = byTest (elem n (tops b)) (λ t. absurd (let z : ⊥ = omega (arith, in-count n b t) in z)) (λ t. t)
+  pub not-in : (n : ℕ) (b : Body H) → timesIn n b ≡ 0 → elem n (tops b) ≡ false
+  not-in n b e = byTest (elem n (tops b)) (λ t. absurd (let z : ⊥ = omega (arith, in-times n b t) in z)) (λ t. t)
 
-  pub differ : (i j : ℕ) (b : Body H) → 1 ≤ count i b → count j b ≡ 0 → i ≡ j → ⊥
-  differ i j b m z e = let c : 1 ≤ count j b = subst (λ (n : ℕ). 1 ≤ count n b) e m in omega arith
+  pub numbers-differ : (i j : ℕ) (b : Body H) → 1 ≤ timesIn i b → timesIn j b ≡ 0 → i ≡ j → ⊥
+  numbers-differ i j b m z e = let c : 1 ≤ timesIn j b = subst (λ (n : ℕ). 1 ≤ timesIn n b) e m in omega arith
 
 -- ---- being held
 
 -- bodies and heads that agree at the numbers of a tree hold the same tree
 pub frame : {H : Type 0} (k k′ : ℕ → List ℕ) (w w′ : ℕ → H) (b : Body H) → Held k w b
-    → ((i : ℕ) → 1 ≤ count i b → (k i ≡ k′ i) × (w i ≡ w′ i)) → Held k′ w′ b
-unfolding sum
+    → ((i : ℕ) → 1 ≤ timesIn i b → (k i ≡ k′ i) × (w i ≡ w′ i)) → Held k′ w′ b
+unfolding total
 frame k k′ w w′ close p a = tt
 frame k k′ w w′ (part i h b r) p a =
     let e = a i (omega (arith, self i)) in (
@@ -80,10 +80,10 @@ frame k k′ w w′ (part i h b r) p a =
     )
 
 module _ {H : Type 0} (k : ℕ → List ℕ) (w : ℕ → H) where
-  pub held-drop : (n : ℕ) (b : Body H) → Held k w b → Held k w (drop n b)
-  unfolding drop
-  held-drop n close p = tt
-  held-drop n (part i h b r) p = byTest (eqb n i) (λ t. rw t (held-drop n r (p .3))) (λ t. rw t (p .0, p .1, p .2, held-drop n r (p .3)))
+  pub held-removePart : (n : ℕ) (b : Body H) → Held k w b → Held k w (removePart n b)
+  unfolding removePart
+  held-removePart n close p = tt
+  held-removePart n (part i h b r) p = byTest (eqb n i) (λ t. rw t (held-removePart n r (p .3))) (λ t. rw t (p .0, p .1, p .2, held-removePart n r (p .3)))
 
   pub held-put : (n : ℕ) (g : H) (s b : Body H) → k n ≡ tops s → w n ≡ g → Held k w s → Held k w b → Held k w (put n g s b)
   unfolding put
@@ -127,13 +127,13 @@ module _ {H : Type 0} (k : ℕ → List ℕ) (w : ℕ → H) where
       (λ t. rw t (found-inv n r s h (p .3) (rw t at e)))
 
   -- the part of the body in which a stands, and a stands in it once more
-  pub held-by : (a p : ℕ) (b : Body H) → Held k w b → elem p (tops b) ≡ true → elem a (k p) ≡ true → 1 ≤ count a b
+  pub held-by : (a p : ℕ) (b : Body H) → Held k w b → elem p (tops b) ≡ true → elem a (k p) ≡ true → 1 ≤ timesIn a b
   held-by a p b h e m =
       let P = found-in p b h e in
-      omega (arith, in-count a (P .room) (ap (elem a) (sym (P .own)) ∙ m), find-sum (λ j g. one (eqb a j)) p b (w p, P .room) (P .found))
+      omega (arith, in-times a (P .room) (ap (elem a) (sym (P .own)) ∙ m), find-total (λ j g. oneIf (eqb a j)) p b (w p, P .room) (P .found))
 
-  pub holder-is : (a p : ℕ) (b : Body H) → Held k w b → count a b ≤ 1 → elem p (tops b) ≡ true → elem a (k p) ≡ true → holder a b ≡ some p
-  unfolding holder tops elem sum
+  pub holder-is : (a p : ℕ) (b : Body H) → Held k w b → timesIn a b ≤ 1 → elem p (tops b) ≡ true → elem a (k p) ≡ true → holder a b ≡ some p
+  unfolding holder tops elem total
   holder-is a p close h c e m = absurd (true≢false (sym e))
   holder-is a p (part i g s r) h c e m = byTest (eqb p i)
       (λ t. let z : p ≡ i = eqb-true p i t in rw (ap (elem a) (sym (h .0) ∙ ap k (sym z)) ∙ m) (ap some (sym z)))
@@ -159,16 +159,16 @@ not-found n (part i h b r) e = byTest (eqb n i) (λ t. absurd (true≢false (rw 
 
 -- the body with one of its own parts changed: what else stands in it is held as it was
 module _ {H : Type 0} where
-  pub held-alter : (k k′ : ℕ → List ℕ) (w w′ : ℕ → H) (n : ℕ) (f : H → H) (g : Body H → Body H) (b room : Body H) → find n b ≡ some (w n, room) → count n b ≤ 1
-      → Held k w b → ((i : ℕ) → 1 ≤ count i (drop n b) → (k i ≡ k′ i) × (w i ≡ w′ i))
+  pub held-alter : (k k′ : ℕ → List ℕ) (w w′ : ℕ → H) (n : ℕ) (f : H → H) (g : Body H → Body H) (b room : Body H) → find n b ≡ some (w n, room) → timesIn n b ≤ 1
+      → Held k w b → ((i : ℕ) → 1 ≤ timesIn i (removePart n b) → (k i ≡ k′ i) × (w i ≡ w′ i))
       → k′ n ≡ tops (g room) → w′ n ≡ f (w n) → Held k′ w′ (g room) → Held k′ w′ (alter n f g b)
-  unfolding find drop alter sum
+  unfolding find removePart alter total
   held-alter k k′ w w′ n f g close room e m p a x y q = none≢some e
   held-alter k k′ w w′ n f g (part i h b r) room e m p a x y q = byTest (eqb n i)
       (λ t.
       let z : n ≡ i = eqb-true n i t in
       let u : (h, b) ≡ (w n, room) = some-is (rw t at e) in
-      let out : drop n r ≡ r = drop-none n r (omega (arith, rw t at m)) in
+      let out : removePart n r ≡ r = removePart-none n r (omega (arith, rw t at m)) in
       rw t (
         ap k′ (sym z) ∙ x ∙ ap (λ (p : H × Body H). tops (g (p .1))) (sym u),
         ap w′ (sym z) ∙ y ∙ ap (λ (p : H × Body H). f (p .0)) (sym u),
@@ -176,7 +176,7 @@ module _ {H : Type 0} where
         frame k k′ w w′ r (p .3) (λ j l. (rw (t, out) at a) j l),
       ))
       (λ t.
-      let c : (j : ℕ) → 1 ≤ one (eqb j i) + (count j b + count j (drop n r)) → (k j ≡ k′ j) × (w j ≡ w′ j) = rw t at a in
+      let c : (j : ℕ) → 1 ≤ oneIf (eqb j i) + (timesIn j b + timesIn j (removePart n r)) → (k j ≡ k′ j) × (w j ≡ w′ j) = rw t at a in
       let d = c i (omega (arith, self i)) in
       rw t (
         sym (d .0) ∙ p .0,

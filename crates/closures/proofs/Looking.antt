@@ -1,8 +1,8 @@
 -- Tables of the parts, filled part by part: sets by a test, names, and what each part does first. Assumes nothing.
 use Prim.Native.Nat.{ℕ, _+_, _≤_, _<_}
-use mathlib.Core.Bool.{Bool, true, false, _&&_, cond}
+use mathlib.Core.Bool.{Bool, true, false, _&&_, cond, and-false}
 use mathlib.Core.List.{List, []}
-use mathlib.Core.Path.{_≡_, refl, sym, ap, _∙_, subst}
+use mathlib.Core.Path.{_≡_, sym, ap, _∙_, subst}
 use native.Mathlib.Omega.{arith}
 use lib.Dec.{eqb, ltb}
 use lib.ListN.{getD, set, length}
@@ -10,8 +10,8 @@ use lib.Seq.{getD-set-same, getD-set-other}
 use borrow.Author.Tests.{eqb-true, eqb-false, ltb-true, ltb-false, lt-ltb, le-ltb, ne-eqb}
 use Rattle.messages.specs.declared.Named.{Named}
 use Rattle.messages.specs.declared.Named.the-variants.{Called, Nameless}
-use Rattle.sets.specs.Sets.{members, elem, insert, both}
-use Rattle.sets.proofs.Lists.{elem-insert}
+use Rattle.sets.specs.Sets.{members, elem, inserted, both}
+use Rattle.sets.proofs.Lists.{elem-inserted}
 use Rattle.sets.proofs.Members.{elem-keep}
 use Rattle.machine.specs.Moves.{isThat}
 use Rattle.slices.proofs.Tests.{byTest}
@@ -33,8 +33,8 @@ unfolding elem
 upto-none p l e j m = ap (elem j) e ∙ sym (ap (λ (t : Bool). t && p j) (le-ltb j 0 (omega arith)))
 
 module _ (p : ℕ → Bool) (i : ℕ) (l : List ℕ) (u : Upto p i l) where
-  upto-with : (k : List ℕ) → p i ≡ true → k ≡ insert i l → Upto p (i + 1) k
-  upto-with k e d j m = ap (elem j) d ∙ elem-insert j i l ∙ byTest (eqb j i)
+  upto-with : (k : List ℕ) → p i ≡ true → k ≡ inserted i l → Upto p (i + 1) k
+  upto-with k e d j m = ap (elem j) d ∙ elem-inserted j i l ∙ byTest (eqb j i)
       (λ t. rw (t, eqb-true j i t, lt-ltb i (i + 1) (omega arith), e))
       (λ t. rw t (u j m ∙ ap (λ (t : Bool). t && p j) (sym (ltb-step j i (eqb-false j i t)))))
 
@@ -42,12 +42,8 @@ module _ (p : ℕ → Bool) (i : ℕ) (l : List ℕ) (u : Upto p i l) where
   upto-past e j m = u j m ∙ byTest (eqb j i)
       (λ t. rw (eqb-true j i t, e) (and-false (ltb i i) ∙ sym (and-false (ltb i (i + 1)))))
       (λ t. ap (λ (t : Bool). t && p j) (sym (ltb-step j i (eqb-false j i t))))
-    where
-      and-false : (t : Bool) → (t && false) ≡ false
-      and-false true = refl
-      and-false false = refl
 
-  pub upto-next : (k : List ℕ) (t : Bool) → t ≡ p i → k ≡ cond t (insert i l) l → Upto p (i + 1) k
+  pub upto-next : (k : List ℕ) (t : Bool) → t ≡ p i → k ≡ cond t (inserted i l) l → Upto p (i + 1) k
   upto-next k t e d = byTest t
       (λ y. upto-with k (sym e ∙ y) (rw y at d))
       (λ n. subst (λ (x : List ℕ). Upto p (i + 1) x) (sym (rw n at d)) (upto-past (sym e ∙ n)))
@@ -62,9 +58,9 @@ module _ (named named′ : ℕ) (names names′ : List ℕ) (i : ℕ) (free : el
   abbrev Extended : Named → Type 0
   Extended n = (j : ℕ) → nameIn named′ names′ j ≡ cond (eqb j i) n (nameIn named names j)
 
-  pub name-added : (n : ℕ) → i < length names → members named′ ≡ insert i (members named) → names′ ≡ set names i n → Extended (Called n)
+  pub name-added : (n : ℕ) → i < length names → members named′ ≡ inserted i (members named) → names′ ≡ set names i n → Extended (Called n)
   unfolding nameIn
-  name-added n h d e j = ap (λ (t : Bool). cond t (Called (getD names′ j 0)) Nameless) (ap (elem j) d ∙ elem-insert j i (members named)) ∙ byTest (eqb j i)
+  name-added n h d e j = ap (λ (t : Bool). cond t (Called (getD names′ j 0)) Nameless) (ap (elem j) d ∙ elem-inserted j i (members named)) ∙ byTest (eqb j i)
       (λ t. rw (t, eqb-true j i t) (ap Called (ap (λ (l : List ℕ). getD l i 0) e ∙ getD-set-same names i n 0 h)))
       (λ t. rw t (ap (λ (k : ℕ). cond (elem j (members named)) (Called k) Nameless) (ap (λ (l : List ℕ). getD l j 0) e ∙ getD-set-other names i j n 0 (eqb-false j i t))))
 

@@ -9,26 +9,26 @@ use native.Mathlib.Omega.{arith}
 use lib.Dec.{eqb}
 use lib.ListN.{getD, length}
 use Rattle.sets.specs.Sets.{elem}
-use Rattle.scripts.specs.Tree.{one, tops}
+use Rattle.scripts.specs.Tree.{oneIf, tops}
 use Rattle.scripts.specs.Represents.{bodyIn}
 use Rattle.machine.specs.Moves.{Moved, anywhere}
 use Rattle.machine.proofs.Inversion.{Here}
-use Rattle.machine.proofs.Sums.{here-sum, by-numbers}
-use Rattle.closure_machine.specs.Closure.{Action, ClosureHead, Closure, Bindings, under}
+use Rattle.machine.proofs.Sums.{here-total, by-numbers}
+use Rattle.closure_machine.specs.Closure.{Action, ClosureHead, Closure, Bindings, viewUnder}
 use Rattle.closures.specs.Represents.{heads, boundIn, Represents}
 use Rattle.closures.specs.Searches.{place}
 use Rattle.closures.specs.declared.State.{State}
-use Rattle.closures.proofs.Holding.{total}
+use Rattle.closures.proofs.Holding.{numbersTotal}
 use Rattle.closures.proofs.Focus.{Change, Site, site}
 
 -- No sum over the numbers grows, and a receipt takes two parts away.
 abbrev pub Shrinks : (here : Closure) (n : Moved Action) → Type 0
-Shrinks here n = (v : ℕ → ℕ) (w : ℕ) → ((i j : ℕ) → w ≤ v i + v j) → total v (n .body) + w * length (n .news) ≤ total v here
+Shrinks here n = (v : ℕ → ℕ) (w : ℕ) → ((i j : ℕ) → w ≤ v i + v j) → numbersTotal v (n .body) + w * length (n .news) ≤ numbersTotal v here
 
-pub shrinks : (σ : Bindings) (a t : ℕ) (here : Closure) (n : Moved Action) → Here (under σ) a t here (n .body) (n .news) → Shrinks here n
-shrinks σ a t here n x v w least = here-sum (under σ) (λ i h. v i) w (by-numbers (under σ) v w (λ u m b. omega arith) least) a t here (n .body) (n .news) x
+pub shrinks : (σ : Bindings) (a t : ℕ) (here : Closure) (n : Moved Action) → Here (viewUnder σ) a t here (n .body) (n .news) → Shrinks here n
+shrinks σ a t here n x v w least = here-total (viewUnder σ) (λ i h. v i) w (by-numbers (viewUnder σ) v w (λ u m b. omega arith) least) a t here (n .body) (n .news) x
 
-pub fewer : (here : Closure) (n : Moved Action) → Shrinks here n → (v : ℕ → ℕ) → total v (n .body) ≤ total v here
+pub fewer : (here : Closure) (n : Moved Action) → Shrinks here n → (v : ℕ → ℕ) → numbersTotal v (n .body) ≤ numbersTotal v here
 fewer here n l v = omega (arith, l v 0 (λ i j. omega arith))
 
 module _ (script kinds starts : List ℕ) (weight spent : ℕ) (s : State) (f : Closure) (R : Represents script kinds starts weight spent s f) (t : ℕ)
@@ -46,7 +46,7 @@ module _ (script kinds starts : List ℕ) (weight spent : ℕ) (s : State) (f : 
   At b = Site σ k w t g needs f b
 
   abbrev Sited : Type 0
-  Sited = ((place σ t f ≡ 65) × (anywhere (under σ) g f ≡ none)) ⊎ ((place σ t f < 65) × At (place σ t f))
+  Sited = ((place σ t f ≡ 65) × (anywhere (viewUnder σ) g f ≡ none)) ⊎ ((place σ t f < 65) × At (place σ t f))
 
   sited : Sited
   sited = site σ k w t g needs f (R .top) (R .once) (R .inside) (R .held)
@@ -61,7 +61,7 @@ module _ (script kinds starts : List ℕ) (weight spent : ℕ) (s : State) (f : 
   -- s′ stands for what the move makes of the closure, before it is settled
   pub record After (spent′ : ℕ) (s′ : State) (news : Bindings) : Type 0 where
     pub moved : Moved Action
-    pub is : anywhere (under σ) g f ≡ some moved
+    pub is : anywhere (viewUnder σ) g f ≡ some moved
     pub told : moved .news ≡ news
     pub represents : Represents script kinds starts weight spent′ s′ (moved .body)
 
@@ -70,8 +70,8 @@ module _ (script kinds starts : List ℕ) (weight spent : ℕ) (s : State) (f : 
       → s′ .bindings .first + length (n .news) ≡ s .bindings .first → ((i : ℕ) → getD (s′ .offsets) i 0 ≤ spent′) → After spent′ s′ (n .news)
   after b S n e l spent′ s′ C ef low =
       let (M, top) = S .makes n (bodyIn (s′ .kids)) (heads script kinds starts (s′ .offsets)) e C in
-      let count-less : (i : ℕ) → total (λ j. one (eqb i j)) (M .moved .body) ≤ total (λ j. one (eqb i j)) f
-      = λ i. omega (arith, M .totals (λ j. one (eqb i j)), fewer (S .here) n l (λ j. one (eqb i j))) in
+      let count-less : (i : ℕ) → numbersTotal (λ j. oneIf (eqb i j)) (M .moved .body) ≤ numbersTotal (λ j. oneIf (eqb i j)) f
+      = λ i. omega (arith, M .totals (λ j. oneIf (eqb i j)), fewer (S .here) n l (λ j. oneIf (eqb i j))) in
       record {
         moved = M .moved;
         is = M .is;

@@ -9,16 +9,16 @@ use native.Mathlib.Omega.{arith}
 use lib.Dec.{eqb, ltb}
 use borrow.Author.Tests.{eqb-true, eq-eqb, ltb-true, ltb-false, lt-ltb}
 use Rattle.sets.specs.Sets.{elem}
-use Rattle.scripts.specs.Tree.{close, part, one, tops, sum, count}
+use Rattle.scripts.specs.Tree.{close, part, oneIf, tops, total, timesIn}
 use Rattle.scripts.specs.Represents.{Held}
 use Rattle.machine.specs.Moves.{isNamed, headName}
 use Rattle.slices.proofs.Tests.{byTest}
-use Rattle.closure_machine.specs.Closure.{ClosureHead, Closure, Bindings, under}
+use Rattle.closure_machine.specs.Closure.{ClosureHead, Closure, Bindings, viewUnder}
 use Rattle.closures.specs.Searches.{firstPlace, placeBelow, place, Stands}
-use Rattle.closures.proofs.Holding.{self, in-count, not-in}
+use Rattle.closures.proofs.Holding.{self, in-times, not-in}
 
 abbrev named : Bindings → ClosureHead → Type 0
-named σ h = isNamed (headName (under σ) h) ≡ true
+named σ h = isNamed (headName (viewUnder σ) h) ≡ true
 
 -- x stands in the body of b, and b is a named ambient of the closure or of named ambients inside it
 data Inside (σ : Bindings) (x : ℕ) : (b : ℕ) → Closure → Type 0 where
@@ -28,39 +28,39 @@ data Inside (σ : Bindings) (x : ℕ) : (b : ℕ) → Closure → Type 0 where
 
 -- ---- counting
 
-inside-count : (σ : Bindings) (x b : ℕ) {f : Closure} → Inside σ x b f → (1 ≤ count x f) × (1 ≤ count b f)
-unfolding sum
-inside-count σ x b (directly {s = s} n e) = (omega (arith, in-count x s e), omega (arith, self b))
-inside-count σ x b (deeper n p) = let c = inside-count σ x b p in (omega (arith, c .0), omega (arith, c .1))
-inside-count σ x b (beside p) = let c = inside-count σ x b p in (omega (arith, c .0), omega (arith, c .1))
+inside-times : (σ : Bindings) (x b : ℕ) {f : Closure} → Inside σ x b f → (1 ≤ timesIn x f) × (1 ≤ timesIn b f)
+unfolding total
+inside-times σ x b (directly {s = s} n e) = (omega (arith, in-times x s e), omega (arith, self b))
+inside-times σ x b (deeper n p) = let c = inside-times σ x b p in (omega (arith, c .0), omega (arith, c .1))
+inside-times σ x b (beside p) = let c = inside-times σ x b p in (omega (arith, c .0), omega (arith, c .1))
 
 -- what stands inside stands not at the top too, where no number stands twice
-inside-only : (σ : Bindings) (x b : ℕ) {f : Closure} → Inside σ x b f → count x f ≤ 1 → elem x (tops f) ≡ false
-unfolding sum tops elem
+inside-only : (σ : Bindings) (x b : ℕ) {f : Closure} → Inside σ x b f → timesIn x f ≤ 1 → elem x (tops f) ≡ false
+unfolding total tops elem
 inside-only σ x b (directly {i = i} {s = s} {r = r} n e) m = byTest (eqb x i)
-    (λ t. absurd (let z : ⊥ = omega (arith, in-count x s e, rw t at m) in z))
-    (λ t. rw t (not-in x r (omega (arith, in-count x s e))))
+    (λ t. absurd (let z : ⊥ = omega (arith, in-times x s e, rw t at m) in z))
+    (λ t. rw t (not-in x r (omega (arith, in-times x s e))))
 inside-only σ x b (deeper {i = i} {s = s} {r = r} n p) m = byTest (eqb x i)
-    (λ t. absurd (let z : ⊥ = omega (arith, inside-count σ x b p .0, rw t at m) in z))
-    (λ t. rw t (not-in x r (omega (arith, inside-count σ x b p .0))))
+    (λ t. absurd (let z : ⊥ = omega (arith, inside-times σ x b p .0, rw t at m) in z))
+    (λ t. rw t (not-in x r (omega (arith, inside-times σ x b p .0))))
 inside-only σ x b (beside {i = i} {s = s} {r = r} p) m = byTest (eqb x i)
-    (λ t. absurd (let z : ⊥ = omega (arith, inside-count σ x b p .0, rw t at m) in z))
+    (λ t. absurd (let z : ⊥ = omega (arith, inside-times σ x b p .0, rw t at m) in z))
     (λ t. rw t (inside-only σ x b p (omega arith)))
 
 -- no part stands in its own body
-inside-apart : (σ : Bindings) (x b : ℕ) {f : Closure} → Inside σ x b f → count x f ≤ 1 → x ≡ b → ⊥
-unfolding sum
-inside-apart σ x b (directly {s = s} n e) m q = let c : 1 ≤ one (eqb x b) = omega (arith, ap one (eq-eqb x b q)) in omega (arith, in-count x s e)
+inside-apart : (σ : Bindings) (x b : ℕ) {f : Closure} → Inside σ x b f → timesIn x f ≤ 1 → x ≡ b → ⊥
+unfolding total
+inside-apart σ x b (directly {s = s} n e) m q = let c : 1 ≤ oneIf (eqb x b) = omega (arith, ap oneIf (eq-eqb x b q)) in omega (arith, in-times x s e)
 inside-apart σ x b (deeper n p) m q = inside-apart σ x b p (omega arith) q
 inside-apart σ x b (beside p) m q = inside-apart σ x b p (omega arith) q
 
 -- ---- the place is where it stands
 
-pub nowhere : (σ : Bindings) (x : ℕ) (f : Closure) → count x f ≡ 0 → placeBelow σ x f ≡ 65
-unfolding sum placeBelow
+pub nowhere : (σ : Bindings) (x : ℕ) (f : Closure) → timesIn x f ≡ 0 → placeBelow σ x f ≡ 65
+unfolding total placeBelow
 nowhere σ x close e = refl
 nowhere σ x (part i h s r) e =
-    go (isNamed (headName (under σ) h)) (not-in x s (omega arith)) (nowhere σ x s (omega arith)) (nowhere σ x r (omega arith))
+    go (isNamed (headName (viewUnder σ) h)) (not-in x s (omega arith)) (nowhere σ x s (omega arith)) (nowhere σ x r (omega arith))
   where
     go : (u : Bool) → elem x (tops s) ≡ false → placeBelow σ x s ≡ 65 → placeBelow σ x r ≡ 65
         → firstPlace (cond u (cond (elem x (tops s)) i (placeBelow σ x s)) 65) (placeBelow σ x r) ≡ 65
@@ -73,28 +73,28 @@ first-most p q l = byTest (ltb p 65) (λ t. rw t (let m : p < 65 = ltb-true p 65
 most-below : (σ : Bindings) (x : ℕ) (f : Closure) → placeBelow σ x f ≤ 65
 unfolding placeBelow
 most-below σ x close = omega arith
-most-below σ x (part i h s r) = first-most (cond (isNamed (headName (under σ) h)) (cond (elem x (tops s)) i (placeBelow σ x s)) 65) (placeBelow σ x r) (most-below σ x r)
+most-below σ x (part i h s r) = first-most (cond (isNamed (headName (viewUnder σ) h)) (cond (elem x (tops s)) i (placeBelow σ x s)) 65) (placeBelow σ x r) (most-below σ x r)
 
 pub place-most : (σ : Bindings) (x : ℕ) (f : Closure) → place σ x f ≤ 65
 unfolding place
 place-most σ x f = byTest (elem x (tops f)) (λ e. rw e (omega arith)) (λ e. rw e (most-below σ x f))
 
-below : (b : ℕ) (f : Closure) → ((j : ℕ) → 64 ≤ j → count j f ≡ 0) → 1 ≤ count b f → b < 64
+below : (b : ℕ) (f : Closure) → ((j : ℕ) → 64 ≤ j → timesIn j f ≡ 0) → 1 ≤ timesIn b f → b < 64
 below b f low m = byTest (ltb b 64) (λ u. ltb-true b 64 u) (λ u. absurd (let z : ⊥ = omega (arith, low b (ltb-false b 64 u)) in z))
 
 module _ (σ : Bindings) (x : ℕ) where
-  inside-place : (b : ℕ) {f : Closure} → Inside σ x b f → count x f ≤ 1 → ((j : ℕ) → 64 ≤ j → count j f ≡ 0) → placeBelow σ x f ≡ b
-  unfolding sum placeBelow
+  inside-place : (b : ℕ) {f : Closure} → Inside σ x b f → timesIn x f ≤ 1 → ((j : ℕ) → 64 ≤ j → timesIn j f ≡ 0) → placeBelow σ x f ≡ b
+  unfolding total placeBelow
   inside-place b (directly {i = i} {h = h} {s = s} {r = r} n e) m low =
       rw (n, e, lt-ltb i 65 (let l : i < 64 = below i (part i h s r) low (omega (arith, self i)) in omega arith))
   inside-place b (deeper {i = i} {h = h} {s = s} {r = r} n p) m low =
-      let c = inside-count σ x b p in
+      let c = inside-times σ x b p in
       let q = inside-place b p (omega arith) (λ j l. omega (arith, low j l)) in
       let l : b < 64 = below b (part i h s r) low (omega (arith, c .1)) in
       rw (n, inside-only σ x b p (omega arith), q, lt-ltb b 65 (omega arith))
   inside-place b (beside {i = i} {h = h} {s = s} {r = r} p) m low =
-      let c = inside-count σ x b p in
-      go (isNamed (headName (under σ) h)) (not-in x s (omega (arith, c .0))) (nowhere σ x s (omega (arith, c .0)))
+      let c = inside-times σ x b p in
+      go (isNamed (headName (viewUnder σ) h)) (not-in x s (omega (arith, c .0))) (nowhere σ x s (omega (arith, c .0)))
       (inside-place b p (omega arith) (λ j l. omega (arith, low j l)))
     where
       go : (u : Bool) → elem x (tops s) ≡ false → placeBelow σ x s ≡ 65 → placeBelow σ x r ≡ b
@@ -105,7 +105,7 @@ module _ (σ : Bindings) (x : ℕ) where
   place-inside : (f : Closure) → placeBelow σ x f < 65 → Inside σ x (placeBelow σ x f) f
   unfolding placeBelow
   place-inside close l = absurd (let z : ⊥ = omega arith in z)
-  place-inside (part i h s r) l = byTest (isNamed (headName (under σ) h))
+  place-inside (part i h s r) l = byTest (isNamed (headName (viewUnder σ) h))
       (λ n. byTest (elem x (tops s))
       (λ e. byTest (ltb i 65)
       (λ u. rw (n, e, u) (directly n e))
@@ -119,7 +119,7 @@ module _ (σ : Bindings) (x : ℕ) where
 
 module _ (σ : Bindings) (k : ℕ → List ℕ) (w : ℕ → ClosureHead) where
   inside-held : (x b : ℕ) {f : Closure} → Inside σ x b f → Held k w f → (elem x (k b) ≡ true) × named σ (w b)
-  inside-held x b (directly n e) p = (ap (elem x) (p .0) ∙ e, ap (λ (h : ClosureHead). isNamed (headName (under σ) h)) (p .1) ∙ n)
+  inside-held x b (directly n e) p = (ap (elem x) (p .0) ∙ e, ap (λ (h : ClosureHead). isNamed (headName (viewUnder σ) h)) (p .1) ∙ n)
   inside-held x b (deeper n q) p = inside-held x b q (p .2)
   inside-held x b (beside q) p = inside-held x b q (p .3)
 
@@ -131,7 +131,7 @@ module _ (σ : Bindings) (k : ℕ → List ℕ) (w : ℕ → ClosureHead) where
       (λ t.
       let q : b ≡ i = eqb-true b i t in
       subst (λ (j : ℕ). Inside σ x j (part i h s r)) (sym q)
-      (directly (ap (λ (g : ClosureHead). isNamed (headName (under σ) g)) (sym (p .1) ∙ ap w (sym q)) ∙ n) (ap (elem x) (sym (p .0) ∙ ap k (sym q)) ∙ m)))
+      (directly (ap (λ (g : ClosureHead). isNamed (headName (viewUnder σ) g)) (sym (p .1) ∙ ap w (sym q)) ∙ n) (ap (elem x) (sym (p .0) ∙ ap k (sym q)) ∙ m)))
       (λ t. beside (from-top x b r (p .3) (rw t at e) n m))
 
   from-inside : (x b c : ℕ) {f : Closure} → Inside σ b c f → Held k w f → named σ (w b) → elem x (k b) ≡ true → Inside σ x b f
@@ -174,7 +174,7 @@ module _ (σ : Bindings) (k : ℕ → List ℕ) (w : ℕ → ClosureHead) (f : C
 
   -- only parts have a place
   pub place-low : (x : ℕ) → place σ x f < 65 → x < 64
-  place-low x l = below x f (Q .low) (elim (placed x l) [ inl z ↦ in-count x f (z .1) | inr p ↦ inside-count σ x (at x) p .0 ])
+  place-low x l = below x f (Q .low) (elim (placed x l) [ inl z ↦ in-times x f (z .1) | inr p ↦ inside-times σ x (at x) p .0 ])
 
   pub place-apart : (x : ℕ) → place σ x f < 65 → x ≡ place σ x f → ⊥
   place-apart x l e = elim (placed x l) [ inl z ↦ omega (arith, place-low x l, z .0) | inr p ↦ inside-apart σ x (at x) p (Q .once x) e ]
@@ -194,11 +194,11 @@ module _ (σ : Bindings) (k : ℕ → List ℕ) (w : ℕ → ClosureHead) (f : C
       stands : Inside σ x (at x) f → at (at x) < 65
       stands p = elim (around σ x (at x) p) [
         | inl d ↦ omega (arith, at-top (at x) d)
-        | inr q ↦ omega (arith, at-inside (at x) (q .0) (q .1), below (q .0) f (Q .low) (inside-count σ (at x) (q .0) (q .1) .1))
+        | inr q ↦ omega (arith, at-inside (at x) (q .0) (q .1), below (q .0) f (Q .low) (inside-times σ (at x) (q .0) (q .1) .1))
       ]
 
       by-place : ((at x ≡ 64) × (elem x (tops f) ≡ true)) ⊎ Inside σ x (at x) f → (elem x (k (at x)) ≡ true) × Active σ w at (at x)
       by-place (inl z) = (ap (λ (j : ℕ). elem x (k j)) (z .0) ∙ ap (elem x) (Q .top) ∙ z .1, inl (z .0))
       by-place (inr p) =
           let h = inside-held σ k w x (at x) p (Q .held) in
-          (h .0, inr (below (at x) f (Q .low) (inside-count σ x (at x) p .1), stands p, h .1))
+          (h .0, inr (below (at x) f (Q .low) (inside-times σ x (at x) p .1), stands p, h .1))

@@ -7,26 +7,26 @@ use mathlib.Core.Path.{_≡_, sym, _∙_}
 use native.Mathlib.Omega.{arith}
 use lib.Dec.{eqb}
 use Rattle.sets.specs.Sets.{elem}
-use Rattle.scripts.specs.Tree.{one, tops, count}
+use Rattle.scripts.specs.Tree.{oneIf, tops, timesIn}
 use Rattle.scripts.specs.Represents.{Held}
-use Rattle.machine.specs.Bodies.{drop}
+use Rattle.machine.specs.Bodies.{removePart}
 use Rattle.machine.specs.Moves.{spentHead, spend}
-use Rattle.machine.proofs.Sums.{drop-exact}
-use Rattle.closure_machine.specs.Closure.{ClosureHead, Closure, Bindings, under}
-use Rattle.closures.proofs.Holding.{self, in-count, differ, frame, held-alter, found-in}
+use Rattle.machine.proofs.Sums.{removePart-exact}
+use Rattle.closure_machine.specs.Closure.{ClosureHead, Closure, Bindings, viewUnder}
+use Rattle.closures.proofs.Holding.{self, in-times, numbers-differ, frame, held-alter, found-in}
 
 -- the heads w′ are w with the first item of a spent
 pub record Spent (σ : Bindings) (w w′ : ℕ → ClosureHead) (a : ℕ) : Type 0 where
-  pub spends : w′ a ≡ spentHead (under σ) (w a)
+  pub spends : w′ a ≡ spentHead (viewUnder σ) (w a)
   pub others : (i : ℕ) → (i ≡ a → ⊥) → w i ≡ w′ i
 
-pub held-spend : (σ : Bindings) (k k′ : ℕ → List ℕ) (w w′ : ℕ → ClosureHead) (a : ℕ) (b : Closure) → Spent σ w w′ a → Held k w b → elem a (tops b) ≡ true → count a b ≤ 1
-    → ((i : ℕ) → 1 ≤ count i b → k i ≡ k′ i) → Held k′ w′ (spend (under σ) a b)
+pub held-spend : (σ : Bindings) (k k′ : ℕ → List ℕ) (w w′ : ℕ → ClosureHead) (a : ℕ) (b : Closure) → Spent σ w w′ a → Held k w b → elem a (tops b) ≡ true → timesIn a b ≤ 1
+    → ((i : ℕ) → 1 ≤ timesIn i b → k i ≡ k′ i) → Held k′ w′ (spend (viewUnder σ) a b)
 held-spend σ k k′ w w′ a b S held stands once bodies =
     let A = found-in k w a b held stands in
-    let all : (i : ℕ) → count i b ≡ one (eqb i a) + (count i (A .room) + count i (drop a b)) = λ i. drop-exact (λ j h. one (eqb i j)) a b (w a, A .room) once (A .found) in
-    held-alter k k′ w w′ a (spentHead (under σ)) (λ s. s) b (A .room) (A .found) once held
-    (λ i l. (bodies i (omega (arith, all i)), S .others i (differ i a (drop a b) l (omega (arith, all a, self a)))))
-    (sym (bodies a (in-count a b stands)) ∙ A .own)
+    let all : (i : ℕ) → timesIn i b ≡ oneIf (eqb i a) + (timesIn i (A .room) + timesIn i (removePart a b)) = λ i. removePart-exact (λ j h. oneIf (eqb i j)) a b (w a, A .room) once (A .found) in
+    held-alter k k′ w w′ a (spentHead (viewUnder σ)) (λ s. s) b (A .room) (A .found) once held
+    (λ i l. (bodies i (omega (arith, all i)), S .others i (numbers-differ i a (removePart a b) l (omega (arith, all a, self a)))))
+    (sym (bodies a (in-times a b stands)) ∙ A .own)
     (S .spends)
-    (frame k k′ w w′ (A .room) (A .held) (λ i l. (bodies i (omega (arith, all i)), S .others i (differ i a (A .room) l (omega (arith, all a, self a))))))
+    (frame k k′ w w′ (A .room) (A .held) (λ i l. (bodies i (omega (arith, all i)), S .others i (numbers-differ i a (A .room) l (omega (arith, all a, self a))))))

@@ -7,7 +7,7 @@ use mathlib.Core.Path.{_≡_}
 use lib.Dec.{eqb}
 use lib.ListN.{getD, drop}
 use Rattle.messages.specs.Spelling.{messageAt}
-use Rattle.scripts.specs.Tree.{ambient, action, receipt, output, tops, parts, count}
+use Rattle.scripts.specs.Tree.{ambient, action, receipt, output, tops, parts, timesIn}
 use Rattle.scripts.specs.Represents.{Held, bodyIn}
 use Rattle.bindings.specs.Resolve.{messageOf}
 use Rattle.held_bindings.specs.Held.{bindingsOf}
@@ -45,8 +45,8 @@ pub record Ready (script kinds starts : List ℕ) (s : State) : Type 0 where
 pub record Represents (script kinds starts : List ℕ) (weight spent : ℕ) (s : State) (b : Closure) : Type 0 where
   pub top : bodyIn (s .kids) 64 ≡ tops b
   pub held : Held (bodyIn (s .kids)) (heads script kinds starts (s .offsets)) b
-  pub once : (i : ℕ) → count i b ≤ 1
-  pub inside : (i : ℕ) → 64 ≤ i → count i b ≡ 0
+  pub once : (i : ℕ) → timesIn i b ≤ 1
+  pub inside : (i : ℕ) → 64 ≤ i → timesIn i b ≡ 0
   pub light : weight ≤ 64
   pub weighs : parts b + 2 * (32 - s .bindings .first) ≤ weight
   pub spends : (i : ℕ) → getD (s .offsets) i 0 ≤ spent

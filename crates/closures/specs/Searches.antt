@@ -1,15 +1,15 @@
--- What the engine's passes over the part sets find and leave: the part in whose body a part stands, and the bodies after
--- every action with no items left is gone. Assumes nothing: these are definitions.
+-- What the engine's passes over the part sets find and leave: the part in whose body a part stands, the bodies after every
+-- action with no items left is gone, and the number of parts. Assumes nothing: these are definitions.
 use Prim.Native.Nat.{ℕ, _≤_, _<_}
 use mathlib.Core.Bool.{cond}
 use mathlib.Core.List.{List}
 use mathlib.Core.Path.{_≡_}
 use lib.Dec.{ltb}
 use Rattle.sets.specs.Sets.{elem}
-use Rattle.scripts.specs.Tree.{close, part, tops, parts, count}
+use Rattle.scripts.specs.Tree.{close, part, tops, parts, timesIn}
 use Rattle.scripts.specs.Represents.{Held}
 use Rattle.machine.specs.Moves.{isNamed, headName}
-use Rattle.closure_machine.specs.Closure.{ClosureHead, Closure, Bindings, under, settleUnder}
+use Rattle.closure_machine.specs.Closure.{ClosureHead, Closure, Bindings, viewUnder, settleUnder}
 use Rattle.closures.specs.Seen.{Busy, Ambients, Names}
 
 -- the first place, or where it is 65 the second
@@ -20,7 +20,7 @@ firstPlace x y = cond (ltb x 65) x y
 unfoldable pub placeBelow : Bindings → (t : ℕ) → Closure → ℕ
 placeBelow σ t close = 65
 placeBelow σ t (part i h b r) =
-    firstPlace (cond (isNamed (headName (under σ) h)) (cond (elem t (tops b)) i (placeBelow σ t b)) 65) (placeBelow σ t r)
+    firstPlace (cond (isNamed (headName (viewUnder σ) h)) (cond (elem t (tops b)) i (placeBelow σ t b)) 65) (placeBelow σ t r)
 
 -- the same where the body's own parts stand in that of number `at`
 abbrev pub placeFrom : Bindings → (at t : ℕ) → Closure → ℕ
@@ -34,14 +34,14 @@ place σ t b = placeFrom σ 64 t b
 pub record Stands (bodies : ℕ → List ℕ) (heads : ℕ → ClosureHead) (b : Closure) : Type 0 where
   pub top : bodies 64 ≡ tops b
   pub held : Held bodies heads b
-  pub once : (i : ℕ) → count i b ≤ 1
-  pub low : (i : ℕ) → 64 ≤ i → count i b ≡ 0
+  pub once : (i : ℕ) → timesIn i b ≤ 1
+  pub low : (i : ℕ) → 64 ≤ i → timesIn i b ≡ 0
 
 -- `after` are the places, which were `before`, when those of all parts are written of every closure whose top parts are
 -- `left` and stand in the body of `at`, if it has at most `fuel` parts
 abbrev pub Locates : Bindings → (bodies : ℕ → List ℕ) (heads : ℕ → ClosureHead) (left : List ℕ) (at fuel : ℕ) (before after : ℕ → ℕ) → Type 0
 Locates σ bodies heads left at fuel before after =
-    (b : Closure) → left ≡ tops b → Held bodies heads b → ((j : ℕ) → count j b ≤ 1) → parts b ≤ fuel
+    (b : Closure) → left ≡ tops b → Held bodies heads b → ((j : ℕ) → timesIn j b ≤ 1) → parts b ≤ fuel
     → (i : ℕ) → after i ≡ firstPlace (placeFrom σ at i b) (before i)
 
 -- the same for all heads and bindings of which `named` has the parts that have a name
@@ -59,8 +59,8 @@ Located named bodies places =
 -- most `fuel` parts; the bodies of all other parts are as they were
 abbrev pub Settles : Bindings → (bodies after : ℕ → List ℕ) (heads : ℕ → ClosureHead) (left r : List ℕ) (fuel : ℕ) → Type 0
 Settles σ bodies after heads left r fuel =
-    (b : Closure) → left ≡ tops b → Held bodies heads b → ((j : ℕ) → count j b ≤ 1) → parts b ≤ fuel
-    → (r ≡ tops (settleUnder σ b)) × Held after heads (settleUnder σ b) × ((j : ℕ) → count j b ≡ 0 → bodies j ≡ after j)
+    (b : Closure) → left ≡ tops b → Held bodies heads b → ((j : ℕ) → timesIn j b ≤ 1) → parts b ≤ fuel
+    → (r ≡ tops (settleUnder σ b)) × Held after heads (settleUnder σ b) × ((j : ℕ) → timesIn j b ≡ 0 → bodies j ≡ after j)
 
 -- the same for all heads and bindings of which `busy` has the parts at which settling looks, and kinds the ambients
 abbrev pub SettlesBy : (busy kinds : List ℕ) (bodies after : ℕ → List ℕ) (left r : List ℕ) (fuel : ℕ) → Type 0

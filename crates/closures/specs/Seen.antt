@@ -13,7 +13,7 @@ use Rattle.messages.specs.declared.First.the-variants.{Nothing, Enter, Exit, Op
 use Rattle.sets.specs.Sets.{members, elem}
 use Rattle.scripts.specs.Tree.{ambient, action, receipt, output, isAmbient}
 use Rattle.machine.specs.Moves.{isNamed, sameName, headName, firstOf}
-use Rattle.closure_machine.specs.Closure.{ClosureHead, Bindings, under, allSpent}
+use Rattle.closure_machine.specs.Closure.{ClosureHead, Bindings, viewUnder, allSpent}
 use Rattle.closures.specs.declared.Looks.{Looks}
 use Rattle.closures.specs.declared.Deed.{Deed}
 
@@ -66,13 +66,13 @@ isOutput (output m) = true
 
 unfoldable pub actUnder : Bindings → ClosureHead → ℕ
 actUnder σ (ambient m) = 0
-actUnder σ (action a) = itemAct (firstOf (under σ) (action a))
+actUnder σ (action a) = itemAct (firstOf (viewUnder σ) (action a))
 actUnder σ (receipt v) = 4
 actUnder σ (output m) = 0
 
 unfoldable pub aimUnder : Bindings → (h g : ClosureHead) → Bool
 aimUnder σ (ambient m) g = false
-aimUnder σ (action a) g = sameName (itemName (firstOf (under σ) (action a))) (headName (under σ) g)
+aimUnder σ (action a) g = sameName (itemName (firstOf (viewUnder σ) (action a))) (headName (viewUnder σ) g)
 aimUnder σ (receipt v) g = isOutput g
 aimUnder σ (output m) g = false
 
@@ -94,7 +94,7 @@ kept l i = record { act = getD (l .acts) i 0; aim = getD (l .aims) i 0; busy = e
 
 -- what is kept is right
 pub record Seen (σ : Bindings) (w : ℕ → ClosureHead) (l : Looks) : Type 0 where
-  pub names : (i : ℕ) → i < 64 → nameIn (l .named) (l .names) i ≡ headName (under σ) (w i)
+  pub names : (i : ℕ) → i < 64 → nameIn (l .named) (l .names) i ≡ headName (viewUnder σ) (w i)
   pub deeds : (i : ℕ) → i < 64 → Does σ w (w i) (kept l i)
 
 -- l has the parts at which settling looks, and kinds says which of them are ambients
@@ -106,7 +106,7 @@ Ambients w kinds = (i : ℕ) → i < 64 → eqb (getD kinds i 0) 1 ≡ isAmbient
 
 -- l has the parts that have a name
 abbrev pub Names : Bindings → (ℕ → ClosureHead) → List ℕ → Type 0
-Names σ w l = (i : ℕ) → i < 64 → elem i l ≡ isNamed (headName (under σ) (w i))
+Names σ w l = (i : ℕ) → i < 64 → elem i l ≡ isNamed (headName (viewUnder σ) (w i))
 
 -- To unfold this is to unfold every definition of this module: for a proof by computation.
 unfoldable pub computing : Unit {0}

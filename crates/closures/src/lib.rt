@@ -19,7 +19,7 @@ ghost use Rattle.scripts.specs.Represents.{bodyIn};
 ghost use Rattle.bindings.specs.Resolve.{bindingsIn};
 ghost use Rattle.bindings.specs.Measures.{Kept, itemCount};
 ghost use Rattle.machine.specs.Moves.{isThat, sameName, headName, firstOf};
-ghost use Rattle.closure_machine.specs.Closure.{ClosureHead, Closure, under};
+ghost use Rattle.closure_machine.specs.Closure.{ClosureHead, Closure, viewUnder};
 ghost use Rattle.closures.specs.Searches.{CountsParts};
 ghost use Rattle.closures.specs.Represents.{headOf, heads, Counted, Ready, Represents};
 ghost use Rattle.closures.specs.Seen.{nameIn, actOf, aimOf, busyOf, isOutput, Does, kept, Seen};
@@ -60,7 +60,7 @@ pub struct State {
 // The name of a part of that kind and start, under the bindings.
 fn part_name(script: &[u32], kind: u8, start: u32, variables: &[u32], places: &[u32]) -> Named
     requires { ⌜ length (now places) ≡ length (now variables) ⌝ }
-    ensures { λ r. ⌜ ((offset : ℕ) → r ≡ headName (under (bindingsIn (now (script .entry)) (now (variables .entry)) (now (places .entry)))) (headOf (now (script .entry)) kind start offset)) ⌝ }
+    ensures { λ r. ⌜ ((offset : ℕ) → r ≡ headName (viewUnder (bindingsIn (now (script .entry)) (now (variables .entry)) (now (places .entry)))) (headOf (now (script .entry)) kind start offset)) ⌝ }
 {
     if kind != 1 {
         return Named::Nameless;
@@ -79,7 +79,7 @@ pub fn part_item(
     counts: &[u32],
 ) -> First
     requires { ⌜ Kept itemCount (now script) (now variables) (now places) (now counts) ⌝ }
-    ensures { λ r. ⌜ (offset < 4294967295 → r ≡ firstOf (under (bindingsIn (now (script .entry)) (now (variables .entry)) (now (places .entry)))) (headOf (now (script .entry)) kind start offset)) ⌝ }
+    ensures { λ r. ⌜ (offset < 4294967295 → r ≡ firstOf (viewUnder (bindingsIn (now (script .entry)) (now (variables .entry)) (now (places .entry)))) (headOf (now (script .entry)) kind start offset)) ⌝ }
 {
     if kind != 2 {
         return First::Nothing;
@@ -116,7 +116,7 @@ fn name_parts<'a>(
     places: &'a [u32],
 ) -> NameTable
     requires { ⌜ length (now places) ≡ length (now variables) ⌝ }
-    ensures { λ r. ⌜ ((offsets : List ℕ) (i : ℕ) → i < 64 → nameIn (r .named) (r .names) i ≡ headName (under (bindingsIn (now (script .entry)) (now (variables .entry)) (now (places .entry)))) (heads (now (script .entry)) (now (kinds .entry)) (now (starts .entry)) offsets i)) ⌝ }
+    ensures { λ r. ⌜ ((offsets : List ℕ) (i : ℕ) → i < 64 → nameIn (r .named) (r .names) i ≡ headName (viewUnder (bindingsIn (now (script .entry)) (now (variables .entry)) (now (places .entry)))) (heads (now (script .entry)) (now (kinds .entry)) (now (starts .entry)) offsets i)) ⌝ }
 {
     let mut t = NameTable {
         named: 0,
@@ -249,7 +249,7 @@ fn look_at<'a>(
     names: &'a [u32; 64],
 ) -> Deed
     requires { ⌜ Kept itemCount (now script) (now variables) (now places) (now counts) ⌝ }
-    ensures { λ r. ⌜ ((w : ℕ → ClosureHead) → offset < 4294967295 → ((j : ℕ) → j < 64 → elem j (members outs) ≡ isOutput (w j)) → ((j : ℕ) → j < 64 → nameIn named (now (names .entry)) j ≡ headName (under (bindingsIn (now (script .entry)) (now (variables .entry)) (now (places .entry)))) (w j)) → Does (bindingsIn (now (script .entry)) (now (variables .entry)) (now (places .entry))) w (headOf (now (script .entry)) kind start offset) r) ⌝ }
+    ensures { λ r. ⌜ ((w : ℕ → ClosureHead) → offset < 4294967295 → ((j : ℕ) → j < 64 → elem j (members outs) ≡ isOutput (w j)) → ((j : ℕ) → j < 64 → nameIn named (now (names .entry)) j ≡ headName (viewUnder (bindingsIn (now (script .entry)) (now (variables .entry)) (now (places .entry)))) (w j)) → Does (bindingsIn (now (script .entry)) (now (variables .entry)) (now (places .entry))) w (headOf (now (script .entry)) kind start offset) r) ⌝ }
 {
     let item = part_item(script, kind, start, offset, variables, places, counts);
     kind_deed(kind, item, outs, named, names)

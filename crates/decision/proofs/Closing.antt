@@ -1,5 +1,5 @@
 -- A rule that question 9 lets through mentions only SOMEs around it, and so a name that AT or PLACED looks up is always one
--- that was chosen: `lookup` never comes to its end, and what it answers there says nothing. Assumes nothing.
+-- that was chosen: `chosenName` never comes to its end, and what it answers there says nothing. Assumes nothing.
 use Prim.Native.Nat.{ℕ}
 use mathlib.Core.Bool.{true, false, false≢true}
 use mathlib.Core.List.{List, [], _∷_, _++_, map, List·Memᴰ·head, List·Memᴰ·tail}
@@ -11,7 +11,7 @@ use Rattle.messages.specs.Words.{member, operand}
 use Rattle.messages.specs.Reading.{Cursor, got}
 use Rattle.messages.specs.Message.{name}
 use Rattle.slices.proofs.Tests.{byTest}
-use Rattle.rules.specs.Rule.{Term, constant, chosen, Names, lookup, termName, Rule, always, negation, either, void, at, beside, some-name, sometime, somewhere, placed}
+use Rattle.rules.specs.Rule.{Term, constant, chosen, Names, chosenName, termName, Rule, truth, negation, either, void, at, beside, some-name, sometime, somewhere, placed}
 use Rattle.rules.specs.ReadRule.{termOf, termBound, readWholeRule}
 use Rattle.rules.proofs.Cases.{Cases, whole-rule-case}
 use Rattle.calculus.specs.Calculus.{Process, ambient, _≅_, Satisfies}
@@ -48,23 +48,23 @@ abbrev pub chosenBy : Names → List ℕ
 chosenBy e = map (λ (p : ℕ × ℕ). p .0) e
 
 -- a SOME that has chosen is found
-pub lookup-chosen : (e : Names) (i : ℕ) → member i (chosenBy e) ≡ true → Chosen e i
-unfolding member lookup
-lookup-chosen [] i h = absurd (false≢true h)
-lookup-chosen (p ∷ e) i h = byTest (eqb (p .0) i)
+pub chosenName-chosen : (e : Names) (i : ℕ) → member i (chosenBy e) ≡ true → Chosen e i
+unfolding member chosenName
+chosenName-chosen [] i h = absurd (false≢true h)
+chosenName-chosen (p ∷ e) i h = byTest (eqb (p .0) i)
     (λ t. (p .1, List·Memᴰ·head (ap (λ (k : ℕ). (k, p .1)) (sym (eqb-true (p .0) i t))), rw t refl))
     (λ t.
     let d : eqb i (p .0) ≡ false = ne-eqb i (p .0) (λ z. eqb-false (p .0) i t (sym z)) in
-    let x = lookup-chosen e i (rw d at h) in
+    let x = chosenName-chosen e i (rw d at h) in
     (x .0, List·Memᴰ·tail (x .1), rw t (x .2)))
 
 term-named : (e : Names) (t : Term) → TermClosed (chosenBy e) t → TermNamed e t
 term-named e (constant n) h = tt
-term-named e (chosen i) h = lookup-chosen e i h
+term-named e (chosen i) h = chosenName-chosen e i h
 
 -- THEOREM: where every SOME around has chosen, every name that is looked up was chosen.
 pub closed-named : (e : Names) (r : Rule) → RuleClosed (chosenBy e) r → RuleNamed e r
-closed-named e (always i) h = tt
+closed-named e (truth i) h = tt
 closed-named e (negation i r) h = closed-named e r h
 closed-named e (either i r q) h = (closed-named e r (h .0), closed-named e q (h .1))
 closed-named e (void i) h = tt
@@ -81,23 +81,23 @@ rule-named n ws p e = closed-named [] (p .0) (rule-closed n ws p e)
 
 -- ---- names outside
 
-lookup-outside : (e d : Names) (i : ℕ) → member i (chosenBy e) ≡ true → lookup e i ≡ lookup (e ++ d) i
-unfolding member lookup
-lookup-outside [] d i h = absurd (false≢true h)
-lookup-outside (p ∷ e) d i h = byTest (eqb (p .0) i)
+chosenName-outside : (e d : Names) (i : ℕ) → member i (chosenBy e) ≡ true → chosenName e i ≡ chosenName (e ++ d) i
+unfolding member chosenName
+chosenName-outside [] d i h = absurd (false≢true h)
+chosenName-outside (p ∷ e) d i h = byTest (eqb (p .0) i)
     (λ t. rw t refl)
-    (λ t. let u : eqb i (p .0) ≡ false = ne-eqb i (p .0) (λ z. eqb-false (p .0) i t (sym z)) in rw t (lookup-outside e d i (rw u at h)))
+    (λ t. let u : eqb i (p .0) ≡ false = ne-eqb i (p .0) (λ z. eqb-false (p .0) i t (sym z)) in rw t (chosenName-outside e d i (rw u at h)))
 
 term-outside : (e d : Names) (t : Term) → TermClosed (chosenBy e) t → termName e t ≡ termName (e ++ d) t
 unfolding termName
 term-outside e d (constant n) h = refl
-term-outside e d (chosen i) h = lookup-outside e d i h
+term-outside e d (chosen i) h = chosenName-outside e d i h
 
 -- THEOREM: where every SOME around has chosen, names behind those chosen say nothing to the paper's relation: so neither does
--- what `lookup` answers at its end.
+-- what `chosenName` answers at its end.
 pub names-outside : (d e : Names) (r : Rule) → RuleClosed (chosenBy e) r → (p : Process) → Satisfies e p r ↔ Satisfies (e ++ d) p r
 unfolding Satisfies
-names-outside d e (always i) h p = (λ x. x, λ x. x)
+names-outside d e (truth i) h p = (λ x. x, λ x. x)
 names-outside d e (negation i r) h p = let a = names-outside d e r h p in (λ x y. x (a .1 y), λ x y. x (a .0 y))
 names-outside d e (either i r q) h p =
     let a = names-outside d e r (h .0) p in

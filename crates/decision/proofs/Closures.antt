@@ -15,7 +15,7 @@ use Rattle.slices.proofs.Tests.{byTest}
 use Rattle.machine.proofs.Inversion.{isNamed-inv, sameName-inv}
 use Rattle.rules.specs.Rule.{Rule}
 use Rattle.calculus.specs.Satisfaction.{wrapped}
-use Rattle.closure_machine.specs.Closure.{Action, ClosureHead, Closure, Bindings, under, closureMove, unfoldHead, unfolded, unfoldedMove, ClosureMachine}
+use Rattle.closure_machine.specs.Closure.{Action, ClosureHead, Closure, Bindings, viewUnder, closureMove, unfoldHead, unfolded, unfoldedMove, ClosureMachine}
 use Rattle.closure_machine.proofs.Tallies.{Tally, of}
 use Rattle.closure_machine.proofs.Invariant.{Good, good-less, good-inside, good-rest, move-good}
 use Rattle.closure_machine.proofs.Simulation.{unfold-move}
@@ -23,13 +23,13 @@ use Rattle.decision.specs.Walk.{Setting, walkFrom}
 use Rattle.decision.specs.PlainWalk.{bodyAfter, plainSpace}
 use Rattle.decision.specs.PlainWalk as plain-walk
 use Rattle.decision.specs.ClosureWalk.{isVoid, withEither, divisions, beside, only, insides, machineAfter, nexts, shares, closureSpace}
-use Rattle.decision.proofs.Related.{Both, neither, found, Pairwise, nil, more, pairwise-map, pairwise-more, order-pairwise, Related, walk-related}
+use Rattle.decision.proofs.Related.{Both, neither, found, RelatedLists, nil, more, lists-map, lists-more, order-lists, Related, walk-related}
 
 -- a closure with the invariant, and the tree that it unfolds to
 abbrev pub Unfolds : ClosureMachine → Plain → Type 0
 Unfolds m b = Good (m .bindings) (m .tree) × (unfolded (m .bindings) (m .tree) ≡ b)
 
-pub unfold-name : (σ : Bindings) (h : ClosureHead) → headName plain (unfoldHead σ h) ≡ headName (under σ) h
+pub unfold-name : (σ : Bindings) (h : ClosureHead) → headName plain (unfoldHead σ h) ≡ headName (viewUnder σ) h
 unfolding headName unfoldHead
 unfold-name σ (ambient m) = refl
 unfold-name σ (action a) = refl
@@ -50,17 +50,17 @@ only-unfolded : (σ : Bindings) (n : ℕ) (b : Closure) → Good σ b → Both U
 unfolding only plain-walk.only unfolded mapHeads
 only-unfolded σ n close G = neither
 only-unfolded σ n (part k h b close) G = rw (unfold-name σ h)
-    (cond-both Unfolds (sameName (Called n) (headName (under σ) h)) (beside σ b) (unfolded σ b)
-    (λ t. (good-inside σ k _ h b close (sameName-inv (Called n) (headName (under σ) h) t .2) G, refl)))
+    (cond-both Unfolds (sameName (Called n) (headName (viewUnder σ) h)) (beside σ b) (unfolded σ b)
+    (λ t. (good-inside σ k _ h b close (sameName-inv (Called n) (headName (viewUnder σ) h) t .2) G, refl)))
 only-unfolded σ n (part k h b (part k₁ h₁ b₁ r)) G = neither
 
-insides-unfolded : (σ : Bindings) (b : Closure) → Good σ b → Pairwise Unfolds (insides σ b) (plain-walk.insides (unfolded σ b))
+insides-unfolded : (σ : Bindings) (b : Closure) → Good σ b → RelatedLists Unfolds (insides σ b) (plain-walk.insides (unfolded σ b))
 unfolding insides plain-walk.insides unfolded mapHeads
 insides-unfolded σ close G = nil
 insides-unfolded σ (part k h b r) G =
     let p = insides-unfolded σ r (good-rest σ k h b r G) in
-    rw (unfold-name σ h) (byTest (isNamed (headName (under σ) h))
-    (λ t. rw t (more (good-inside σ k _ h b r (isNamed-inv (headName (under σ) h) t .1) G, refl) p))
+    rw (unfold-name σ h) (byTest (isNamed (headName (viewUnder σ) h))
+    (λ t. rw t (more (good-inside σ k _ h b r (isNamed-inv (headName (viewUnder σ) h) t .1) G, refl) p))
     (λ t. rw t p))
 
 -- a share and the rest of a closure, and of the tree: together they count what the closure counts
@@ -69,8 +69,8 @@ record Shares (σ : Bindings) (b : Closure) (d : Closure × Closure) (e : Plain 
   others : unfolded σ (d .1) ≡ e .1
   counts : (T : Tally) → of T (d .0) + of T (d .1) ≡ of T b
 
-either-unfolded : (σ : Bindings) (k : ℕ) (h : ClosureHead) (i b : Closure) {l : List (Closure × Closure)} {m : List (Plain × Plain)} → Pairwise (Shares σ b) l m →
-    Pairwise (Shares σ (part k h i b)) (withEither k h i l) (plain-walk.withEither k (unfoldHead σ h) (unfolded σ i) m)
+either-unfolded : (σ : Bindings) (k : ℕ) (h : ClosureHead) (i b : Closure) {l : List (Closure × Closure)} {m : List (Plain × Plain)} → RelatedLists (Shares σ b) l m →
+    RelatedLists (Shares σ (part k h i b)) (withEither k h i l) (plain-walk.withEither k (unfoldHead σ h) (unfolded σ i) m)
 unfolding withEither plain-walk.withEither unfolded mapHeads of
 either-unfolded σ k h i b nil = nil
 either-unfolded σ k h i b (more {a = d} {b = e} x p) =
@@ -80,7 +80,7 @@ either-unfolded σ k h i b (more {a = d} {b = e} x p) =
     = record { share = ap (part k (unfoldHead σ h) (unfolded σ i)) (x .share); others = x .others; counts = λ T. omega (arith, x .counts T) } in
     more right (more left (either-unfolded σ k h i b p))
 
-divisions-unfolded : (σ : Bindings) (b : Closure) → Pairwise (Shares σ b) (divisions b) (plain-walk.divisions (unfolded σ b))
+divisions-unfolded : (σ : Bindings) (b : Closure) → RelatedLists (Shares σ b) (divisions b) (plain-walk.divisions (unfolded σ b))
 unfolding divisions plain-walk.divisions unfolded mapHeads of
 divisions-unfolded σ close =
     let none-left : Shares σ close (close, close) (close, close) = record { share = refl; others = refl; counts = λ T. omega arith } in
@@ -93,9 +93,9 @@ unfolding unfoldedMove
 after-unfolded σ none f = neither
 after-unfolded σ (some s) f = found (f s refl, refl)
 
-nexts-unfolded : (limit : ℕ) (σ : Bindings) (b : Closure) → Good σ b → Pairwise Unfolds (nexts σ limit b) (plain-walk.nexts limit (unfolded σ b))
+nexts-unfolded : (limit : ℕ) (σ : Bindings) (b : Closure) → Good σ b → RelatedLists Unfolds (nexts σ limit b) (plain-walk.nexts limit (unfolded σ b))
 unfolding nexts plain-walk.nexts
-nexts-unfolded limit σ b G = order-pairwise Unfolds limit _ _
+nexts-unfolded limit σ b G = order-lists Unfolds limit _ _
     (λ a t. rw (unfold-move σ a t b G) (after-unfolded σ (closureMove σ a t b) (λ s e. move-good σ a t b s e G)))
 
 -- PLACED
@@ -116,15 +116,15 @@ pub closures-related : (limit : ℕ) → Related Unfolds (closureSpace limit) (p
 closures-related limit = record {
   isVoid = λ m b x. void-unfolded (m .bindings) (m .tree) ∙ ap plain-walk.isVoid (x .1);
   only = λ n m b x. subst (λ (t : Plain). Both Unfolds (only (m .bindings) n (m .tree)) (plain-walk.only n t)) (x .1) (only-unfolded (m .bindings) n (m .tree) (x .0));
-  divisions = λ m b x. pairwise-map (λ d e. Unfolds (d .0) (e .0) × Unfolds (d .1) (e .1)) (shares (m .bindings))
-      (pairwise-more (Shares (m .bindings) (m .tree)) _
+  divisions = λ m b x. lists-map (λ d e. Unfolds (d .0) (e .0) × Unfolds (d .1) (e .1)) (shares (m .bindings))
+      (lists-more (Shares (m .bindings) (m .tree)) _
       (λ d e y. (
         (good-less (m .bindings) (m .tree) (d .0) (λ T. omega (arith, y .counts T)) (x .0), y .share),
         (good-less (m .bindings) (m .tree) (d .1) (λ T. omega (arith, y .counts T)) (x .0), y .others),
       ))
-      (subst (λ (t : Plain). Pairwise (Shares (m .bindings) (m .tree)) (divisions (m .tree)) (plain-walk.divisions t)) (x .1) (divisions-unfolded (m .bindings) (m .tree))));
-  nexts = λ m b x. subst (λ (t : Plain). Pairwise Unfolds (nexts (m .bindings) limit (m .tree)) (plain-walk.nexts limit t)) (x .1) (nexts-unfolded limit (m .bindings) (m .tree) (x .0));
-  insides = λ m b x. subst (λ (t : Plain). Pairwise Unfolds (insides (m .bindings) (m .tree)) (plain-walk.insides t)) (x .1) (insides-unfolded (m .bindings) (m .tree) (x .0));
+      (subst (λ (t : Plain). RelatedLists (Shares (m .bindings) (m .tree)) (divisions (m .tree)) (plain-walk.divisions t)) (x .1) (divisions-unfolded (m .bindings) (m .tree))));
+  nexts = λ m b x. subst (λ (t : Plain). RelatedLists Unfolds (nexts (m .bindings) limit (m .tree)) (plain-walk.nexts limit t)) (x .1) (nexts-unfolded limit (m .bindings) (m .tree) (x .0));
+  insides = λ m b x. subst (λ (t : Plain). RelatedLists Unfolds (insides (m .bindings) (m .tree)) (plain-walk.insides t)) (x .1) (insides-unfolded (m .bindings) (m .tree) (x .0));
   wrap = λ k n m b x. (good-wrapped (m .bindings) k n (m .tree) (x .0), wrap-unfolded (m .bindings) k n (m .tree) ∙ ap (wrapped k n) (x .1));
 }
 

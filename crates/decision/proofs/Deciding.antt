@@ -9,6 +9,7 @@ use mathlib.Core.Option.{Option, none, some}
 use native.Mathlib.Omega.{arith}
 use lib.Dec.{eqb, ltb}
 use lib.ListN.{length}
+use Rattle.sets.specs.Sets.{span}
 use borrow.Author.Tests.{eqb-true, eqb-false, eq-eqb, ne-eqb, ltb-true, ltb-false}
 use Rattle.messages.specs.Message.{Message}
 use Rattle.scripts.specs.Tree.{close, part, Plain}
@@ -16,13 +17,13 @@ use Rattle.machine.specs.Moves.{Moved}
 use Rattle.machine.specs.PlainMachine.{move}
 use Rattle.slices.proofs.Tests.{byTest}
 use Rattle.machine.proofs.Options.{some-is, none≢some}
-use Rattle.rules.specs.Rule.{Term, Rule, always, negation, either, void, at, beside, some-name, sometime, somewhere, placed, Names, termName}
+use Rattle.rules.specs.Rule.{Term, Rule, truth, negation, either, void, at, beside, some-name, sometime, somewhere, placed, Names, termName}
 use Rattle.calculus.specs.Satisfaction.{Within, here, deeper, Reaches, stay, go, wrapped, Sat}
-use Rattle.decision.specs.Walk.{Count, Walked, stopped, says, Setting, range, onYes, onNo, turned, ifAny, firstYes, lastName, look, counted, walk}
+use Rattle.decision.specs.Walk.{Count, Walked, stopped, says, Setting, onYes, onNo, turned, ifAny, firstYes, lastName, look, counted, walk}
 use Rattle.decision.specs.PlainWalk.{isVoid, only, divisions, insides, nexts, plainSpace}
 use Rattle.decision.proofs.Renaming.{renameNames, renameRule, renameTree, Permutation, Same, sat-rename}
 use Rattle.decision.proofs.Fits.{Fits, NamesAll, RuleAll, move-fits, inside-fits, divided-fits, alone-fits, wrapped-fits, term-all, names-more, term-more, fits-more, tree-still, rule-still, names-still}
-use Rattle.decision.proofs.Listed.{in-range, of-range, Next, of-nexts, in-nexts, in-divisions, of-divisions, of-insides, in-insides, of-only, in-only}
+use Rattle.decision.proofs.Listed.{in-span, of-span, Next, of-nexts, in-nexts, in-divisions, of-divisions, of-insides, in-insides, of-only, in-only}
 
 -- the answer is right about P
 pub data Reflects (P : Type 0) : Bool → Type 0 where
@@ -159,7 +160,7 @@ pub record Known (limit : ℕ) (s : Setting) (e : Names) (r : Rule) (b : Plain) 
 
 module _ (limit : ℕ) (s : Setting) where
   -- A name that is not among the first G + d may be exchanged for the last of them.
-  fresh : (e : Names) (r : Rule) (b : Plain) → Known limit s e r b → (i m : ℕ) → 1 ≤ m → Sat (s .parts) ((i, m) ∷ e) r b → Some (λ (x : ℕ). Sat (s .parts) ((i, x) ∷ e) r b) (range 1 (lastName s e))
+  fresh : (e : Names) (r : Rule) (b : Plain) → Known limit s e r b → (i m : ℕ) → 1 ≤ m → Sat (s .parts) ((i, m) ∷ e) r b → Some (λ (x : ℕ). Sat (s .parts) ((i, x) ∷ e) r b) (span 1 (lastName s e))
   unfolding renameNames
   fresh e r b K i m h S =
       let F : ℕ = lastName s e in
@@ -173,8 +174,8 @@ module _ (limit : ℕ) (s : Setting) where
       let S₁ = sat-swap F m (omega arith) h (s .parts) ((i, m) ∷ e) r b S in
       let S₂ = subst (λ (x : Names). Sat (s .parts) x (renameRule f r) (renameTree f b)) qe S₁ in
       let S₃ = subst (λ (x : Rule). Sat (s .parts) ((i, F) ∷ e) x (renameTree f b)) (rule-still _ f low _ r (K .rule)) S₂ in
-      (F, in-range 1 F F (omega arith) (omega arith), subst (λ (x : Plain). Sat (s .parts) ((i, F) ∷ e) r x) (tree-still _ f still _ b (K .tree)) S₃))
-      (λ t. (m, in-range 1 F m h (omega (arith, ltb-false F m t)), S))
+      (F, in-span 1 F F (omega arith) (omega arith), subst (λ (x : Plain). Sat (s .parts) ((i, F) ∷ e) r x) (tree-still _ f still _ b (K .tree)) S₃))
+      (λ t. (m, in-span 1 F m h (omega (arith, ltb-false F m t)), S))
 
   -- what is known of what is visited next
   known-rule : (e : Names) (r q : Rule) (b : Plain) → Known limit s e r b → RuleAll (λ (j : ℕ). s .parts + j < limit) (λ (n : ℕ). n ≤ s .greatest) q → Known limit s e q b
@@ -186,9 +187,9 @@ module _ (limit : ℕ) (s : Setting) where
   known-next : (e : Names) (r : Rule) (b c : Plain) → Known limit s e r b → Next b c → Known limit s e r c
   known-next e r b c K (a, t, m, q, p) = known-tree e r b c K (subst (Fits _ _) (sym p) (move-fits _ _ a t b m q (K .tree) .2))
 
-  known-chosen : (e : Names) (i : ℕ) (r : Rule) (b : Plain) → Known limit s e r b → (m : ℕ) → List·Memᴰ m (range 1 (lastName s e)) → Known limit s ((i, m) ∷ e) r b
+  known-chosen : (e : Names) (i : ℕ) (r : Rule) (b : Plain) → Known limit s e r b → (m : ℕ) → List·Memᴰ m (span 1 (lastName s e)) → Known limit s ((i, m) ∷ e) r b
   known-chosen e i r b K m p =
-      let h = of-range 1 _ m p in
+      let h = of-span 1 _ m p in
       let up : (n : ℕ) → n ≤ s .greatest + length e → n ≤ s .greatest + length ((i, m) ∷ e) = λ n q. omega arith in
       record { names = (omega arith, names-more _ _ up e (K .names)); rule = K .rule; tree = fits-more _ _ _ _ (λ k q. q) up b (K .tree) }
 
@@ -206,7 +207,7 @@ module _ (limit : ℕ) (s : Setting) where
 
   look-right : (v : Names → Rule → Plain → Count → Walked) → Good v → Good (look (plainSpace limit) s v)
   unfolding look Sat Good
-  look-right v g e (always i) b K k a m q = as-said q (holds tt)
+  look-right v g e (truth i) b K k a m q = as-said q (holds tt)
   look-right v g e (negation i r) b K k a m q = turned-right _ _ (g e r b (known-rule e _ r b K (K .rule)) k) a m q
   look-right v g e (either i r p) b K k a m q =
       onNo-right _ _ _ _ (g e r b (known-rule e _ r b K (K .rule .0)) k) (λ n. g e p b (known-rule e _ p b K (K .rule .1)) n) a m q
@@ -222,8 +223,8 @@ module _ (limit : ℕ) (s : Setting) where
       onYes-right _ _ _ _ (g e r (d .0) (known-tree e r b _ (known-rule e _ r b K (K .rule .0)) (y .0)) n) (λ n₁. g e p (d .1) (known-tree e p b _ (known-rule e _ p b K (K .rule .1)) (y .1)) n₁)) k a m q)
   look-right v g e (some-name i r) b K k a m q =
       let K₁ = known-rule e _ r b K (K .rule) in
-      iff (λ z. (z .0, of-range 1 _ (z .0) (z .1) .0, z .2)) (λ z. fresh e r b K₁ i (z .0) (z .1) (z .2))
-      (firstYes-right (λ x. Sat (s .parts) ((i, x) ∷ e) r b) _ (range 1 (lastName s e)) (λ x w n. g ((i, x) ∷ e) r b (known-chosen e i r b K₁ x w) n) k a m q)
+      iff (λ z. (z .0, of-span 1 _ (z .0) (z .1) .0, z .2)) (λ z. fresh e r b K₁ i (z .0) (z .1) (z .2))
+      (firstYes-right (λ x. Sat (s .parts) ((i, x) ∷ e) r b) _ (span 1 (lastName s e)) (λ x w n. g ((i, x) ∷ e) r b (known-chosen e i r b K₁ x w) n) k a m q)
   look-right v g e (sometime i r) b K k a m q =
       iff (λ z. elim z [ inl x ↦ (b, stay, x) | inr y ↦ (y .2 .0, of-next (of-nexts limit b (y .0) (y .1)) (y .2 .1), y .2 .2) ])
       (λ z. reach-cases (Sat (s .parts) e r) (nexts limit) (in-nexts limit _ b (K .tree)) (z .1) (z .2))

@@ -12,7 +12,7 @@ use Rattle.machine.specs.PlainMachine.{rest, substituteHead, substituteBody, pl
 use Rattle.slices.proofs.Tests.{byTest}
 use Rattle.machine.proofs.Naturality.{mapHead}
 use Rattle.machine.proofs.Everywhere.{Everywhere, map-everywhere, still-everywhere, more-everywhere, Keeps, move-everywhere}
-use Rattle.rules.specs.Rule.{Term, constant, chosen, Rule, always, negation, either, void, at, beside, some-name, sometime, somewhere, placed, Names, lookup, termName}
+use Rattle.rules.specs.Rule.{Term, constant, chosen, Rule, truth, negation, either, void, at, beside, some-name, sometime, somewhere, placed, Names, chosenName, termName}
 use Rattle.calculus.specs.Satisfaction.{Divided, nothing, left, right, Inside, first, later, Alone, wrapped}
 use Rattle.decision.proofs.Renaming.{renameMessage, renameItems, renameHead, renameTree, renameTerm, renameRule, renameNames}
 
@@ -49,7 +49,7 @@ TermAll P (chosen i) = Unit {0}
 
 -- every place of a PLACED has J, and every name P
 abbrev pub RuleAll : (J P : ℕ → Type 0) → Rule → Type 0
-RuleAll J P (always i) = Unit {0}
+RuleAll J P (truth i) = Unit {0}
 RuleAll J P (negation i r) = RuleAll J P r
 RuleAll J P (either i r q) = RuleAll J P r × RuleAll J P q
 RuleAll J P (void i) = Unit {0}
@@ -146,15 +146,15 @@ module _ (K P : ℕ → Type 0) where
   wrapped-fits k n b x y z = ((x, y), z, tt)
 
 -- the name that a term says, where 0 stands for none
-pub lookup-all : (P : ℕ → Type 0) → P 0 → (e : Names) (i : ℕ) → NamesAll P e → P (lookup e i)
-unfolding lookup
-lookup-all P z [] i x = z
-lookup-all P z (p ∷ e) i x = byTest (eqb (p .0) i) (λ t. rw t (x .0)) (λ t. rw t (lookup-all P z e i (x .1)))
+pub chosenName-all : (P : ℕ → Type 0) → P 0 → (e : Names) (i : ℕ) → NamesAll P e → P (chosenName e i)
+unfolding chosenName
+chosenName-all P z [] i x = z
+chosenName-all P z (p ∷ e) i x = byTest (eqb (p .0) i) (λ t. rw t (x .0)) (λ t. rw t (chosenName-all P z e i (x .1)))
 
 pub term-all : (P : ℕ → Type 0) → P 0 → (e : Names) (t : Term) → NamesAll P e → TermAll P t → P (termName e t)
 unfolding termName
 term-all P z e (constant n) x y = y
-term-all P z e (chosen i) x y = lookup-all P z e i x
+term-all P z e (chosen i) x y = chosenName-all P z e i x
 
 -- weaker properties
 module _ (P Q : ℕ → Type 0) (f : (n : ℕ) → P n → Q n) where
@@ -189,7 +189,7 @@ pub fits-more : (K L P Q : ℕ → Type 0) → ((k : ℕ) → K k → L k) → (
 fits-more K L P Q g f b x = more-everywhere (Fit K P) (Fit L Q) (λ k h y. (g k (y .0), head-more P Q f h (y .1))) b x
 
 pub rule-more : (J I P Q : ℕ → Type 0) → ((j : ℕ) → J j → I j) → ((n : ℕ) → P n → Q n) → (r : Rule) → RuleAll J P r → RuleAll I Q r
-rule-more J I P Q g f (always i) x = tt
+rule-more J I P Q g f (truth i) x = tt
 rule-more J I P Q g f (negation i r) x = rule-more J I P Q g f r x
 rule-more J I P Q g f (either i r q) x = (rule-more J I P Q g f r (x .0), rule-more J I P Q g f q (x .1))
 rule-more J I P Q g f (void i) x = tt
@@ -233,7 +233,7 @@ module _ (P : ℕ → Type 0) (f : ℕ → ℕ) (s : (n : ℕ) → P n → f n �
 
   pub rule-still : (J : ℕ → Type 0) (r : Rule) → RuleAll J P r → renameRule f r ≡ r
   unfolding renameRule
-  rule-still J (always i) x = refl
+  rule-still J (truth i) x = refl
   rule-still J (negation i r) x = rw (rule-still J r x)
   rule-still J (either i r q) x = rw (rule-still J r (x .0), rule-still J q (x .1))
   rule-still J (void i) x = refl

@@ -1,4 +1,4 @@
--- What the walk's lists hold: the numbers of a range, the divisions of a tree, the insides of its named ambients, and what
+-- What the walk's lists hold: the numbers of a span, the divisions of a tree, the insides of its named ambients, and what
 -- stands after each move, of which none is missing where every part number is below the limit. Assumes nothing.
 use Prim.Native.Nat.{ℕ, zero, suc, _+_, _≤_, _<_}
 use mathlib.Core.List.{List, [], _∷_, List·Memᴰ, List·Memᴰ·head, List·Memᴰ·tail, List·Memᴰ·not-nil, List·Memᴰ·cases-cons, List·Memᴰ·append-cases, Memᴰ·append-left, Memᴰ·append-right}
@@ -7,6 +7,7 @@ use mathlib.Core.Logic.{_⊎_, inl, inr}
 use mathlib.Core.Option.{Option, none, some}
 use native.Mathlib.Omega.{arith}
 use lib.Dec.{eqb}
+use Rattle.sets.specs.Sets.{span}
 use borrow.Author.Tests.{eqb-true, eqb-false, eq-eqb}
 use Rattle.messages.specs.Message.{Message}
 use Rattle.messages.specs.declared.Named.the-variants.{Called}
@@ -17,25 +18,25 @@ use Rattle.slices.proofs.Tests.{byTest}
 use Rattle.machine.proofs.Options.{some-is, none≢some, cond-inv}
 use Rattle.machine.proofs.Inversion.{isNamed-inv, sameName-inv}
 use Rattle.calculus.specs.Satisfaction.{Divided, nothing, left, right, Inside, first, later, Alone}
-use Rattle.decision.specs.Walk.{range, keep, movesTo, movesFrom, inOrder}
+use Rattle.decision.specs.Walk.{keep, movesTo, movesFrom, inOrder}
 use Rattle.decision.specs.PlainWalk.{only, withEither, divisions, insides, bodyAfter, nexts}
 use Rattle.decision.proofs.Fits.{Fits, move-fits}
 
 -- ranges
 
-pub in-range : (from n m : ℕ) → from ≤ m → m < from + n → List·Memᴰ m (range from n)
-unfolding range
-in-range from zero m l h = absurd (let w : ⊥ = omega arith in w)
-in-range from (suc n) m l h = byTest (eqb m from)
+pub in-span : (from n m : ℕ) → from ≤ m → m < from + n → List·Memᴰ m (span from n)
+unfolding span
+in-span from zero m l h = absurd (let w : ⊥ = omega arith in w)
+in-span from (suc n) m l h = byTest (eqb m from)
     (λ t. List·Memᴰ·head (eqb-true m from t))
-    (λ t. List·Memᴰ·tail (in-range (suc from) n m (let d = eqb-false m from t in omega arith) (omega arith)))
+    (λ t. List·Memᴰ·tail (in-span (suc from) n m (let d = eqb-false m from t in omega arith) (omega arith)))
 
-pub of-range : (from n m : ℕ) → List·Memᴰ m (range from n) → (from ≤ m) × (m < from + n)
-unfolding range
-of-range from zero m i = absurd (List·Memᴰ·not-nil i)
-of-range from (suc n) m i = elim (List·Memᴰ·cases-cons i) [
+pub of-span : (from n m : ℕ) → List·Memᴰ m (span from n) → (from ≤ m) × (m < from + n)
+unfolding span
+of-span from zero m i = absurd (List·Memᴰ·not-nil i)
+of-span from (suc n) m i = elim (List·Memᴰ·cases-cons i) [
   | inl q ↦ (omega arith, omega arith)
-  | inr j ↦ (let h = of-range (suc from) n m j in (omega arith, omega arith))
+  | inr j ↦ (let h = of-span (suc from) n m j in (omega arith, omega arith))
 ]
 
 -- the moves of part numbers below a limit, whatever makes them
@@ -89,7 +90,7 @@ module _ {S : Type 0} where
   pub in-order : (limit : ℕ) (make : ℕ → ℕ → Option S) (a t : ℕ) (c : S) → make a t ≡ some c → a < limit → t < limit → List·Memᴰ c (inOrder limit make)
   unfolding inOrder
   in-order limit make a t c e i j =
-      in-moves-from make a t _ _ c e (in-range _ _ a (omega arith) (omega arith)) (in-range _ _ t (omega arith) (omega arith))
+      in-moves-from make a t _ _ c e (in-span _ _ a (omega arith) (omega arith)) (in-span _ _ t (omega arith) (omega arith))
 
 -- what stands after one move
 

@@ -9,9 +9,10 @@ use mathlib.Core.Option.{Option, none, some}
 use native.Mathlib.Omega.{arith}
 use lib.Dec.{ltb}
 use borrow.Author.Tests.{ltb-true, lt-ltb}
-use Rattle.rules.specs.Rule.{Names, termName, Rule, always, negation, either, void, at, beside, some-name, sometime, somewhere, placed, ruleIndex}
+use Rattle.rules.specs.Rule.{Names, termName, Rule, truth, negation, either, void, at, beside, some-name, sometime, somewhere, placed, ruleIndex}
 use Rattle.slices.proofs.Tests.{byTest}
-use Rattle.decision.specs.Walk.{Space, Count, Walked, stopped, says, Setting, range, onYes, onNo, turned, ifAny, firstYes, lastName, look, counted, walk, walkFrom}
+use Rattle.sets.specs.Sets.{span}
+use Rattle.decision.specs.Walk.{Space, Count, Walked, stopped, says, Setting, onYes, onNo, turned, ifAny, firstYes, lastName, look, counted, walk, walkFrom}
 
 -- no visits are left: question 18
 abbrev pub Tired : Walked → Type 0
@@ -61,14 +62,14 @@ module _ {S : Type 0} (space : Space S) (s : Setting) (p : ℕ) (more : s .patie
 
   look-kept : (f g : Names → Rule → S → Count → Walked) → KeptAll f g → KeptAll (look space s f) (look space (withPatience p s) g)
   unfolding look
-  look-kept f g h e (always i) b n = inr refl
+  look-kept f g h e (truth i) b n = inr refl
   look-kept f g h e (negation i r) b n = turned-kept (f e r b n) (g e r b n) (h e r b n)
   look-kept f g h e (either i r q) b n = onNo-kept (f e r b n) (g e r b n) _ _ (h e r b n) (λ n₁. h e q b n₁)
   look-kept f g h e (void i) b n = inr refl
   look-kept f g h e (at i t r) b n = ifAny-kept (space .only (termName e t) b) _ _ n (λ c. h e r c n)
   look-kept f g h e (beside i r q) b n =
       firstYes-kept _ _ (λ d n₁. onYes-kept (f e r (d .0) n₁) (g e r (d .0) n₁) _ _ (h e r (d .0) n₁) (λ n₂. h e q (d .1) n₂)) (space .divisions b) n
-  look-kept f g h e (some-name i r) b n = firstYes-kept _ _ (λ m n₁. h ((i, m) ∷ e) r b n₁) (range 1 (lastName s e)) n
+  look-kept f g h e (some-name i r) b n = firstYes-kept _ _ (λ m n₁. h ((i, m) ∷ e) r b n₁) (span 1 (lastName s e)) n
   look-kept f g h e (sometime i r) b n =
       onNo-kept (f e r b n) (g e r b n) _ _ (h e r b n) (λ n₁. firstYes-kept _ _ (λ c n₂. h e (sometime i r) c n₂) (space .nexts b) n₁)
   look-kept f g h e (somewhere i r) b n =

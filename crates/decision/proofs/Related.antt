@@ -6,9 +6,10 @@ use mathlib.Core.List.{List, [], _∷_, _++_, map}
 use mathlib.Core.Path.{_≡_, refl, ap, _∙_}
 use mathlib.Core.Option.{Option, none, some}
 use lib.Dec.{ltb}
-use Rattle.rules.specs.Rule.{Names, termName, Rule, always, negation, either, void, at, beside, some-name, sometime, somewhere, placed}
+use Rattle.sets.specs.Sets.{span}
+use Rattle.rules.specs.Rule.{Names, termName, Rule, truth, negation, either, void, at, beside, some-name, sometime, somewhere, placed}
 use Rattle.slices.proofs.Tests.{byTest}
-use Rattle.decision.specs.Walk.{Space, Count, Walked, stopped, says, Setting, range, onYes, onNo, turned, ifAny, firstYes, lastName, look, counted, walk, keep, movesTo, movesFrom, inOrder}
+use Rattle.decision.specs.Walk.{Space, Count, Walked, stopped, says, Setting, onYes, onNo, turned, ifAny, firstYes, lastName, look, counted, walk, keep, movesTo, movesFrom, inOrder}
 
 -- nothing beside nothing, or related things
 pub data Both {A B : Type 0} (R : A → B → Type 0) : Option A → Option B → Type 0 where
@@ -16,42 +17,42 @@ pub data Both {A B : Type 0} (R : A → B → Type 0) : Option A → Option B �
   found : {a : A} {b : B} → R a b → Both R (some a) (some b)
 
 -- lists of related things, in the same order
-pub data Pairwise {A B : Type 0} (R : A → B → Type 0) : List A → List B → Type 0 where
-  nil : Pairwise R [] []
-  more : {a : A} {b : B} {l : List A} {k : List B} → R a b → Pairwise R l k → Pairwise R (a ∷ l) (b ∷ k)
+pub data RelatedLists {A B : Type 0} (R : A → B → Type 0) : List A → List B → Type 0 where
+  nil : RelatedLists R [] []
+  more : {a : A} {b : B} {l : List A} {k : List B} → R a b → RelatedLists R l k → RelatedLists R (a ∷ l) (b ∷ k)
 
-pub pairwise-map : {A B C : Type 0} (R : C → B → Type 0) (f : A → C) {l : List A} {k : List B} → Pairwise (λ a b. R (f a) b) l k → Pairwise R (map f l) k
-pairwise-map R f nil = nil
-pairwise-map R f (more x p) = more x (pairwise-map R f p)
+pub lists-map : {A B C : Type 0} (R : C → B → Type 0) (f : A → C) {l : List A} {k : List B} → RelatedLists (λ a b. R (f a) b) l k → RelatedLists R (map f l) k
+lists-map R f nil = nil
+lists-map R f (more x p) = more x (lists-map R f p)
 
-pub pairwise-more : {A B : Type 0} (Q R : A → B → Type 0) → ((a : A) (b : B) → Q a b → R a b) → {l : List A} {k : List B} → Pairwise Q l k → Pairwise R l k
-pairwise-more Q R f nil = nil
-pairwise-more Q R f (more {a} {b} x p) = more (f a b x) (pairwise-more Q R f p)
+pub lists-more : {A B : Type 0} (Q R : A → B → Type 0) → ((a : A) (b : B) → Q a b → R a b) → {l : List A} {k : List B} → RelatedLists Q l k → RelatedLists R l k
+lists-more Q R f nil = nil
+lists-more Q R f (more {a} {b} x p) = more (f a b x) (lists-more Q R f p)
 
 module _ {A B : Type 0} (R : A → B → Type 0) where
-  pairwise-append : {l m : List A} {k n : List B} → Pairwise R l k → Pairwise R m n → Pairwise R (l ++ m) (k ++ n)
-  pairwise-append nil q = q
-  pairwise-append (more x p) q = more x (pairwise-append p q)
+  lists-append : {l m : List A} {k n : List B} → RelatedLists R l k → RelatedLists R m n → RelatedLists R (l ++ m) (k ++ n)
+  lists-append nil q = q
+  lists-append (more x p) q = more x (lists-append p q)
 
-  keep-pairwise : {x : Option A} {y : Option B} {l : List A} {k : List B} → Both R x y → Pairwise R l k → Pairwise R (keep x l) (keep y k)
+  keep-lists : {x : Option A} {y : Option B} {l : List A} {k : List B} → Both R x y → RelatedLists R l k → RelatedLists R (keep x l) (keep y k)
   unfolding keep
-  keep-pairwise neither p = p
-  keep-pairwise (found r) p = more r p
+  keep-lists neither p = p
+  keep-lists (found r) p = more r p
 
-  to-pairwise : (f : ℕ → Option A) (g : ℕ → Option B) → ((t : ℕ) → Both R (f t) (g t)) → (ts : List ℕ) → Pairwise R (movesTo f ts) (movesTo g ts)
+  to-lists : (f : ℕ → Option A) (g : ℕ → Option B) → ((t : ℕ) → Both R (f t) (g t)) → (ts : List ℕ) → RelatedLists R (movesTo f ts) (movesTo g ts)
   unfolding movesTo
-  to-pairwise f g h [] = nil
-  to-pairwise f g h (t ∷ ts) = keep-pairwise (h t) (to-pairwise f g h ts)
+  to-lists f g h [] = nil
+  to-lists f g h (t ∷ ts) = keep-lists (h t) (to-lists f g h ts)
 
-  from-pairwise : (f : ℕ → ℕ → Option A) (g : ℕ → ℕ → Option B) → ((a t : ℕ) → Both R (f a t) (g a t)) → (l ts : List ℕ) → Pairwise R (movesFrom f l ts) (movesFrom g l ts)
+  from-lists : (f : ℕ → ℕ → Option A) (g : ℕ → ℕ → Option B) → ((a t : ℕ) → Both R (f a t) (g a t)) → (l ts : List ℕ) → RelatedLists R (movesFrom f l ts) (movesFrom g l ts)
   unfolding movesFrom
-  from-pairwise f g h [] ts = nil
-  from-pairwise f g h (a ∷ l) ts = pairwise-append (to-pairwise (f a) (g a) (h a) ts) (from-pairwise f g h l ts)
+  from-lists f g h [] ts = nil
+  from-lists f g h (a ∷ l) ts = lists-append (to-lists (f a) (g a) (h a) ts) (from-lists f g h l ts)
 
   -- moves that are listed in the walk's order
-  pub order-pairwise : (limit : ℕ) (f : ℕ → ℕ → Option A) (g : ℕ → ℕ → Option B) → ((a t : ℕ) → Both R (f a t) (g a t)) → Pairwise R (inOrder limit f) (inOrder limit g)
+  pub order-lists : (limit : ℕ) (f : ℕ → ℕ → Option A) (g : ℕ → ℕ → Option B) → ((a t : ℕ) → Both R (f a t) (g a t)) → RelatedLists R (inOrder limit f) (inOrder limit g)
   unfolding inOrder
-  order-pairwise limit f g h = from-pairwise f g h (range 0 limit) (range 0 limit)
+  order-lists limit f g h = from-lists f g h (span 0 limit) (span 0 limit)
 
 -- the same done one after another
 onNo-same : (x : Walked) (k l : Count → Walked) → ((n : Count) → k n ≡ l n) → onNo x k ≡ onNo x l
@@ -66,11 +67,11 @@ onYes-same (stopped q i v) k l f = refl
 onYes-same (says true n) k l f = f n
 onYes-same (says false n) k l f = refl
 
-firstYes-pairwise : {A B : Type 0} (R : A → B → Type 0) (f : A → Count → Walked) (g : B → Count → Walked) → ((a : A) (b : B) → R a b → (n : Count) → f a n ≡ g b n) →
-    {l : List A} {k : List B} → Pairwise R l k → (n : Count) → firstYes f l n ≡ firstYes g k n
+firstYes-lists : {A B : Type 0} (R : A → B → Type 0) (f : A → Count → Walked) (g : B → Count → Walked) → ((a : A) (b : B) → R a b → (n : Count) → f a n ≡ g b n) →
+    {l : List A} {k : List B} → RelatedLists R l k → (n : Count) → firstYes f l n ≡ firstYes g k n
 unfolding firstYes
-firstYes-pairwise R f g h nil n = refl
-firstYes-pairwise R f g h (more {a} {b} {l} {k} x p) n = ap (λ (w : Walked). onNo w (λ c. firstYes f l c)) (h a b x n) ∙ onNo-same (g b n) _ _ (firstYes-pairwise R f g h p)
+firstYes-lists R f g h nil n = refl
+firstYes-lists R f g h (more {a} {b} {l} {k} x p) n = ap (λ (w : Walked). onNo w (λ c. firstYes f l c)) (h a b x n) ∙ onNo-same (g b n) _ _ (firstYes-lists R f g h p)
 
 firstYes-same : {A : Type 0} (f g : A → Count → Walked) → ((a : A) (n : Count) → f a n ≡ g a n) → (l : List A) (n : Count) → firstYes f l n ≡ firstYes g l n
 unfolding firstYes
@@ -87,9 +88,9 @@ ifAny-both R f g h (found {a} {b} x) n = h a b x
 pub record Related {S T : Type 0} (R : S → T → Type 0) (one : Space S) (two : Space T) : Type 0 where
   pub isVoid : (m : S) (b : T) → R m b → one .isVoid m ≡ two .isVoid b
   pub only : (n : ℕ) (m : S) (b : T) → R m b → Both R (one .only n m) (two .only n b)
-  pub divisions : (m : S) (b : T) → R m b → Pairwise (λ d e. R (d .0) (e .0) × R (d .1) (e .1)) (one .divisions m) (two .divisions b)
-  pub nexts : (m : S) (b : T) → R m b → Pairwise R (one .nexts m) (two .nexts b)
-  pub insides : (m : S) (b : T) → R m b → Pairwise R (one .insides m) (two .insides b)
+  pub divisions : (m : S) (b : T) → R m b → RelatedLists (λ d e. R (d .0) (e .0) × R (d .1) (e .1)) (one .divisions m) (two .divisions b)
+  pub nexts : (m : S) (b : T) → R m b → RelatedLists R (one .nexts m) (two .nexts b)
+  pub insides : (m : S) (b : T) → R m b → RelatedLists R (one .insides m) (two .insides b)
   pub wrap : (k n : ℕ) (m : S) (b : T) → R m b → R (one .wrap k n m) (two .wrap k n b)
 
 module _ {S T : Type 0} (R : S → T → Type 0) (one : Space S) (two : Space T) (x : Related R one two) (s : Setting) where
@@ -99,22 +100,22 @@ module _ {S T : Type 0} (R : S → T → Type 0) (one : Space S) (two : Space T)
 
   look-related : (f : Names → Rule → S → Count → Walked) (g : Names → Rule → T → Count → Walked) → Agree f g → Agree (look one s f) (look two s g)
   unfolding look
-  look-related f g h e (always i) m b p n = refl
+  look-related f g h e (truth i) m b p n = refl
   look-related f g h e (negation i r) m b p n = ap turned (h e r m b p n)
   look-related f g h e (either i r q) m b p n = ap (λ (w : Walked). onNo w (λ c. f e q m c)) (h e r m b p n) ∙ onNo-same (g e r b n) _ _ (h e q m b p)
   look-related f g h e (void i) m b p n = ap (λ (a : Bool). says a n) (x .isVoid m b p)
   look-related f g h e (at i t r) m b p n = ifAny-both R _ _ (λ c d q. h e r c d q n) (x .only (termName e t) m b p) n
   look-related f g h e (beside i r q) m b p n =
-      firstYes-pairwise (λ d k. R (d .0) (k .0) × R (d .1) (k .1)) _ _
+      firstYes-lists (λ d k. R (d .0) (k .0) × R (d .1) (k .1)) _ _
       (λ d k y c. ap (λ (w : Walked). onYes w (λ l. f e q (d .1) l)) (h e r (d .0) (k .0) (y .0) c) ∙ onYes-same (g e r (k .0) c) _ _ (h e q (d .1) (k .1) (y .1)))
       (x .divisions m b p) n
-  look-related f g h e (some-name i r) m b p n = firstYes-same _ _ (λ k c. h ((i, k) ∷ e) r m b p c) (range 1 (lastName s e)) n
+  look-related f g h e (some-name i r) m b p n = firstYes-same _ _ (λ k c. h ((i, k) ∷ e) r m b p c) (span 1 (lastName s e)) n
   look-related f g h e (sometime i r) m b p n =
       ap (λ (w : Walked). onNo w (λ c. firstYes (λ d l. f e (sometime i r) d l) (one .nexts m) c)) (h e r m b p n)
-      ∙ onNo-same (g e r b n) _ _ (firstYes-pairwise R _ _ (h e (sometime i r)) (x .nexts m b p))
+      ∙ onNo-same (g e r b n) _ _ (firstYes-lists R _ _ (h e (sometime i r)) (x .nexts m b p))
   look-related f g h e (somewhere i r) m b p n =
       ap (λ (w : Walked). onNo w (λ c. firstYes (λ d l. f e (somewhere i r) d l) (one .insides m) c)) (h e r m b p n)
-      ∙ onNo-same (g e r b n) _ _ (firstYes-pairwise R _ _ (h e (somewhere i r)) (x .insides m b p))
+      ∙ onNo-same (g e r b n) _ _ (firstYes-lists R _ _ (h e (somewhere i r)) (x .insides m b p))
   look-related f g h e (placed i j t r) m b p n = h e r _ _ (x .wrap (s .parts + j) (termName e t) m b p) n
 
   -- THEOREM: related processes have the same walk.

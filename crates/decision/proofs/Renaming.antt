@@ -14,7 +14,7 @@ use Rattle.machine.specs.Moves.{Moved, headName, moveHere, anywhere}
 use Rattle.machine.specs.PlainMachine.{rest, substituteHead, substituteBody, plain, settledBy, move}
 use Rattle.slices.proofs.Tests.{byTest}
 use Rattle.machine.proofs.Naturality.{mapHeads-twice, mapHeads-same, settle-map, renamed, asked, Injective, mapHead, isAmbient-map, Translates, headName-map, mapMoved, moved-map}
-use Rattle.rules.specs.Rule.{Term, constant, chosen, Rule, always, negation, either, void, at, beside, some-name, sometime, somewhere, placed, Names, lookup, termName}
+use Rattle.rules.specs.Rule.{Term, constant, chosen, Rule, truth, negation, either, void, at, beside, some-name, sometime, somewhere, placed, Names, chosenName, termName}
 use Rattle.calculus.specs.Satisfaction.{Divided, nothing, left, right, Inside, first, later, Within, here, deeper, Reaches, stay, go, Alone, wrapped, Sat}
 
 -- names changed by f
@@ -42,7 +42,7 @@ module _ (f : ℕ → ℕ) where
   renameTerm (chosen i) = chosen i
 
   unfoldable pub renameRule : Rule → Rule
-  renameRule (always i) = always i
+  renameRule (truth i) = truth i
   renameRule (negation i r) = negation i (renameRule r)
   renameRule (either i r q) = either i (renameRule r) (renameRule q)
   renameRule (void i) = void i
@@ -122,9 +122,9 @@ module _ (f : ℕ → ℕ) where
   rest-rename [] = refl
   rest-rename (i ∷ is) = refl
 
-  map-append : (l k : List Message) → renameItems f (l ++ k) ≡ renameItems f l ++ renameItems f k
-  map-append [] k = refl
-  map-append (m ∷ l) k = ap (λ (r : List Message). renameMessage f m ∷ r) (map-append l k)
+  rename-append : (l k : List Message) → renameItems f (l ++ k) ≡ renameItems f l ++ renameItems f k
+  rename-append [] k = refl
+  rename-append (m ∷ l) k = ap (λ (r : List Message). renameMessage f m ∷ r) (rename-append l k)
 
   items-rename : (m : Message) → items (renameMessage f m) ≡ renameItems f (items m)
   unfolding items renameMessage
@@ -134,7 +134,7 @@ module _ (f : ℕ → ℕ) where
   items-rename (exit m) = refl
   items-rename (opens m) = refl
   items-rename empty = refl
-  items-rename (path m k) = rw (items-rename m, items-rename k, map-append)
+  items-rename (path m k) = rw (items-rename m, items-rename k, rename-append)
 
   substitute-rename : (v : ℕ) (r m : Message) → substitute v (renameMessage f r) (renameMessage f m) ≡ renameMessage f (substitute v r m)
   unfolding substitute renameMessage
@@ -149,7 +149,7 @@ module _ (f : ℕ → ℕ) where
   substituteItems-rename : (v : ℕ) (r : Message) (l : List Message) → substituteItems v (renameMessage f r) (renameItems f l) ≡ renameItems f (substituteItems v r l)
   unfolding substituteItems
   substituteItems-rename v r [] = refl
-  substituteItems-rename v r (m ∷ l) = rw (substitute-rename v r m, items-rename (substitute v r m), substituteItems-rename v r l, map-append)
+  substituteItems-rename v r (m ∷ l) = rw (substitute-rename v r m, items-rename (substitute v r m), substituteItems-rename v r l, rename-append)
 
   substituteHead-rename : (v : ℕ) (r : Message) (h : PlainHead) → substituteHead v (renameMessage f r) (renameHead f h) ≡ renameHead f (substituteHead v r h)
   unfolding substituteHead mapHead
@@ -198,15 +198,15 @@ module _ (f : ℕ → ℕ) where
   unfolding mapHeads mapHead renameMessage
   wrapped-rename k n b = refl
 
-  lookup-rename : f 0 ≡ 0 → (e : Names) (i : ℕ) → lookup (renameNames f e) i ≡ f (lookup e i)
-  unfolding lookup renameNames
-  lookup-rename z [] i = sym z
-  lookup-rename z (p ∷ e) i = byTest (eqb (p .0) i) (λ t. rw t) (λ t. rw t (lookup-rename z e i))
+  chosenName-rename : f 0 ≡ 0 → (e : Names) (i : ℕ) → chosenName (renameNames f e) i ≡ f (chosenName e i)
+  unfolding chosenName renameNames
+  chosenName-rename z [] i = sym z
+  chosenName-rename z (p ∷ e) i = byTest (eqb (p .0) i) (λ t. rw t) (λ t. rw t (chosenName-rename z e i))
 
   term-rename : f 0 ≡ 0 → (e : Names) (t : Term) → termName (renameNames f e) (renameTerm f t) ≡ f (termName e t)
   unfolding termName renameTerm
   term-rename z e (constant n) = refl
-  term-rename z e (chosen i) = lookup-rename z e i
+  term-rename z e (chosen i) = chosenName-rename z e i
 
 module _ (f g : ℕ → ℕ) (back : (n : ℕ) → g (f n) ≡ n) where
   translates : Translates plain plain (renameItems f) (renameMessage f) f
@@ -256,7 +256,7 @@ module _ (π : Permutation) where
 
   pub sat-rename : (n : ℕ) (r : Rule) → Same n r
   unfolding Sat renameRule renameNames Same
-  sat-rename n (always i) e b = (λ _. tt, λ _. tt)
+  sat-rename n (truth i) e b = (λ _. tt, λ _. tt)
   sat-rename n (negation i r) e b = (λ x y. x (sat-rename n r e b .1 y), λ x y. x (sat-rename n r e b .0 y))
   sat-rename n (either i r q) e b = (
     λ s. elim s [ inl x ↦ inl (sat-rename n r e b .0 x) | inr y ↦ inr (sat-rename n q e b .0 y) ],

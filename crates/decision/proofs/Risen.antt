@@ -15,7 +15,7 @@ use Rattle.messages.specs.Message.{Message}
 use Rattle.sets.specs.Sets.{mask, Rising}
 use Rattle.scripts.specs.Tree.{Head, isAmbient, Body, close, part, tops, parts, put, merge, mapHeads, settleBy, bare, PlainHead, Plain, settle}
 use Rattle.scripts.specs.Represents.{Numbered}
-use Rattle.machine.specs.Bodies.{find, drop, alter}
+use Rattle.machine.specs.Bodies.{find, removePart, alter}
 use Rattle.machine.specs.Moves.{View, Moved, headName, isNamed, spentHead, spend, moveHere, inside, anywhere}
 use Rattle.machine.specs.PlainMachine.{substituteHead, substituteBody, plain, settledBy, move}
 use Rattle.slices.proofs.Tests.{byTest}
@@ -56,14 +56,14 @@ module _ {H : Type 0} where
       let l : m ≤ i = x .0 in
       put-rises m i h b (merge r c) l (x .1) (merge-rises m r c (rises-down m (suc i) r (omega arith) (x .2)) y)
 
-  pub drop-rises : (m n : ℕ) (b : Body H) → Rises m b → Rises m (drop n b)
-  unfolding drop
-  drop-rises m n close x = tt
-  drop-rises m n (part i h b r) x =
+  pub removePart-rises : (m n : ℕ) (b : Body H) → Rises m b → Rises m (removePart n b)
+  unfolding removePart
+  removePart-rises m n close x = tt
+  removePart-rises m n (part i h b r) x =
       let l : m ≤ i = x .0 in
       byTest (eqb n i)
-      (λ t. rw t (drop-rises m n r (rises-down m (suc i) r (omega arith) (x .2))))
-      (λ t. rw t (x .0, x .1, drop-rises (suc i) n r (x .2)))
+      (λ t. rw t (removePart-rises m n r (rises-down m (suc i) r (omega arith) (x .2))))
+      (λ t. rw t (x .0, x .1, removePart-rises (suc i) n r (x .2)))
 
   pub alter-rises : (m n : ℕ) (F : H → H) (G : Body H → Body H) → ((s : Body H) → Rises 0 s → Rises 0 (G s)) → (b : Body H) → Rises m b → Rises m (alter n F G b)
   unfolding alter
@@ -109,21 +109,21 @@ module _ {A : Type 0} (view : View A) (delivers : (v : ℕ) (m : Message) (b : B
   spend-rises a b x = alter-rises 0 a (spentHead view) (λ s. s) (λ s y. y) b x
 
   here-rises : (a t : ℕ) (b c : Body (Head A)) (news : List (ℕ × Message)) → Here view a t b c news → Rises 0 b → Rises 0 c
-  here-rises a t b c news (by-open o e) x = rw (o .result) (spend-rises a _ (merge-rises 0 (o .room) (drop t b) (find-rises 0 t b _ (o .target) x) (drop-rises 0 t b x)))
+  here-rises a t b c news (by-open o e) x = rw (o .result) (spend-rises a _ (merge-rises 0 (o .room) (removePart t b) (find-rises 0 t b _ (o .target) x) (removePart-rises 0 t b x)))
   here-rises a t b c news (by-receive o) x =
       rw (o .result)
-      (merge-rises 0 (view .delivered (o .bound) (o .sent) (o .after)) (drop t (drop a b)) (delivers (o .bound) (o .sent) (o .after) (find-rises 0 a b _ (o .actor) x))
-      (drop-rises 0 t (drop a b) (drop-rises 0 a b x)))
+      (merge-rises 0 (view .delivered (o .bound) (o .sent) (o .after)) (removePart t (removePart a b)) (delivers (o .bound) (o .sent) (o .after) (find-rises 0 a b _ (o .actor) x))
+      (removePart-rises 0 t (removePart a b) (removePart-rises 0 a b x)))
   here-rises a t b c news (by-enter o e) x =
       rw (o .result)
       (alter-rises 0 t (λ g. g) (put (o .mover) (o .shell) (spend view a (o .inside)))
       (λ s y. put-rises 0 (o .mover) (o .shell) (spend view a (o .inside)) s (omega arith) (spend-rises a (o .inside) (find-rises 0 (o .mover) b _ (o .around) x)) y)
-      (drop (o .mover) b) (drop-rises 0 (o .mover) b x))
+      (removePart (o .mover) b) (removePart-rises 0 (o .mover) b x))
   here-rises a t b c news (by-exit o e) x =
       rw (o .result)
-      (put-rises 0 (o .mover) (o .shell) (spend view a (o .inside)) (alter t (λ g. g) (drop (o .mover)) b) (omega arith)
+      (put-rises 0 (o .mover) (o .shell) (spend view a (o .inside)) (alter t (λ g. g) (removePart (o .mover)) b) (omega arith)
       (spend-rises a (o .inside) (find-rises 0 (o .mover) (o .room) _ (o .around) (find-rises 0 t b _ (o .target) x)))
-      (alter-rises 0 t (λ g. g) (drop (o .mover)) (drop-rises 0 (o .mover)) b x))
+      (alter-rises 0 t (λ g. g) (removePart (o .mover)) (removePart-rises 0 (o .mover)) b x))
 
   -- a rewriting g made inside the named ambients of a body leaves the body's own numbers
   module _ (g : Body (Head A) → Option (Moved A)) (f : (s : Body (Head A)) (l : Moved A) → g s ≡ some l → Rises 0 s → Rises 0 (l .body)) where

@@ -7,7 +7,7 @@ use Rattle.messages.specs.Message.{name}
 use Rattle.messages.specs.declared.Named.the-variants.{Called}
 use Rattle.scripts.specs.Tree.{ambient, close, part}
 use Rattle.machine.specs.Moves.{Moved, headName, isNamed, sameName}
-use Rattle.closure_machine.specs.Closure.{Action, ClosureHead, Closure, Bindings, under, closureMove, ClosureMachine}
+use Rattle.closure_machine.specs.Closure.{Action, ClosureHead, Closure, Bindings, viewUnder, closureMove, ClosureMachine}
 use Rattle.decision.specs.Walk.{Space, inOrder}
 
 -- "VOID, no parts"
@@ -32,13 +32,13 @@ module _ (σ : Bindings) where
   -- "AT n, just one top part, an AMB named n": its inside
   unfoldable pub only : (n : ℕ) → Closure → Option ClosureMachine
   only n close = none
-  only n (part k h b close) = cond (sameName (Called n) (headName (under σ) h)) (some (beside b)) none
+  only n (part k h b close) = cond (sameName (Called n) (headName (viewUnder σ) h)) (some (beside b)) none
   only n (part k h b (part k₁ h₁ b₁ r)) = none
 
   -- "inside each named top AMB by rising number"
   unfoldable pub insides : Closure → List ClosureMachine
   insides close = []
-  insides (part k h b r) = cond (isNamed (headName (under σ) h)) (beside b ∷ insides r) (insides r)
+  insides (part k h b r) = cond (isNamed (headName (viewUnder σ) h)) (beside b ∷ insides r) (insides r)
 
   -- what stands after a move, with its receipt as the newest binding
   abbrev pub machineAfter : Option (Moved Action) → Option ClosureMachine

@@ -6,7 +6,8 @@ use mathlib.Core.List.{List, [], _∷_, _++_}
 use mathlib.Core.Option.{Option, none, some}
 use lib.ListN.{length}
 use lib.Dec.{ltb}
-use Rattle.rules.specs.Rule.{Names, termName, Rule, always, negation, either, void, at, beside, some-name, sometime, somewhere, placed, ruleIndex}
+use Rattle.sets.specs.Sets.{span}
+use Rattle.rules.specs.Rule.{Names, termName, Rule, truth, negation, either, void, at, beside, some-name, sometime, somewhere, placed, ruleIndex}
 
 -- What the walk asks of a process.
 pub record Space (S : Type 0) : Type 0 where
@@ -32,11 +33,6 @@ pub record Setting : Type 0 where
   pub patience : ℕ
   pub greatest : ℕ  -- G, "the greatest name in script and rule (0 if none)"
   pub parts : ℕ  -- n, "the script's parts"
-
--- from, from + 1, ..: n of them
-unfoldable pub range : (from n : ℕ) → List ℕ
-range from zero = []
-range from (suc n) = from ∷ range (suc from) n
 
 -- on a yes go on, on a no go on
 unfoldable pub onYes : Walked → (Count → Walked) → Walked
@@ -70,13 +66,13 @@ lastName s e = s .greatest + suc (length e)
 module _ {S : Type 0} (space : Space S) (s : Setting) where
   -- What a rule word does, one line a kind; `visit` visits a rule one deeper.
   unfoldable pub look : (visit : Names → Rule → S → Count → Walked) → Names → Rule → S → Count → Walked
-  look visit e (always i) b n = says true n
+  look visit e (truth i) b n = says true n
   look visit e (negation i r) b n = turned (visit e r b n)
   look visit e (either i r q) b n = onNo (visit e r b n) (λ n₁. visit e q b n₁)
   look visit e (void i) b n = says (space .isVoid b) n
   look visit e (at i t r) b n = ifAny (space .only (termName e t) b) (λ c. visit e r c n) n
   look visit e (beside i r q) b n = firstYes (λ d n₁. onYes (visit e r (d .0) n₁) (λ n₂. visit e q (d .1) n₂)) (space .divisions b) n
-  look visit e (some-name i r) b n = firstYes (λ m n₁. visit ((i, m) ∷ e) r b n₁) (range 1 (lastName s e)) n
+  look visit e (some-name i r) b n = firstYes (λ m n₁. visit ((i, m) ∷ e) r b n₁) (span 1 (lastName s e)) n
   look visit e (sometime i r) b n = onNo (visit e r b n) (λ n₁. firstYes (λ c n₂. visit e (sometime i r) c n₂) (space .nexts b) n₁)
   look visit e (somewhere i r) b n = onNo (visit e r b n) (λ n₁. firstYes (λ c n₂. visit e (somewhere i r) c n₂) (space .insides b) n₁)
   look visit e (placed i j t r) b n = visit e r (space .wrap (s .parts + j) (termName e t) b) n
@@ -85,7 +81,7 @@ module _ {S : Type 0} (space : Space S) (s : Setting) where
   unfoldable pub counted : (depth : ℕ) → Count → Count
   counted depth n = record { visits = suc (n .visits); deepest = max depth (n .deepest) }
 
-  -- A visit at that depth, `left` depths being allowed from here on. "17. Depth at most 256? 18. Are visits left?"
+  -- A visit at that depth, `left` depths being allowed from here on. "17. Depth at most 256?", "18. Are visits left?"
   unfoldable pub walk : (left depth : ℕ) → Names → Rule → S → Count → Walked
   walk zero depth e r b n = stopped 17 (ruleIndex r) (n .visits)
   walk (suc left) depth e r b n =
@@ -112,9 +108,9 @@ movesFrom make [] ts = []
 movesFrom make (a ∷ l) ts = movesTo (make a) ts ++ movesFrom make l ts
 
 unfoldable pub inOrder : {S : Type 0} → (limit : ℕ) → (make : (actor target : ℕ) → Option S) → List S
-inOrder limit make = movesFrom make (range 0 limit) (range 0 limit)
+inOrder limit make = movesFrom make (span 0 limit) (span 0 limit)
 
 -- To unfold this is to unfold every definition of this module: for a proof by computation.
 unfoldable pub computing : Unit {0}
-unfolding range onYes onNo turned ifAny firstYes look counted walk keep movesTo movesFrom inOrder
+unfolding span onYes onNo turned ifAny firstYes look counted walk keep movesTo movesFrom inOrder
 computing = tt

@@ -9,13 +9,13 @@ use lib.ListN.{getD, set, length, length-set}
 use lib.Seq.{getD-set-same, getD-set-other}
 use borrow.Author.Tests.{eqb-true, eqb-false, ltb-true, ltb-false}
 use Rattle.messages.specs.declared.First.{First}
-use Rattle.sets.specs.Sets.{members, elem, insert, remove}
-use Rattle.scripts.specs.Tree.{count}
+use Rattle.sets.specs.Sets.{members, elem, inserted, remove}
+use Rattle.scripts.specs.Tree.{timesIn}
 use Rattle.scripts.specs.Represents.{bodyIn}
 use Rattle.held_bindings.specs.Held.{bindingsOf}
 use Rattle.machine.specs.Moves.{firstOf}
 use Rattle.slices.proofs.Tests.{byTest}
-use Rattle.closure_machine.specs.Closure.{Closure, under}
+use Rattle.closure_machine.specs.Closure.{Closure, viewUnder}
 use Rattle.closures.specs.Seen.{nameIn, actOf, aimOf, busyOf, Seen}
 use Rattle.closures.specs.Represents.{headOf, heads, boundIn, Counted}
 use Rattle.targets.specs.Targets.{TargetsOf}
@@ -62,7 +62,7 @@ standing-top sets numbers top long =
     λ q. record { kids = ek q; offsets = stretch 128 64 numbers; looks = el q; bindings = bindingsAt numbers }
 
 -- a closure's parts are numbered below 64
-pub below-64 : (b : Closure) → ((i : ℕ) → 64 ≤ i → count i b ≡ 0) → (i : ℕ) → 1 ≤ count i b → i < 64
+pub below-64 : (b : Closure) → ((i : ℕ) → 64 ≤ i → timesIn i b ≡ 0) → (i : ℕ) → 1 ≤ timesIn i b → i < 64
 below-64 b inside i c = byTest (ltb i 64) (λ t. ltb-true i 64 t) (λ t. absurd (let z : ⊥ = omega (arith, inside i (ltb-false i 64 t)) in z))
 
 -- ---- an item is spent
@@ -140,8 +140,8 @@ module _ (sets numbers : List ℕ) (a o act aim busy : ℕ) (low : a < 64) (long
 
   -- the part a is read at its new offset
   module _ (script : List ℕ) (L : Lends script sets numbers) (d : Deed) (item : First) (kind : getD numbers a 0 ≡ 2) (eo : o ≡ getD numbers (128 + a) 0 + 1) (ea : act ≡ d .act) (em : aim ≡ d .aim)
-      (eb : members busy ≡ cond (d .busy) (insert a (remove a (members (getD sets 130 0)))) (remove a (members (getD sets 130 0)))) (fits : act < 256)
-      (first : o < 4294967295 → item ≡ firstOf (under (bindingsOf script (bindingsAt numbers))) (headOf script 2 (getD numbers (64 + a) 0) o))
+      (eb : members busy ≡ cond (d .busy) (inserted a (remove a (members (getD sets 130 0)))) (remove a (members (getD sets 130 0)))) (fits : act < 256)
+      (first : o < 4294967295 → item ≡ firstOf (viewUnder (bindingsOf script (bindingsAt numbers))) (headOf script 2 (getD numbers (64 + a) 0) o))
       (deed : (p : Bool) → (d .act ≡ actOf 2 item) × ((i : ℕ) → i < 64 → elem i (members (d .aim)) ≡ aimOf 2 item p (nameIn (getD sets 129 0) (stretch 192 64 numbers) i)) × (d .busy ≡ busyOf 2 item)) where
     abbrev s : State
     s = standing sets numbers
@@ -169,7 +169,7 @@ module _ (sets numbers : List ℕ) (a o act aim busy : ℕ) (low : a < 64) (long
     seen-next small = seen-spent script (kindsIn numbers) (startsIn numbers) (s .offsets) (boundIn script s) a (s .looks) (r .looks) d item within kind-is
         (L .ready .seen (λ i. lower (s .offsets) a i within small))
         (first (omega (arith, raised-is, raised-low (s .offsets) a within small))
-        ∙ (λ q. firstOf (under (boundIn script s)) (headOf script (sym kind-is q) (sym (getD-stretch 64 64 a numbers low) q) (raised-is q))))
+        ∙ (λ q. firstOf (viewUnder (boundIn script s)) (headOf script (sym kind-is q) (sym (getD-stretch 64 64 a numbers low) q) (raised-is q))))
         deed
         (kept-set (s .looks) (r .looks) a d (omega (arith, length-stretch 256 64 numbers)) (omega (arith, length-stretch 65 64 sets)) acts aims busies)
         (kept-other (s .looks) (r .looks) a d acts aims busies)
@@ -181,7 +181,7 @@ module _ (sets numbers : List ℕ) (a o act aim busy : ℕ) (low : a < 64) (long
         aims : r .looks .aims ≡ set (s .looks .aims) a (d .aim)
         aims = spent-aims ∙ ap (set (stretch 65 64 sets) a) em
 
-        busies : members (r .looks .busy) ≡ cond (d .busy) (insert a (remove a (members (s .looks .busy)))) (remove a (members (s .looks .busy)))
+        busies : members (r .looks .busy) ≡ cond (d .busy) (inserted a (remove a (members (s .looks .busy)))) (remove a (members (s .looks .busy)))
         busies = ap members spent-busy ∙ eb
 
     pub spent-lends : Lends script sets₂ numbers₂

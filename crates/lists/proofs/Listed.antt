@@ -1,6 +1,6 @@
 -- The engine's run of a list of moves, turn by turn. Assumes nothing.
 use Prim.Native.Nat.{ℕ, zero, suc, _+_, _≤_, _<_}
-use mathlib.Core.Bool.{Bool, true, false, true≢false}
+use mathlib.Core.Bool.{Bool, true, false, true≢false, and-eq-true-iff}
 use mathlib.Core.List.{List, [], _∷_, _++_, append-nil}
 use mathlib.Core.Option.{Option, none, some}
 use mathlib.Core.Path.{_≡_, refl, sym, ap, _∙_, subst}
@@ -9,7 +9,6 @@ use lib.Dec.{ltb, eqb}
 use lib.ListN.{getD, take, drop, length, take-append-drop}
 use borrow.Author.Tests.{ltb-true}
 use Rattle.messages.specs.Words.{kind, operand}
-use Rattle.machine.proofs.Options.{and-inv}
 use Rattle.closure_machine.specs.Closure.{Closure, Bindings, closureMove, ClosureMachine}
 use Rattle.closures.specs.Represents.{boundIn, Represents}
 use Rattle.closures.specs.declared.State.{State}
@@ -149,5 +148,5 @@ module _ (script kinds starts : List ℕ) (n : ℕ) (moves : List ℕ) (s : Stat
 pub fitting : (n w : ℕ) → n ≤ 64 → moveFits n w ≡ true → (actor w < 64) × (target w < 64)
 unfolding moveFits
 fitting n w l e =
-    let x = and-inv (ltb (actor w) n) (ltb (target w) n) (and-inv (ltb (operand w) 65536) _ (and-inv (eqb (kind w) 1) _ e .1) .1) in
+    let x = and-eq-true-iff (ltb (actor w) n) (ltb (target w) n) .0 (and-eq-true-iff (ltb (operand w) 65536) _ .0 (and-eq-true-iff (eqb (kind w) 1) _ .0 e .1) .1) in
     (omega (arith, ltb-true (actor w) n (x .0)), omega (arith, ltb-true (target w) n (x .1)))

@@ -9,7 +9,7 @@ use lib.Dec.{eqb, ltb}
 use borrow.Author.Tests.{eqb-true}
 use Rattle.messages.specs.Message.{Message}
 use Rattle.scripts.specs.Tree.{Head, receipt, output, isAmbient, Body, close, part, put, merge, mapHeads, settleBy, bare, Plain, settle}
-use Rattle.machine.specs.Bodies.{find, drop, alter}
+use Rattle.machine.specs.Bodies.{find, removePart, alter}
 use Rattle.machine.specs.Moves.{View, Moved, spentHead, spend, moveHere}
 use Rattle.machine.specs.PlainMachine.{plain, move}
 use Rattle.slices.proofs.Tests.{byTest}
@@ -47,10 +47,10 @@ module _ {H : Type 0} (Q : ℕ → H → Type 0) where
       subst (λ (y : H × Body H). Q n (y .0) × Everywhere Q (y .1)) q (subst (λ (k : ℕ). Q k h) (sym (eqb-true n i t)) (x .0), x .1))
       (λ t. find-everywhere n r p (rw t at e) (x .2))
 
-  pub drop-everywhere : (n : ℕ) (b : Body H) → Everywhere Q b → Everywhere Q (drop n b)
-  unfolding drop
-  drop-everywhere n close x = tt
-  drop-everywhere n (part i h b r) x = byTest (eqb n i) (λ t. rw t (drop-everywhere n r (x .2))) (λ t. rw t (x .0, x .1, drop-everywhere n r (x .2)))
+  pub removePart-everywhere : (n : ℕ) (b : Body H) → Everywhere Q b → Everywhere Q (removePart n b)
+  unfolding removePart
+  removePart-everywhere n close x = tt
+  removePart-everywhere n (part i h b r) x = byTest (eqb n i) (λ t. rw t (removePart-everywhere n r (x .2))) (λ t. rw t (x .0, x .1, removePart-everywhere n r (x .2)))
 
   pub put-everywhere : (n : ℕ) (g : H) (s b : Body H) → Q n g → Everywhere Q s → Everywhere Q b → Everywhere Q (put n g s b)
   unfolding put
@@ -101,14 +101,14 @@ module _ {A : Type 0} (view : View A) (Q : ℕ → Head A → Type 0) (K : Keeps
   here-everywhere a t b c news (by-open o e) x =
       let (p, y) = find-everywhere Q a b _ (o .actor) x in
       let (q, z) = find-everywhere Q t b _ (o .target) x in
-      ((o .doer, p), (o .goal, q), rw (o .result) (spend-everywhere a _ (merge-everywhere Q (o .room) (drop t b) z (drop-everywhere Q t b x))))
+      ((o .doer, p), (o .goal, q), rw (o .result) (spend-everywhere a _ (merge-everywhere Q (o .room) (removePart t b) z (removePart-everywhere Q t b x))))
   here-everywhere a t b c news (by-receive o) x =
       let (p, y) = find-everywhere Q a b _ (o .actor) x in
       let (q, z) = find-everywhere Q t b _ (o .target) x in (
         (receipt (o .bound), p),
         (output (o .sent), q),
         rw (o .result)
-            (merge-everywhere Q (view .delivered (o .bound) (o .sent) (o .after)) (drop t (drop a b)) (K .delivers t (o .bound) (o .sent) (o .after) q y) (drop-everywhere Q t (drop a b) (drop-everywhere Q a b x))),
+            (merge-everywhere Q (view .delivered (o .bound) (o .sent) (o .after)) (removePart t (removePart a b)) (K .delivers t (o .bound) (o .sent) (o .after) q y) (removePart-everywhere Q t (removePart a b) (removePart-everywhere Q a b x))),
       )
   here-everywhere a t b c news (by-enter o e) x =
       let (q, z) = find-everywhere Q t b _ (o .target) x in
@@ -118,7 +118,7 @@ module _ {A : Type 0} (view : View A) (Q : ℕ → Head A → Type 0) (K : Keeps
         (o .goal, q),
         rw (o .result)
             (alter-everywhere Q t (λ g. g) (put (o .mover) (o .shell) (spend view a (o .inside))) (λ k h u. u)
-            (λ d u. put-everywhere Q (o .mover) (o .shell) (spend view a (o .inside)) d s (spend-everywhere a (o .inside) y) u) (drop (o .mover) b) (drop-everywhere Q (o .mover) b x)),
+            (λ d u. put-everywhere Q (o .mover) (o .shell) (spend view a (o .inside)) d s (spend-everywhere a (o .inside) y) u) (removePart (o .mover) b) (removePart-everywhere Q (o .mover) b x)),
       )
   here-everywhere a t b c news (by-exit o e) x =
       let (q, z) = find-everywhere Q t b _ (o .target) x in
@@ -127,8 +127,8 @@ module _ {A : Type 0} (view : View A) (Q : ℕ → Head A → Type 0) (K : Keeps
         (o .doer, p),
         (o .goal, q),
         rw (o .result)
-            (put-everywhere Q (o .mover) (o .shell) (spend view a (o .inside)) (alter t (λ g. g) (drop (o .mover)) b) s (spend-everywhere a (o .inside) y)
-            (alter-everywhere Q t (λ g. g) (drop (o .mover)) (λ k h u. u) (drop-everywhere Q (o .mover)) b x)),
+            (put-everywhere Q (o .mover) (o .shell) (spend view a (o .inside)) (alter t (λ g. g) (removePart (o .mover)) b) s (spend-everywhere a (o .inside) y)
+            (alter-everywhere Q t (λ g. g) (removePart (o .mover)) (λ k h u. u) (removePart-everywhere Q (o .mover)) b x)),
       )
 
   pub makes-everywhere : (a t : ℕ) {b c : Body (Head A)} {news : List (ℕ × Message)} → Makes view (moveHere view a t) b c news → Everywhere Q b → Kept a t c

@@ -1,7 +1,7 @@
 -- What a move that is made says: which parts were found where, which names they had, and the tree that stands after it.
 -- Over any view; then what names and first items are in the plain machine. Assumes nothing.
 use Prim.Native.Nat.{ℕ}
-use mathlib.Core.Bool.{true, false, not, false≢true}
+use mathlib.Core.Bool.{true, false, not, false≢true, and-eq-true-iff}
 use mathlib.Core.List.{List, [], _∷_}
 use mathlib.Core.Path.{_≡_, refl, sym, ap, _∙_, subst, subst₂}
 use mathlib.Core.Logic.{inl, inr}
@@ -13,12 +13,12 @@ use Rattle.messages.specs.Message.{Message, name, variable, enter, exit, opens,
 use Rattle.messages.specs.declared.Named.{Named}
 use Rattle.messages.specs.declared.Named.the-variants.{Called, Nameless}
 use Rattle.scripts.specs.Tree.{Head, ambient, action, receipt, output, Body, close, part, put, merge, Plain, settle}
-use Rattle.machine.specs.Bodies.{find, drop, alter}
+use Rattle.machine.specs.Bodies.{find, removePart, alter}
 use Rattle.machine.specs.Moves.{View, isNamed, isThat, sameName, toEnter, toExit, toOpen, Moved, variableOf, messageOf, quiet, headName, firstOf, spend, enterMove, exitMove, openMove, receiveMove, moveHere, inside, anywhere}
 use Rattle.machine.specs.PlainMachine.{plain, settledBy, move}
 use Rattle.messages.specs.declared.First.{First}
 use Rattle.messages.specs.declared.First.the-variants.{Nothing, Enter, Exit, Open, Other}
-use Rattle.machine.proofs.Options.{and-inv, some-is, none≢some, bind-inv, check-inv, cond-inv, orElse-inv, onward-inv}
+use Rattle.machine.proofs.Options.{some-is, none≢some, bind-inv, check-inv, cond-inv, orElse-inv, onward-inv}
 
 pub isNamed-inv : (x : Named) → isNamed x ≡ true → (n : ℕ) × (x ≡ Called n)
 unfolding isNamed
@@ -96,7 +96,7 @@ module _ {A : Type 0} (view : View A) where
     pub target : find t b ≡ some (goal, room)
     pub asked : firstOf view doer ≡ Open (Called place)
     pub named : headName view goal ≡ Called place
-    pub result : c ≡ spend view a (merge room (drop t b))
+    pub result : c ≡ spend view a (merge room (removePart t b))
 
   -- a receipt is made: the actor and the target, both in b
   pub record Received (a t : ℕ) (b c : Body (Head A)) (news : List (ℕ × Message)) : Type 0 where
@@ -107,7 +107,7 @@ module _ {A : Type 0} (view : View A) where
     pub actor : find a b ≡ some (receipt bound, after)
     pub target : find t b ≡ some (output sent, idle)
     pub told : news ≡ (bound, sent) ∷ []
-    pub result : c ≡ merge (view .delivered bound sent after) (drop t (drop a b))
+    pub result : c ≡ merge (view .delivered bound sent after) (removePart t (removePart a b))
 
   -- IN: the ambient that moves and the target, both in b, and the actor in the ambient that moves
   pub record Entered (a t : ℕ) (b c : Body (Head A)) : Type 0 where
@@ -127,7 +127,7 @@ module _ {A : Type 0} (view : View A) where
     pub shell-named : headName view shell ≡ Called own
     pub asked : firstOf view doer ≡ Enter (Called place)
     pub named : headName view goal ≡ Called place
-    pub result : c ≡ alter t (λ e. e) (put mover shell (spend view a inside)) (drop mover b)
+    pub result : c ≡ alter t (λ e. e) (put mover shell (spend view a inside)) (removePart mover b)
 
   -- EXIT: the target in b, in it the ambient that moves, and in that the actor
   pub record Exited (a t : ℕ) (b c : Body (Head A)) : Type 0 where
@@ -146,7 +146,7 @@ module _ {A : Type 0} (view : View A) where
     pub shell-named : headName view shell ≡ Called own
     pub asked : firstOf view doer ≡ Exit (Called place)
     pub named : headName view goal ≡ Called place
-    pub result : c ≡ put mover shell (spend view a inside) (alter t (λ e. e) (drop mover) b)
+    pub result : c ≡ put mover shell (spend view a inside) (alter t (λ e. e) (removePart mover) b)
 
   -- a move made whose target stands in b
   pub data Here (a t : ℕ) (b c : Body (Head A)) (news : List (ℕ × Message)) : Type 0 where
@@ -207,8 +207,8 @@ module _ {A : Type 0} (view : View A) where
       let y = bind-inv _ _ m (p .2) in
       let z = bind-inv _ _ m (y .2) in
       let w = bind-inv _ _ m (z .2) in
-      let c = and-inv (not (eqb (p .0) t)) _ (check-inv _ (w .0) (w .1)) in
-      let d = and-inv (isNamed (headName view (y .0 .0))) _ (c .1) in
+      let c = and-eq-true-iff (not (eqb (p .0) t)) _ .0 (check-inv _ (w .0) (w .1)) in
+      let d = and-eq-true-iff (isNamed (headName view (y .0 .0))) _ .0 (c .1) in
       let n = isNamed-inv (headName view (y .0 .0)) (d .0) in
       let s = sameName-inv (toEnter (firstOf view (z .0 .0))) (headName view (x .0 .0)) (d .1) in
       let q = is-quiet (w .2) in
@@ -240,7 +240,7 @@ module _ {A : Type 0} (view : View A) where
       let y = bind-inv _ _ m (p .2) in
       let z = bind-inv _ _ m (y .2) in
       let w = bind-inv _ _ m (z .2) in
-      let d = and-inv (isNamed (headName view (y .0 .0))) _ (check-inv _ (w .0) (w .1)) in
+      let d = and-eq-true-iff (isNamed (headName view (y .0 .0))) _ .0 (check-inv _ (w .0) (w .1)) in
       let n = isNamed-inv (headName view (y .0 .0)) (d .0) in
       let s = sameName-inv (toExit (firstOf view (z .0 .0))) (headName view (x .0 .0)) (d .1) in
       let q = is-quiet (w .2) in

@@ -5,13 +5,13 @@ use Prim.Native.Nat.{ℕ}
 use mathlib.Core.Bool.{Bool, not, _&&_}
 use mathlib.Core.List.{List, [], _∷_, map}
 use mathlib.Core.Path.{_≡_, refl, ap, ap₂, _∙_}
-use mathlib.Core.Option.{Option, some, Option·map}
+use mathlib.Core.Option.{Option, some, Option·map, orElse}
 use lib.Dec.{eqb, ltb}
 use Rattle.messages.specs.Message.{Message}
 use Rattle.messages.specs.declared.Named.{Named}
 use Rattle.messages.specs.declared.Named.the-variants.{Called, Nameless}
 use Rattle.scripts.specs.Tree.{Head, ambient, action, receipt, output, isAmbient, Body, close, part, tops, put, merge, mapHeads, settleBy}
-use Rattle.machine.specs.Bodies.{orElse, check, find, drop, alter, holder}
+use Rattle.machine.specs.Bodies.{check, find, removePart, alter, holder}
 use Rattle.machine.specs.Moves.{View, isNamed, sameName, toEnter, toExit, toOpen, Moved, variableOf, messageOf, quiet, onward, headName, firstOf, spentHead, spend, enterMove, exitMove, openMove, receiveMove, moveHere, inside, anywhere}
 use Rattle.messages.specs.declared.First.{First}
 use Rattle.messages.specs.declared.First.the-variants.{Nothing, Enter, Exit, Open, Other}
@@ -29,10 +29,10 @@ module _ {G H : Type 0} (F : G → H) where
   find-map n close = refl
   find-map n (part i h b r) = byTest (eqb n i) (λ t. rw t) (λ t. rw t (find-map n r))
 
-  pub drop-map : (n : ℕ) (b : Body G) → drop n (mapHeads F b) ≡ mapHeads F (drop n b)
-  unfolding drop mapHeads
-  drop-map n close = refl
-  drop-map n (part i h b r) = byTest (eqb n i) (λ t. rw t (drop-map n r)) (λ t. rw t (ap (part i (F h) (mapHeads F b)) (drop-map n r)))
+  pub removePart-map : (n : ℕ) (b : Body G) → removePart n (mapHeads F b) ≡ mapHeads F (removePart n b)
+  unfolding removePart mapHeads
+  removePart-map n close = refl
+  removePart-map n (part i h b r) = byTest (eqb n i) (λ t. rw t (removePart-map n r)) (λ t. rw t (ap (part i (F h) (mapHeads F b)) (removePart-map n r)))
 
   pub put-map : (n : ℕ) (g : G) (s b : Body G) → put n (F g) (mapHeads F s) (mapHeads F b) ≡ mapHeads F (put n g s b)
   unfolding put mapHeads
@@ -228,7 +228,7 @@ module _ {A B : Type 0} (old : View A) (new : View B) (onAction : A → B) (onMe
         bind-map (mapPart F) K _ _ _ _ (find-map F t b) (λ g _.
         bind-map (mapPart F) K _ _ _ _ (find-map F a b) (λ f _.
         bind-same K _ _ _ _ (ap check (asked-map toOpen (toOpen-map ρ) (f .0) (g .0))) (λ u _.
-        ap some (ap quiet (simp (drop-map F, merge-map F, spend-map)) ∙ quietly (spend old a (merge (g .1) (drop t b)))))))
+        ap some (ap quiet (simp (removePart-map F, merge-map F, spend-map)) ∙ quietly (spend old a (merge (g .1) (removePart t b)))))))
 
     pub enter-map : (a t : ℕ) (b : Body (Head A)) → enterMove new a t (mapHeads F b) ≡ Option·map K (enterMove old a t b)
     unfolding enterMove
@@ -238,9 +238,9 @@ module _ {A B : Type 0} (old : View A) (new : View B) (onAction : A → B) (onMe
         bind-map (mapPart F) K _ _ _ _ (find-map F p b) (λ h _.
         bind-map (mapPart F) K _ _ _ _ (find-map F a (h .1)) (λ f _.
         bind-same K _ _ _ _ (ap check (ap (λ (x : Bool). not (eqb p t) && x) (ap₂ _&&_ (named-map (h .0)) (asked-map toEnter (toEnter-map ρ) (f .0) (g .0))))) (λ u _.
-        ap some (ap quiet (ap (alter t (λ e. e) _) (drop-map F p b)
-        ∙ alter-map F t (λ e. e) (λ e. e) (put p (F (h .0)) (spend new a (mapHeads F (h .1)))) (put p (h .0) (spend old a (h .1))) (λ e. refl) (λ s. rw (spend-map a (h .1)) (put-map F p (h .0) (spend old a (h .1)) s)) (drop p b))
-        ∙ quietly (alter t (λ e. e) (put p (h .0) (spend old a (h .1))) (drop p b))))))))
+        ap some (ap quiet (ap (alter t (λ e. e) _) (removePart-map F p b)
+        ∙ alter-map F t (λ e. e) (λ e. e) (put p (F (h .0)) (spend new a (mapHeads F (h .1)))) (put p (h .0) (spend old a (h .1))) (λ e. refl) (λ s. rw (spend-map a (h .1)) (put-map F p (h .0) (spend old a (h .1)) s)) (removePart p b))
+        ∙ quietly (alter t (λ e. e) (put p (h .0) (spend old a (h .1))) (removePart p b))))))))
 
     pub exit-map : (a t : ℕ) (b : Body (Head A)) → exitMove new a t (mapHeads F b) ≡ Option·map K (exitMove old a t b)
     unfolding exitMove
@@ -250,15 +250,15 @@ module _ {A B : Type 0} (old : View A) (new : View B) (onAction : A → B) (onMe
         bind-map (mapPart F) K _ _ _ _ (find-map F p (g .1)) (λ h _.
         bind-map (mapPart F) K _ _ _ _ (find-map F a (h .1)) (λ f _.
         bind-same K _ _ _ _ (ap check (ap₂ _&&_ (named-map (h .0)) (asked-map toExit (toExit-map ρ) (f .0) (g .0)))) (λ u _.
-        ap some (ap quiet (ap₂ (put p (F (h .0))) (spend-map a (h .1)) (alter-map F t (λ e. e) (λ e. e) (drop p) (drop p) (λ e. refl) (drop-map F p) b)
-        ∙ put-map F p (h .0) (spend old a (h .1)) (alter t (λ e. e) (drop p) b))
-        ∙ quietly (put p (h .0) (spend old a (h .1)) (alter t (λ e. e) (drop p) b))))))))
+        ap some (ap quiet (ap₂ (put p (F (h .0))) (spend-map a (h .1)) (alter-map F t (λ e. e) (λ e. e) (removePart p) (removePart p) (λ e. refl) (removePart-map F p) b)
+        ∙ put-map F p (h .0) (spend old a (h .1)) (alter t (λ e. e) (removePart p) b))
+        ∙ quietly (put p (h .0) (spend old a (h .1)) (alter t (λ e. e) (removePart p) b))))))))
 
     -- a receipt, where what is delivered is the same
     pub receive-map : (a t : ℕ) (b : Body (Head A)) →
         ((v : ℕ) (m : Message) (s c : Body (Head A)) → find a b ≡ some (receipt v, s) → find t b ≡ some (output m, c) →
-        record { body = merge (new .delivered v (onMessage m) (mapHeads F s)) (mapHeads F (drop t (drop a b))); news = (v, onMessage m) ∷ [] }
-        ≡ K (record { body = merge (old .delivered v m s) (drop t (drop a b)); news = (v, m) ∷ [] })) →
+        record { body = merge (new .delivered v (onMessage m) (mapHeads F s)) (mapHeads F (removePart t (removePart a b))); news = (v, onMessage m) ∷ [] }
+        ≡ K (record { body = merge (old .delivered v m s) (removePart t (removePart a b)); news = (v, m) ∷ [] })) →
         receiveMove new a t (mapHeads F b) ≡ Option·map K (receiveMove old a t b)
     unfolding receiveMove
     receive-map a t b d =
@@ -266,7 +266,7 @@ module _ {A B : Type 0} (old : View A) (new : View B) (onAction : A → B) (onMe
         bind-map (mapPart F) K _ _ _ _ (find-map F a b) (λ h eh.
         bind-same K _ _ _ _ (variableOf-map onAction onMessage (h .0)) (λ v ev.
         bind-map onMessage K _ _ _ _ (messageOf-map onAction onMessage (g .0)) (λ m em.
-        ap some (rw (drop-map F a b, drop-map F t (drop a b)) (d v m (h .1) (g .1) (found eh (variableOf-inv (h .0) v ev)) (found eg (messageOf-inv (g .0) m em))))))))
+        ap some (rw (removePart-map F a b, removePart-map F t (removePart a b)) (d v m (h .1) (g .1) (found eh (variableOf-inv (h .0) v ev)) (found eg (messageOf-inv (g .0) m em))))))))
 
     pub here-map : (a t : ℕ) (b : Body (Head A)) → receiveMove new a t (mapHeads F b) ≡ Option·map K (receiveMove old a t b) →
         moveHere new a t (mapHeads F b) ≡ Option·map K (moveHere old a t b)

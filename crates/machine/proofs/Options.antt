@@ -1,16 +1,12 @@
 -- Laws of look-ups that may find nothing, and of tests: what follows where one finds something, and that they commute with
 -- maps. Assumes nothing.
-use mathlib.Core.Bool.{Bool, true, false, _&&_, cond, false≢true}
+use mathlib.Core.Bool.{Bool, true, false, cond}
 use mathlib.Core.Path.{_≡_, refl, sym, ap}
 use mathlib.Core.Logic.{_⊎_, inl, inr}
-use mathlib.Core.Option.{Option, none, some, Option·map, Option·none-ne-some, Option·some-injective}
-use Rattle.machine.specs.Bodies.{_>>=_, orElse, check}
+use mathlib.Core.Option.{Option, none, some, Option·map, Option·none-ne-some, Option·some-injective, orElse}
+use Rattle.machine.specs.Bodies.{_>>=_, check}
 use Rattle.machine.specs.Moves.{Moved, onward}
 use Rattle.scripts.specs.Tree.{Head, Body}
-
-pub and-inv : (s t : Bool) → (s && t) ≡ true → (s ≡ true) × (t ≡ true)
-and-inv true t e = (refl, e)
-and-inv false t e = absurd (false≢true e)
 
 pub some-is : {A : Type 0} {x y : A} → some x ≡ some y → x ≡ y
 some-is {x = x} {y = y} e = Option·some-injective x y e

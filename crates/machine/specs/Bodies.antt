@@ -1,5 +1,5 @@
--- Looking parts up in a body and rewriting it, by part numbers. Each operation goes through the parts as the operation of
--- the same kind on rising lists does (crate sets). Assumes nothing: these are definitions.
+-- Looking parts up in a body and rewriting it, by part numbers; `removePart` goes through the parts as `remove` does through
+-- the numbers of a list (crate sets). Assumes nothing: these are definitions.
 use Prim.Native.Nat.{ℕ}
 use mathlib.Core.Bool.{Bool, true, false, cond}
 use mathlib.Core.Option.{Option, none, some}
@@ -13,11 +13,6 @@ unfoldable pub _>>=_ : {A B : Type 0} → Option A → (A → Option B) → Opti
 none >>= k = none
 some a >>= k = k a
 
--- the first, or where there is none the second
-unfoldable pub orElse : {A : Type 0} → Option A → Option A → Option A
-orElse none y = y
-orElse (some x) y = some x
-
 unfoldable pub check : Bool → Option (Unit {0})
 check true = some tt
 check false = none
@@ -29,9 +24,9 @@ module _ {H : Type 0} where
   find n (part i h b r) = cond (eqb n i) (some (h, b)) (find n r)
 
   -- the body without its own part n
-  unfoldable pub drop : ℕ → Body H → Body H
-  drop n close = close
-  drop n (part i h b r) = cond (eqb n i) (drop n r) (part i h b (drop n r))
+  unfoldable pub removePart : ℕ → Body H → Body H
+  removePart n close = close
+  removePart n (part i h b r) = cond (eqb n i) (removePart n r) (part i h b (removePart n r))
 
   -- the body with the head and the inside of its own part n changed
   unfoldable pub alter : ℕ → (H → H) → (Body H → Body H) → Body H → Body H
@@ -45,5 +40,5 @@ module _ {H : Type 0} where
 
 -- To unfold this is to unfold every definition of this module: for a proof by computation.
 unfoldable pub computing : Unit {0}
-unfolding _>>=_ orElse check find drop alter holder elem
+unfolding _>>=_ check find removePart alter holder elem
 computing = tt

@@ -1,4 +1,4 @@
--- The definitions of the plain machine. Assumes nothing: these are definitions.
+-- Moves, over any way of holding actions, and the plain machine. Assumes nothing: these are definitions.
 pub mod Bodies
 pub mod Moves
 pub mod PlainMachine

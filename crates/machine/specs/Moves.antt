@@ -3,13 +3,13 @@
 use Prim.Native.Nat.{ℕ}
 use mathlib.Core.Bool.{Bool, true, false, not, _&&_, cond}
 use mathlib.Core.List.{List, [], _∷_}
-use mathlib.Core.Option.{Option, none, some}
+use mathlib.Core.Option.{Option, none, some, orElse}
 use lib.Dec.{eqb}
 use Rattle.messages.specs.Message.{Message}
 use Rattle.messages.specs.declared.Named.{Named}
 use Rattle.messages.specs.declared.Named.the-variants.{Called, Nameless}
 use Rattle.scripts.specs.Tree.{Head, ambient, action, receipt, output, Body, close, part, put, merge}
-use Rattle.machine.specs.Bodies.{_>>=_, orElse, check, find, drop, alter, holder}
+use Rattle.machine.specs.Bodies.{_>>=_, check, find, removePart, alter, holder}
 use Rattle.messages.specs.declared.First.{First}
 use Rattle.messages.specs.declared.First.the-variants.{Nothing, Enter, Exit, Open, Other}
 
@@ -116,7 +116,7 @@ module _ {A : Type 0} (view : View A) where
     (h, inside) ← find p b
     (f, _) ← find a inside
     _ ← check (not (eqb p t) && (isNamed (headName h) && sameName (toEnter (firstOf f)) (headName g)))
-    some (quiet (alter t (λ e. e) (put p h (spend a inside)) (drop p b)))
+    some (quiet (alter t (λ e. e) (put p h (spend a inside)) (removePart p b)))
 
   -- "EXIT: the target is the AMB named m directly around p, p named; p comes out beside it."
   unfoldable pub exitMove : (actor target : ℕ) → Body (Head A) → Option (Moved A)
@@ -126,7 +126,7 @@ module _ {A : Type 0} (view : View A) where
     (h, inside) ← find p room
     (f, _) ← find a inside
     _ ← check (isNamed (headName h) && sameName (toExit (firstOf f)) (headName g))
-    some (quiet (put p h (spend a inside) (alter t (λ e. e) (drop p) b)))
+    some (quiet (put p h (spend a inside) (alter t (λ e. e) (removePart p) b)))
 
   -- "OPEN: the target is an AMB named m in the actor's own body; it goes, its body stays."
   unfoldable pub openMove : (actor target : ℕ) → Body (Head A) → Option (Moved A)
@@ -134,7 +134,7 @@ module _ {A : Type 0} (view : View A) where
     (g, inside) ← find t b
     (f, _) ← find a b
     _ ← check (sameName (toOpen (firstOf f)) (headName g))
-    some (quiet (spend a (merge inside (drop t b))))
+    some (quiet (spend a (merge inside (removePart t b))))
 
   -- "The actor is a REC, the target an OUT in the same body: both go, the receipt's body stands there"
   unfoldable pub receiveMove : (actor target : ℕ) → Body (Head A) → Option (Moved A)
@@ -143,7 +143,7 @@ module _ {A : Type 0} (view : View A) where
     (h, inside) ← find a b
     v ← variableOf h
     m ← messageOf g
-    some (record { body = merge (view .delivered v m inside) (drop t (drop a b)); news = (v, m) ∷ [] })
+    some (record { body = merge (view .delivered v m inside) (removePart t (removePart a b)); news = (v, m) ∷ [] })
 
   -- the move (a, t), where its target stands in this very body
   unfoldable pub moveHere : (actor target : ℕ) → Body (Head A) → Option (Moved A)
@@ -163,5 +163,5 @@ module _ {A : Type 0} (view : View A) where
 
 -- To unfold this is to unfold every definition of this module: for a proof by computation.
 unfoldable pub computing : Unit {0}
-unfolding isNamed sameName toEnter toExit toOpen variableOf messageOf onward headName firstOf spentHead enterMove exitMove openMove receiveMove moveHere inside
+unfolding isNamed sameName toEnter toExit toOpen variableOf messageOf onward headName firstOf spentHead enterMove exitMove openMove receiveMove moveHere inside orElse
 computing = tt

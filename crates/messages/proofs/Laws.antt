@@ -9,7 +9,7 @@ use native.Mathlib.Numerals.{add-one}
 use lib.Dec.{leb}
 use lib.ListN.{length, getD, drop, length-drop}
 use borrow.Author.Tests.{leb-true}
-use Rattle.messages.specs.Reading.{Cursor, cursor, Reading, refuse, got, _>>=_, ask, split, nextWord, outcome}
+use Rattle.messages.specs.Reading.{Cursor, cursor, Reading, refuse, got, _>>=_, ask, takeWord, nextWord, outcome}
 use Rattle.messages.specs.Message.{Message, name, variable, enter, exit, opens, empty, path}
 use Rattle.messages.specs.ReadMessage.{messageWord, fits, bound, messageFrom, readMessage, follow, asked}
 use Rattle.messages.specs.declared.MessageWord.{MessageWord}
@@ -165,9 +165,9 @@ module _ (i : ℕ) (read : Cursor → Reading (Message × Cursor)) (c : Cursor) 
 
 step : (f nest : ℕ) (around : List ℕ) (at number w : ℕ) (ws : List ℕ) →
     outcome (readMessage (suc f) nest around (cursor at number (w ∷ ws))) ≡ counted (asked nest around (messageWord w)) at (readMessage f (suc nest) around) (cursor (suc at) number ws)
-unfolding readMessage split asked
+unfolding readMessage takeWord asked
 step f nest around at number w ws =
-    ap (λ (x : Reading (Message × Cursor)). outcome x) (bind-got (split 5 at number (w ∷ ws)) _ (w, cursor (suc at) number ws) refl)
+    ap (λ (x : Reading (Message × Cursor)). outcome x) (bind-got (takeWord 5 at number (w ∷ ws)) _ (w, cursor (suc at) number ws) refl)
     ∙ questions at (readMessage f (suc nest) around) (cursor (suc at) number ws) (fits (messageWord w)) (bound around (messageWord w)) (leb nest 64) (follow (messageWord w)) _
     (from-counted at (readMessage f (suc nest) around) (cursor (suc at) number ws) (messageWord w))
 

@@ -6,7 +6,7 @@ use mathlib.Core.Path.{_≡_, refl}
 use native.Mathlib.Omega.{arith}
 use lib.Dec.{leb}
 use lib.ListN.{length}
-use Rattle.messages.specs.Reading.{Cursor, Reading, refuse, got, _>>=_, ask, split, nextWord}
+use Rattle.messages.specs.Reading.{Cursor, Reading, refuse, got, _>>=_, ask, takeWord, nextWord}
 use Rattle.messages.specs.Message.{Message, enter, exit, opens}
 use Rattle.messages.specs.ReadMessage.{messageWord, fits, bound, messageFrom, readMessage}
 use Rattle.messages.specs.declared.MessageWord.{MessageWord}
@@ -29,10 +29,10 @@ unfolding ask
 ask-within x q i true h = tt
 ask-within x q i false h = h
 
-split-within : (x q i n : ℕ) (l : List ℕ) → i ≤ x → Within x (split q i n l)
-unfolding split
-split-within x q i n [] h = h
-split-within x q i n (w ∷ ws) h = tt
+takeWord-within : (x q i n : ℕ) (l : List ℕ) → i ≤ x → Within x (takeWord q i n l)
+unfolding takeWord
+takeWord-within x q i n [] h = h
+takeWord-within x q i n (w ∷ ws) h = tt
 
 -- the words that are left end at x or sooner
 abbrev pub Ends : ℕ → Cursor → Type 0
@@ -42,7 +42,7 @@ pub ends-on : (x : ℕ) (c d : Cursor) → Advances c d → Ends x c → Ends x 
 ends-on x c d a h = omega (arith, a .within)
 
 pub next-within : (x q : ℕ) (c : Cursor) → Ends x c → Within x (nextWord q c)
-next-within x q c h = split-within x q (c .index) (c .number) (c .left) (omega arith)
+next-within x q c h = takeWord-within x q (c .index) (c .number) (c .left) (omega arith)
 
 pub next-ends : (x q : ℕ) (c : Cursor) (p : ℕ × Cursor) → nextWord q c ≡ got p → Ends x c → Ends x (p .1)
 next-ends x q c p e h = ends-on x c (p .1) (next-advances c p (next q c p e)) h

@@ -6,7 +6,7 @@ use mathlib.Core.Path.{_≡_, refl, sym, ap, _∙_, subst}
 use native.Mathlib.Omega.{arith}
 use lib.ListN.{length, drop}
 use lib.Seq.{drop-drop}
-use Rattle.messages.specs.Reading.{Cursor, cursor, Reading, refuse, got, _>>=_, ask, split, nextWord, isEmpty, outcome}
+use Rattle.messages.specs.Reading.{Cursor, cursor, Reading, refuse, got, _>>=_, ask, takeWord, nextWord, isEmpty, outcome}
 use Rattle.messages.specs.declared.Outcome.{Outcome}
 use Rattle.messages.specs.declared.Outcome.the-variants.{Read, Refused}
 
@@ -92,8 +92,8 @@ pub record Next (c : Cursor) (p : ℕ × Cursor) : Type 0 where
   pub index : p .1 .index ≡ suc (c .index)
   pub number : p .1 .number ≡ c .number
 
-next-word : (q i n : ℕ) (l : List ℕ) (p : ℕ × Cursor) → split q i n l ≡ got p → Next (cursor i n l) p
-unfolding split
+next-word : (q i n : ℕ) (l : List ℕ) (p : ℕ × Cursor) → takeWord q i n l ≡ got p → Next (cursor i n l) p
+unfolding takeWord
 next-word q i n [] p e = refuse≢got e
 next-word q i n (w ∷ ws) p e = subst (λ (x : ℕ × Cursor). Next (cursor i n (w ∷ ws)) x) (got-inj e) (record { words = refl; index = refl; number = refl })
 
@@ -115,13 +115,13 @@ pub advances-shorter : (c d : Cursor) → Advances c d → length (d .left) ≤ 
 advances-shorter c d a = omega (arith, a .ahead, a .within)
 
 -- at the end there is no next word
-split-end : (q i n : ℕ) (l : List ℕ) → length l ≡ 0 → split q i n l ≡ refuse q i
-unfolding split
-split-end q i n [] e = refl
-split-end q i n (w ∷ ws) e = absurd (omega arith)
+takeWord-end : (q i n : ℕ) (l : List ℕ) → length l ≡ 0 → takeWord q i n l ≡ refuse q i
+unfolding takeWord
+takeWord-end q i n [] e = refl
+takeWord-end q i n (w ∷ ws) e = absurd (omega arith)
 
 pub next-end : (q : ℕ) (c : Cursor) → length (c .left) ≡ 0 → nextWord q c ≡ refuse q (c .index)
-next-end q c h = split-end q (c .index) (c .number) (c .left) h
+next-end q c h = takeWord-end q (c .index) (c .number) (c .left) h
 
 -- whether words are left
 pub left-none : (l : List ℕ) → length l ≡ 0 → isEmpty l ≡ true

@@ -16,7 +16,7 @@ use Rattle.messages.specs.declared.Asked.the-variants.{Leaf, One, Two, N
 abbrev pub ifZero : ℕ → MessageWord → MessageWord
 ifZero o w = cond (eqb o 0) w Unfit
 
--- "8 NAME, operand 1 to 255; 9 VAR, operand the index of a REC; A IN, B EXIT, C OPEN; D EMPTY; E PATH"
+-- "8 NAME, operand 1 to 255; 9 VAR, operand the index of a REC .. A IN, B EXIT, C OPEN .. D EMPTY; E PATH"
 abbrev pub messageKind : (kind operand : ℕ) → MessageWord
 messageKind k o =
     cond (eqb k 8) (cond (nameFits o) (Name o) Unfit)

@@ -32,13 +32,13 @@ ask q i true = got tt
 ask q i false = refuse q i
 
 -- the words at hand, the first taken off; where there is none, the text does not end: question q, at the length
-unfoldable pub split : (question index number : ℕ) → List ℕ → Reading (ℕ × Cursor)
-split q i n [] = refuse q i
-split q i n (w ∷ ws) = got (w, cursor (suc i) n ws)
+unfoldable pub takeWord : (question index number : ℕ) → List ℕ → Reading (ℕ × Cursor)
+takeWord q i n [] = refuse q i
+takeWord q i n (w ∷ ws) = got (w, cursor (suc i) n ws)
 
 -- the next word, and the cursor behind it
 abbrev pub nextWord : (question : ℕ) → Cursor → Reading (ℕ × Cursor)
-nextWord q c = split q (c .index) (c .number) (c .left)
+nextWord q c = takeWord q (c .index) (c .number) (c .left)
 
 -- a part begins: the next one has the next number
 abbrev pub nextPart : Cursor → Cursor
@@ -57,5 +57,5 @@ outcome (got p) = Read (p .1 .index)
 
 -- To unfold this is to unfold every definition of this module: for a proof by computation.
 unfoldable pub computing : Unit {0}
-unfolding _>>=_ ask split outcome
+unfolding _>>=_ ask takeWord outcome
 computing = tt

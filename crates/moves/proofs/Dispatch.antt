@@ -1,6 +1,6 @@
 -- A move that can be made is the one of the actor's kind, and what is kept of the actor tells which. Assumes nothing.
 use Prim.Native.Nat.{ℕ, _+_, _≤_, _<_}
-use mathlib.Core.Bool.{true, false, true≢false}
+use mathlib.Core.Bool.{true, false, true≢false, and-eq-true-iff}
 use mathlib.Core.List.{List}
 use mathlib.Core.Logic.{inl, inr}
 use mathlib.Core.Path.{_≡_, refl, sym, ap, _∙_, subst}
@@ -15,8 +15,7 @@ use Rattle.scripts.specs.Tree.{ambient, action, receipt, output}
 use Rattle.scripts.specs.Represents.{bodyIn}
 use Rattle.machine.specs.Moves.{toEnter, toExit, toOpen, variableOf, firstOf}
 use Rattle.slices.proofs.Tests.{byTest}
-use Rattle.machine.proofs.Options.{and-inv}
-use Rattle.closure_machine.specs.Closure.{ClosureHead, Closure, Bindings, under, closureMove}
+use Rattle.closure_machine.specs.Closure.{ClosureHead, Closure, Bindings, viewUnder, closureMove}
 use Rattle.closures.specs.Represents.{heads, boundIn, Ready, Represents}
 use Rattle.closures.specs.Searches.{place, Stands}
 use Rattle.closures.specs.Seen.{itemAct, actUnder}
@@ -49,21 +48,21 @@ module _ (σ : Bindings) (k : ℕ → List ℕ) (w : ℕ → ClosureHead) (p q a
   opener : (h : ClosureHead) → w a ≡ h → actUnder σ h ≡ 1 → canMoveFrom σ k w p q a t ≡ canOpen σ k w p a t
   unfolding actUnder
   opener (ambient m) e u = absurd (let z : ⊥ = omega arith in z)
-  opener (action l) e u = let (n, d) = said-open (firstOf (under σ) (action l)) u in by-opener σ k w p q a t n (ap (firstOf (under σ)) e ∙ d)
+  opener (action l) e u = let (n, d) = said-open (firstOf (viewUnder σ) (action l)) u in by-opener σ k w p q a t n (ap (firstOf (viewUnder σ)) e ∙ d)
   opener (receipt v) e u = absurd (let z : ⊥ = omega arith in z)
   opener (output m) e u = absurd (let z : ⊥ = omega arith in z)
 
   enterer : (h : ClosureHead) → w a ≡ h → actUnder σ h ≡ 2 → canMoveFrom σ k w p q a t ≡ canEnter σ k w p q a t
   unfolding actUnder
   enterer (ambient m) e u = absurd (let z : ⊥ = omega arith in z)
-  enterer (action l) e u = let (n, d) = said-enter (firstOf (under σ) (action l)) u in by-enterer σ k w p q a t n (ap (firstOf (under σ)) e ∙ d)
+  enterer (action l) e u = let (n, d) = said-enter (firstOf (viewUnder σ) (action l)) u in by-enterer σ k w p q a t n (ap (firstOf (viewUnder σ)) e ∙ d)
   enterer (receipt v) e u = absurd (let z : ⊥ = omega arith in z)
   enterer (output m) e u = absurd (let z : ⊥ = omega arith in z)
 
   receiver : (h : ClosureHead) → w a ≡ h → actUnder σ h ≡ 4 → canMoveFrom σ k w p q a t ≡ canReceive σ k w p a t
   unfolding actUnder itemAct
   receiver (ambient m) e u = absurd (let z : ⊥ = omega arith in z)
-  receiver (action l) e u = no-four (firstOf (under σ) (action l)) u
+  receiver (action l) e u = no-four (firstOf (viewUnder σ) (action l)) u
     where
       no-four : {A : Type 0} (x : First) → itemAct x ≡ 4 → A
       no-four Nothing v = absurd (let z : ⊥ = omega arith in z)
@@ -77,17 +76,17 @@ module _ (σ : Bindings) (k : ℕ → List ℕ) (w : ℕ → ClosureHead) (p q a
   -- one that neither opens nor enters nor receives comes out, or does nothing
   leaver : (h : ClosureHead) → w a ≡ h → (actUnder σ h ≡ 1 → ⊥) → (actUnder σ h ≡ 2 → ⊥) → (actUnder σ h ≡ 4 → ⊥) → canMoveFrom σ k w p q a t ≡ true → canExit σ k w p q a t ≡ true
   unfolding actUnder itemAct firstOf variableOf toOpen toEnter toExit
-  leaver (ambient m) e o i r y = absurd (true≢false (sym y ∙ by-idler σ k w p q a t Nothing (ap (firstOf (under σ)) e) (ap variableOf e) refl refl refl))
-  leaver (action l) e o i r y = by-first (firstOf (under σ) (action l)) refl o i
+  leaver (ambient m) e o i r y = absurd (true≢false (sym y ∙ by-idler σ k w p q a t Nothing (ap (firstOf (viewUnder σ)) e) (ap variableOf e) refl refl refl))
+  leaver (action l) e o i r y = by-first (firstOf (viewUnder σ) (action l)) refl o i
     where
-      by-first : (x : First) → firstOf (under σ) (action l) ≡ x → (itemAct x ≡ 1 → ⊥) → (itemAct x ≡ 2 → ⊥) → canExit σ k w p q a t ≡ true
-      by-first Nothing d o i = absurd (true≢false (sym y ∙ by-idler σ k w p q a t Nothing (ap (firstOf (under σ)) e ∙ d) (ap variableOf e) refl refl refl))
+      by-first : (x : First) → firstOf (viewUnder σ) (action l) ≡ x → (itemAct x ≡ 1 → ⊥) → (itemAct x ≡ 2 → ⊥) → canExit σ k w p q a t ≡ true
+      by-first Nothing d o i = absurd (true≢false (sym y ∙ by-idler σ k w p q a t Nothing (ap (firstOf (viewUnder σ)) e ∙ d) (ap variableOf e) refl refl refl))
       by-first (Enter n) d o i = absurd (i refl)
-      by-first (Exit n) d o i = sym (by-leaver σ k w p q a t n (ap (firstOf (under σ)) e ∙ d)) ∙ y
+      by-first (Exit n) d o i = sym (by-leaver σ k w p q a t n (ap (firstOf (viewUnder σ)) e ∙ d)) ∙ y
       by-first (Open n) d o i = absurd (o refl)
-      by-first Other d o i = absurd (true≢false (sym y ∙ by-idler σ k w p q a t Other (ap (firstOf (under σ)) e ∙ d) (ap variableOf e) refl refl refl))
+      by-first Other d o i = absurd (true≢false (sym y ∙ by-idler σ k w p q a t Other (ap (firstOf (viewUnder σ)) e ∙ d) (ap variableOf e) refl refl refl))
   leaver (receipt v) e o i r y = absurd (r refl)
-  leaver (output m) e o i r y = absurd (true≢false (sym y ∙ by-idler σ k w p q a t Nothing (ap (firstOf (under σ)) e) (ap variableOf e) refl refl refl))
+  leaver (output m) e o i r y = absurd (true≢false (sym y ∙ by-idler σ k w p q a t Nothing (ap (firstOf (viewUnder σ)) e) (ap variableOf e) refl refl refl))
 
   -- nothing stands nowhere
   pub nowhere : 65 ≤ p → canMoveFrom σ k w p q a t ≡ false
@@ -135,21 +134,21 @@ module _ (script kinds starts : List ℕ) (weight spent : ℕ) (s : State) (b : 
   pub inside-some : (act ≡ 1 → ⊥) → (act ≡ 4 → ⊥) → P a < 64
   unfolding canEnter canExit
   inside-some o r = byTest (eqb act 2)
-      (λ e. ltb-true (P a) 64 (and-inv (ltb (P a) 64) _ (to-enter (eqb-true act 2 e)) .0))
-      (λ e. ltb-true (P a) 64 (and-inv (ltb (P a) 64) _ (to-exit o (eqb-false act 2 e) r) .0))
+      (λ e. ltb-true (P a) 64 (and-eq-true-iff (ltb (P a) 64) _ .0 (to-enter (eqb-true act 2 e)) .0))
+      (λ e. ltb-true (P a) 64 (and-eq-true-iff (ltb (P a) 64) _ .0 (to-exit o (eqb-false act 2 e) r) .0))
 
   -- who enters goes with a part that stands somewhere
   pub enter-from : act ≡ 2 → P (P a) < 65
   unfolding canEnter
-  enter-from e = ltb-true (P (P a)) 65 (and-inv (ltb (P (P a)) 65) _ (and-inv (ltb (P a) 64) _ (to-enter e) .1) .0)
+  enter-from e = ltb-true (P (P a)) 65 (and-eq-true-iff (ltb (P (P a)) 65) _ .0 (and-eq-true-iff (ltb (P a) 64) _ .0 (to-enter e) .1) .0)
 
   -- who comes out does so of the part around, which stands somewhere
   pub exit-to : t < 64 → (act ≡ 1 → ⊥) → (act ≡ 2 → ⊥) → (act ≡ 4 → ⊥) → (P (P a) ≡ t) × (P t < 65)
   unfolding canExit
   exit-to lt o i r =
-      let u = and-inv (ltb (P a) 64) _ (to-exit o i r) in
-      let v = and-inv (ltb (P (P a)) 64) _ (u .1) in
-      let e : t ≡ P (P a) = eqb-true t (P (P a)) (and-inv (eqb t (P (P a))) _ (v .1) .0) in
+      let u = and-eq-true-iff (ltb (P a) 64) _ .0 (to-exit o i r) in
+      let v = and-eq-true-iff (ltb (P (P a)) 64) _ .0 (u .1) in
+      let e : t ≡ P (P a) = eqb-true t (P (P a)) (and-eq-true-iff (eqb t (P (P a))) _ .0 (v .1) .0) in
       let c : place σ (P a) b ≡ t = sym (right (P a) (ltb-true (P a) 64 (u .0))) ∙ sym e in (
         sym e,
         subst (λ (n : ℕ). n < 65) (sym (right t lt)) (around (place-active σ k w b stands (P a) t c (omega arith) .1)),

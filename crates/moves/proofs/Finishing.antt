@@ -1,7 +1,7 @@
 -- The moves as the engine makes them: the sets are changed, the actor's item is spent or its variable bound, and the state
 -- is settled. Assumes nothing.
 use Prim.Native.Nat.{ℕ, _+_, _-_, _<_}
-use mathlib.Core.Bool.{true, false, not, true≢false}
+use mathlib.Core.Bool.{true, false, not, true≢false, and-eq-true-iff}
 use mathlib.Core.List.{List, [], _∷_, _++_}
 use mathlib.Core.Path.{_≡_, refl, sym, ap, _∙_, subst}
 use native.Mathlib.Omega.{arith}
@@ -13,15 +13,14 @@ use Rattle.messages.specs.declared.Named.{Named}
 use Rattle.messages.specs.declared.Named.the-variants.{Nameless}
 use Rattle.messages.specs.declared.First.{First}
 use Rattle.messages.specs.declared.First.the-variants.{Nothing}
-use Rattle.sets.specs.Sets.{members, elem, insert, remove, join}
+use Rattle.sets.specs.Sets.{members, elem, inserted, remove, joined}
 use Rattle.scripts.specs.Tree.{receipt, output}
 use Rattle.scripts.specs.Represents.{bodyIn}
 use Rattle.held_bindings.specs.Held.{bindingsOf}
 use Rattle.held_bindings.specs.declared.Bindings as arrays
 use Rattle.machine.specs.Moves.{sameName, toEnter, toExit, toOpen, firstOf, headName, variableOf, messageOf}
 use Rattle.machine.proofs.Inversion.{here-inv}
-use Rattle.machine.proofs.Options.{and-inv}
-use Rattle.closure_machine.specs.Closure.{ClosureHead, Closure, Bindings, under, settleUnder}
+use Rattle.closure_machine.specs.Closure.{ClosureHead, Closure, Bindings, viewUnder, settleUnder}
 use Rattle.closures.specs.Represents.{headOf, heads, boundIn, Ready, Represents}
 use Rattle.closures.specs.Searches.{place, Stands}
 use Rattle.closures.specs.declared.State.{State}
@@ -41,9 +40,9 @@ module _ (script : List ℕ) (kind start offset : ℕ) (σ : Bindings) where
   h = headOf script kind start offset
 
   -- a part whose first item says a name is an action
-  pub says-name : (said : First → Named) (g : Named) → said Nothing ≡ Nameless → sameName (said (firstOf (under σ) h)) g ≡ true → kind ≡ 2
+  pub says-name : (said : First → Named) (g : Named) → said Nothing ≡ Nameless → sameName (said (firstOf (viewUnder σ) h)) g ≡ true → kind ≡ 2
   unfolding firstOf sameName
-  says-name said g n = by-kind script kind start offset (λ x. sameName (said (firstOf (under σ) x)) g ≡ true → kind ≡ 2)
+  says-name said g n = by-kind script kind start offset (λ x. sameName (said (firstOf (viewUnder σ) x)) g ≡ true → kind ≡ 2)
       (λ e u. silent u) (λ e u. e) (λ e u. silent u) (λ x y z u. silent u)
     where
       silent : sameName (said Nothing) g ≡ true → kind ≡ 2
@@ -91,56 +90,56 @@ module _ (script kinds starts : List ℕ) (s s′ r : State) (same : r .bindings
     spends : (weight spent : ℕ) (b : Closure) → spent + 1 < 4294967295 → Represents script kinds starts weight spent s b → getD kinds a 0 ≡ 2 → Raised (s .offsets) (s′ .offsets) a
     spends weight spent b low R e = subst (λ (o : List ℕ). Raised (s .offsets) o a) (sym (raised e (omega (arith, R .spends a)))) (set-raised (s .offsets) a (getD (s .offsets) a 0 + 1) within refl)
 
-    pub opens : (p t m : ℕ) → p < length (s .kids) → s′ .kids ≡ set (s .kids) p m → members m ≡ join (k t) (remove t (k p)) → Opens script kinds starts s r p a t
+    pub opens : (p t m : ℕ) → p < length (s .kids) → s′ .kids ≡ set (s .kids) p m → members m ≡ joined (k t) (remove t (k p)) → Opens script kinds starts s r p a t
     unfolding canOpen toOpen
     opens p t m low ek em weight spent b few R (ep, can) =
-        let u = and-inv (elem t (k p)) _ (and-inv (ltb p 65) _ can .1) in
-        let kind : getD kinds a 0 ≡ 2 = says-name script (getD kinds a 0) (getD starts a 0) (getD (s .offsets) a 0) σ toOpen (headName (under σ) (w t)) refl (u .1) in
+        let u = and-eq-true-iff (elem t (k p)) _ .0 (and-eq-true-iff (ltb p 65) _ .0 can .1) in
+        let kind : getD kinds a 0 ≡ 2 = says-name script (getD kinds a 0) (getD starts a 0) (getD (s .offsets) a 0) σ toOpen (headName (viewUnder σ) (w t)) refl (u .1) in
         finish weight spent b R a t (spent + 1) few [] (ap (bindingsOf script) bound)
         (open-made script kinds starts weight spent s b R a t s′ (spends weight spent b few R kind) first p ep can
-        (subst (λ (x : List ℕ). Replaced k (bodyIn x) p (join (k t) (remove t (k p)))) (sym ek) (set-replaced (s .kids) p m (join (k t) (remove t (k p))) low em)))
+        (subst (λ (x : List ℕ). Replaced k (bodyIn x) p (joined (k t) (remove t (k p)))) (sym ek) (set-replaced (s .kids) p m (joined (k t) (remove t (k p))) low em)))
 
     module _ (p from into m n : ℕ) (low : from < length (s .kids)) (high : into < length (s .kids)) (ek : s′ .kids ≡ set (set (s .kids) from m) into n)
-        (loses : members m ≡ remove p (k from)) (gains : members n ≡ insert p (bodyIn (set (s .kids) from m) into)) where
+        (loses : members m ≡ remove p (k from)) (gains : members n ≡ inserted p (bodyIn (set (s .kids) from m) into)) where
       carried : (from ≡ into → ⊥) → Carried k (bodyIn (s′ .kids)) p from into
       carried two = subst (λ (x : List ℕ). Carried k (bodyIn x) p from into) (sym ek) (set-carried (s .kids) p from into m n low high two loses gains)
 
       pub enters : Enters script kinds starts s r p from a into
       unfolding canEnter toEnter
       enters weight spent b few R (ep, eq, can) =
-          let u₀ = and-inv (ltb from 65) _ (and-inv (ltb p 64) _ can .1) in
-          let u₁ = and-inv (elem into (k from)) _ (u₀ .1) in
-          let u₂ = and-inv (not (eqb into p)) _ (u₁ .1) in
+          let u₀ = and-eq-true-iff (ltb from 65) _ .0 (and-eq-true-iff (ltb p 64) _ .0 can .1) in
+          let u₁ = and-eq-true-iff (elem into (k from)) _ .0 (u₀ .1) in
+          let u₂ = and-eq-true-iff (not (eqb into p)) _ .0 (u₁ .1) in
           let Q : Stands k w b = represented script kinds starts weight spent s b R in
           let here : place σ into b ≡ from = place-of σ k w b Q from into (place-active σ k w b Q p from eq (ltb-true from 65 (u₀ .0)) .1) (u₁ .0) in
           let two : from ≡ into → ⊥ = λ e. place-apart σ k w b Q into (omega (arith, here, ltb-true from 65 (u₀ .0))) (sym e ∙ sym here) in
-          let kind : getD kinds a 0 ≡ 2 = says-name script (getD kinds a 0) (getD starts a 0) (getD (s .offsets) a 0) σ toEnter (headName (under σ) (w into)) refl (u₂ .1) in
+          let kind : getD kinds a 0 ≡ 2 = says-name script (getD kinds a 0) (getD starts a 0) (getD (s .offsets) a 0) σ toEnter (headName (viewUnder σ) (w into)) refl (u₂ .1) in
           finish weight spent b R a into (spent + 1) few [] (ap (bindingsOf script) bound)
           (enter-made script kinds starts weight spent s b R a into s′ (spends weight spent b few R kind) first p from ep eq can (carried two))
 
       pub exits : into < 65 → Exits script kinds starts s r p from into a
       unfolding canExit toExit
       exits small weight spent b few R (ep, eq, ec, can) =
-          let u₀ = and-inv (ltb from 64) _ (and-inv (ltb p 64) _ can .1) in
-          let u₁ = and-inv (eqb from from) _ (u₀ .1) in
+          let u₀ = and-eq-true-iff (ltb from 64) _ .0 (and-eq-true-iff (ltb p 64) _ .0 can .1) in
+          let u₁ = and-eq-true-iff (eqb from from) _ .0 (u₀ .1) in
           let Q : Stands k w b = represented script kinds starts weight spent s b R in
           let two : from ≡ into → ⊥ = λ e. place-apart σ k w b Q from (omega (arith, ec)) (e ∙ sym ec) in
-          let kind : getD kinds a 0 ≡ 2 = says-name script (getD kinds a 0) (getD starts a 0) (getD (s .offsets) a 0) σ toExit (headName (under σ) (w from)) refl (u₁ .1) in
+          let kind : getD kinds a 0 ≡ 2 = says-name script (getD kinds a 0) (getD starts a 0) (getD (s .offsets) a 0) σ toExit (headName (viewUnder σ) (w from)) refl (u₁ .1) in
           finish weight spent b R a from (spent + 1) few [] (ap (bindingsOf script) bound)
           (exit-made script kinds starts weight spent s b R a from s′ (spends weight spent b few R kind) first p from into ep eq ec can (carried two))
 
   -- ---- a receipt
 
   pub receives : (p a t m : ℕ) → s′ .offsets ≡ s .offsets → s′ .bindings .first + 1 ≡ s .bindings .first → boundIn script s′ ≡ (getD starts a 0, messageAt (drop (getD starts t 0) script)) ∷ σ
-      → p < length (s .kids) → s′ .kids ≡ set (s .kids) p m → members m ≡ join (k a) (remove t (remove a (k p))) → Receives script kinds starts s r p a t
+      → p < length (s .kids) → s′ .kids ≡ set (s .kids) p m → members m ≡ joined (k a) (remove t (remove a (k p))) → Receives script kinds starts s r p a t
   unfolding canReceive
   receives p a t m eo ef eb low ek em weight spent b few R (ep, can) =
-      let u = and-inv (isSome (variableOf (w a))) _ (and-inv (elem t (k p)) _ (and-inv (ltb p 65) _ can .1) .1) in
+      let u = and-eq-true-iff (isSome (variableOf (w a))) _ .0 (and-eq-true-iff (elem t (k p)) _ .0 (and-eq-true-iff (ltb p 65) _ .0 can .1) .1) in
       let ea : w a ≡ receipt (getD starts a 0) = receipt-is script (getD kinds a 0) (getD starts a 0) (getD (s .offsets) a 0) σ (u .0) in
       let et : w t ≡ output (messageAt (drop (getD starts t 0) script)) = output-is script (getD kinds t 0) (getD starts t 0) (getD (s .offsets) t 0) σ (u .1) in
       finish weight spent b R a t (spent + 1) few ((getD starts a 0, messageAt (drop (getD starts t 0) script)) ∷ []) eb
       (receive-made script kinds starts weight spent s b R a t s′ (λ i. ap (λ (o : List ℕ). getD o i 0) (sym eo)) ef (getD starts a 0) (messageAt (drop (getD starts t 0) script)) ea et p ep can
-      (subst (λ (x : List ℕ). Replaced k (bodyIn x) p (join (k a) (remove t (remove a (k p))))) (sym ek) (set-replaced (s .kids) p m (join (k a) (remove t (remove a (k p)))) low em)) (spent + 1) (omega arith))
+      (subst (λ (x : List ℕ). Replaced k (bodyIn x) p (joined (k a) (remove t (remove a (k p))))) (sym ek) (set-replaced (s .kids) p m (joined (k a) (remove t (remove a (k p)))) low em)) (spent + 1) (omega arith))
 
 -- a receipt that can be made finds two parts, so that there is room for one more binding
 pub room : (script kinds starts : List ℕ) (s : State) (weight spent : ℕ) (b : Closure) → Represents script kinds starts weight spent s b → (p a t : ℕ) → place (boundIn script s) a b ≡ p
@@ -150,9 +149,9 @@ room script kinds starts s weight spent b R p a t ep can z =
     let σ = boundIn script s in
     let k = bodyIn (s .kids) in
     let w = heads script kinds starts (s .offsets) in
-    let u = and-inv (isSome (variableOf (w a))) _ (and-inv (elem t (k p)) _ (and-inv (ltb p 65) _ can .1) .1) in
+    let u = and-eq-true-iff (isSome (variableOf (w a))) _ .0 (and-eq-true-iff (elem t (k p)) _ .0 (and-eq-true-iff (ltb p 65) _ .0 can .1) .1) in
     let ea : w a ≡ receipt (getD starts a 0) = receipt-is script (getD kinds a 0) (getD starts a 0) (getD (s .offsets) a 0) σ (u .0) in
     let et : w t ≡ output (messageAt (drop (getD starts t 0) script)) = output-is script (getD kinds t 0) (getD starts t 0) (getD (s .offsets) t 0) σ (u .1) in
     let (S, i, made) = receive-at σ k w b (represented script kinds starts weight spent s b R) a t (subst (λ (x : ℕ). canReceive σ k w x a t ≡ true) (sym ep) can) _ _ ea et in
-    let less = shrinks σ a t (S .here) _ (here-inv (under σ) a t (S .here) _ made) (λ j. 1) 2 (λ x y. omega arith) in
+    let less = shrinks σ a t (S .here) _ (here-inv (viewUnder σ) a t (S .here) _ made) (λ j. 1) 2 (λ x y. omega arith) in
     omega (arith, less, S .less (λ j. 1), R .weighs, R .light)

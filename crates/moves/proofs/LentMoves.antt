@@ -8,7 +8,7 @@ use lib.Dec.{eqb}
 use lib.ListN.{getD, set, length, length-set}
 use lib.Seq.{getD-set-other}
 use borrow.Author.Tests.{eqb-true, eqb-false}
-use Rattle.sets.specs.Sets.{members, insert, remove, join}
+use Rattle.sets.specs.Sets.{members, inserted, remove, joined}
 use Rattle.scripts.specs.Represents.{bodyIn}
 use Rattle.slices.proofs.Tests.{byTest}
 use Rattle.closure_machine.specs.Closure.{Closure, settleUnder}
@@ -65,13 +65,13 @@ module _ (script sets numbers sets₁ sets₂ numbers₂ sets₃ : List ℕ) (L 
       → Represents script′ (kindsIn numbers) starts′ weight spent (standing sets₃ numbers₂) (settleUnder (boundIn script′ (standing sets₂ numbers₂)) b)
   then script′ starts′ weight spent b = settled script′ (kindsIn numbers) starts′ weight spent b ek
 
-  module _ (p t m : ℕ) (lp : p < 65) (lt : t < 65) (changed : sets₁ ≡ set sets p m) (em : members m ≡ join (bodyIn sets t) (remove t (bodyIn sets p))) where
+  module _ (p t m : ℕ) (lp : p < 65) (lt : t < 65) (changed : sets₁ ≡ set sets p m) (em : members m ≡ joined (bodyIn sets t) (remove t (bodyIn sets p))) where
     pub opened : Opens script (kindsIn numbers) (startsIn numbers) s (standing sets₃ numbers₂) p a t
     opened = opens script (kindsIn numbers) (startsIn numbers) s (standing sets₂ numbers₂) (standing sets₃ numbers₂) refl ready then a bound within raised p t m (inside p lp)
         (same ∙ ap (λ (l : List ℕ). standing l numbers .kids) changed ∙ kids-set sets p m lp (L .sets-long))
-        (em ∙ (λ q. join (sym (body-in sets t lt) q) (remove t (sym (body-in sets p lp) q))))
+        (em ∙ (λ q. joined (sym (body-in sets t lt) q) (remove t (sym (body-in sets p lp) q))))
 
-  module _ (p from into m n : ℕ) (lf : from < 65) (li : into < 65) (changed : sets₁ ≡ set (set sets from m) into n) (loses : members m ≡ remove p (bodyIn sets from)) (gains : members n ≡ insert p (bodyIn (set sets from m) into)) where
+  module _ (p from into m n : ℕ) (lf : from < 65) (li : into < 65) (changed : sets₁ ≡ set (set sets from m) into n) (loses : members m ≡ remove p (bodyIn sets from)) (gains : members n ≡ inserted p (bodyIn (set sets from m) into)) where
     kids : standing sets₂ numbers₂ .kids ≡ set (set (s .kids) from m) into n
     kids = same ∙ ap (λ (l : List ℕ). standing l numbers .kids) changed ∙ kids-set (set sets from m) into n li (length-set sets from m ∙ L .sets-long)
         ∙ ap (λ (l : List ℕ). set l into n) (kids-set sets from m lf (L .sets-long))
@@ -79,8 +79,8 @@ module _ (script sets numbers sets₁ sets₂ numbers₂ sets₃ : List ℕ) (L 
     lost : members m ≡ remove p (bodyIn (s .kids) from)
     lost = loses ∙ ap (remove p) (sym (body-in sets from lf))
 
-    gained : members n ≡ insert p (bodyIn (set (s .kids) from m) into)
-    gained = gains ∙ ap (insert p) (sym (body-in (set sets from m) into li) ∙ ap (λ (l : List ℕ). bodyIn l into) (kids-set sets from m lf (L .sets-long)))
+    gained : members n ≡ inserted p (bodyIn (set (s .kids) from m) into)
+    gained = gains ∙ ap (inserted p) (sym (body-in (set sets from m) into li) ∙ ap (λ (l : List ℕ). bodyIn l into) (kids-set sets from m lf (L .sets-long)))
 
     pub entered : Enters script (kindsIn numbers) (startsIn numbers) s (standing sets₃ numbers₂) p from a into
     entered = enters script (kindsIn numbers) (startsIn numbers) s (standing sets₂ numbers₂) (standing sets₃ numbers₂) refl ready then a bound within raised p from into m n (inside from lf) (inside into li) kids lost gained
@@ -103,14 +103,14 @@ module _ (script sets numbers sets₁ numbers₁ sets₂ : List ℕ) (kinds star
     ready₁ : Ready script (kindsIn numbers) (startsIn numbers) (standing sets₁ numbers₁)
     ready₁ = transport (λ q. Ready script (ek q) (es q) (sym en q)) ready
 
-    some : (was .bindings .first ≡ 0 → ⊥) → Received script (kindsIn numbers) (startsIn numbers) was (standing sets₁ numbers₁) p a t
-    some n = transport (λ q. Received script (ek q) (es q) (eo q) (sym en q) p a t) (R (λ e. n (ap (λ (x : State). x .bindings .first) (sym eo) ∙ e)))
+    if-some : (was .bindings .first ≡ 0 → ⊥) → Received script (kindsIn numbers) (startsIn numbers) was (standing sets₁ numbers₁) p a t
+    if-some n = transport (λ q. Received script (ek q) (es q) (eo q) (sym en q) p a t) (R (λ e. n (ap (λ (x : State). x .bindings .first) (sym eo) ∙ e)))
 
     pub receipt-made : Receives script (kindsIn numbers) (startsIn numbers) was (standing sets₂ numbers₁) p a t
     receipt-made weight spent b few H can = byTest (eqb (was .bindings .first) 0)
         (λ u. absurd (room script (kindsIn numbers) (startsIn numbers) was weight spent b H p a t (can .0) (can .1) (eqb-true _ 0 u)))
         (λ u.
-        let Z = some (eqb-false _ 0 u) in
+        let Z = if-some (eqb-false _ 0 u) in
         receives script (kindsIn numbers) (startsIn numbers) was (standing sets₁ numbers₁) (standing sets₂ numbers₁) refl ready₁
         (λ script′ starts′ w o d. settled script′ (kindsIn numbers) starts′ w o d (ek₁ ∙ ek))
         p a t (Z .set-of) (Z .offsets) (Z .first) (Z .news) (omega (arith, lp, length-set (stretch 0 65 sets) 64 (getD sets 64 0), length-stretch 0 65 sets)) (Z .kids) (Z .members-of) weight spent b few H can)

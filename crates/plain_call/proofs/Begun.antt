@@ -1,7 +1,7 @@
 -- The tree that a script begins with is good: settled, its parts numbered apart and below the number of parts, its receipts'
 -- variables apart, and no variable free; and it stands for what is written. Assumes nothing.
 use Prim.Native.Nat.{ℕ, _+_, _≤_}
-use mathlib.Core.Bool.{true, false}
+use mathlib.Core.Bool.{false, true≢false}
 use mathlib.Core.List.{List, _∷_}
 use mathlib.Core.Path.{_≡_, refl, sym, ap, _∙_, subst}
 use native.Mathlib.Omega.{arith}
@@ -12,14 +12,15 @@ use Rattle.messages.specs.Reading.{Cursor, got, nextPart}
 use Rattle.messages.specs.Message.{Message, items, mentions}
 use Rattle.messages.proofs.Readings.{Next}
 use Rattle.messages.proofs.Cases as message
-use Rattle.scripts.specs.Tree.{Head, close, part, one, sum, parts, count, mapHeads, bare, settle}
+use Rattle.scripts.specs.Tree.{Head, close, part, oneIf, total, parts, timesIn, mapHeads, bare, settle}
 use Rattle.scripts.specs.Script.{Written, Script, readScript, holdHead, hold, started}
 use Rattle.scripts.proofs.Numbers.{Range, two-ranges, sooner, one-range, numbered-range}
 use Rattle.scripts.proofs.Cases as body
 use Rattle.scripts.proofs.Tabled.{script-tabled, script-number}
 use Rattle.slices.proofs.Tests.{byTest}
-use Rattle.machine.proofs.Sums.{map-sum, settle-sum}
-use Rattle.calculus.specs.Calculus.{Process, _∣_, action, input, _≅_, piece, process, prefix}
+use Rattle.machine.proofs.Sums.{map-total, settle-total}
+use Rattle.calculus.specs.Calculus.{Process, _‖_, action, input, _≅_}
+use Rattle.calculus.specs.TreeProcess.{piece, process, prefix}
 use Rattle.calculus.specs.Written.{written}
 use Rattle.messages.proofs.Mentioning.{mentions-other}
 use Rattle.calculus.proofs.Variables.{free, free-same, free-other}
@@ -36,9 +37,6 @@ use Rattle.calculus.specs.Calculus as calculus
 record Known (around : List ℕ) (c : Cursor) (p : Message × Cursor) : Type 0 where
   rises : c .index ≤ p .1 .index
   bound : (v : ℕ) → member v around ≡ false → mentions v (p .0) ≡ 0
-
-true≢false : {B : Type 0} → true ≡ false → B
-true≢false e = let z : _≡_ {A = ℕ} 0 1 = cc in absurd (let w : ⊥ = omega arith in w)
 
 message-known : message.Cases Known
 unfolding mentions
@@ -61,10 +59,10 @@ record Bound (around : List ℕ) (c : Cursor) (p : Script × Cursor) : Type 0 wh
   rises : c .index ≤ p .1 .index
   receipts : (v : ℕ) → Range v (c .index) (p .1 .index) (bindings v (hold (p .0)))
   bound : (v : ℕ) → member v around ≡ false → free v (process (hold (p .0))) ≡ 0
-  itemised : sum (λ k h. untidy h) (hold (p .0)) ≡ 0
+  itemised : total (λ k h. untidy h) (hold (p .0)) ≡ 0
 
 none-bound : (around : List ℕ) (c d : Cursor) → c .index ≤ d .index → Bound around c (close, d)
-unfolding hold mapHeads sum process free
+unfolding hold mapHeads total process free
 none-bound around c d l = record {
   rises = l;
   receipts = λ v. record { once = omega arith; under = λ h. refl; over = λ h. refl };
@@ -77,7 +75,7 @@ module _ (around : List ℕ) (c : Cursor) (q : ℕ × Cursor) (x : Next c q) (m 
   with-message : (h : Head Message) (b r : Script × Cursor) → Bound around (m .1) b → Bound around (b .1) r
       → ((v : ℕ) → binds v (holdHead h) ≡ 0) → untidy (holdHead h) ≡ 0 → ((v : ℕ) (p : Process) → mentions v (m .0) ≡ 0 → free v p ≡ 0 → free v (piece (holdHead h) p) ≡ 0)
       → Bound around c (part (c .number) (body.at (c .index) h) (b .0) (r .0), r .1)
-  unfolding hold mapHeads sum process free
+  unfolding hold mapHeads total process free
   with-message h b r B R z u f = record {
     rises = omega (arith, x .index, k .rises, B .rises, R .rises);
     receipts = λ v.
@@ -92,7 +90,7 @@ free-prefix : (m : Message) (v : ℕ) (p : Process) → mentions v m ≡ 0 → f
 unfolding free
 free-prefix m v p a b = omega (arith, free-cong v (action-items m {p = p}))
 
-both-free : (v : ℕ) (p q : Process) → free v p ≡ 0 → free v q ≡ 0 → free v (p ∣ q) ≡ 0
+both-free : (v : ℕ) (p q : Process) → free v p ≡ 0 → free v q ≡ 0 → free v (p ‖ q) ≡ 0
 unfolding free
 both-free v p q x y = omega arith
 
@@ -103,7 +101,7 @@ member-cons v i around t d = rw (ne-eqb v i (λ e. eqb-false i v t (sym e)), d)
 
 receipt-bound : (around : List ℕ) (c : Cursor) (q : ℕ × Cursor) (b r : Script × Cursor) → Next c q → Bound (c .index ∷ around) (nextPart (q .1)) b → Bound around (b .1) r
     → Bound around c (part (c .number) (body.at (c .index) (Head.receipt (c .index))) (b .0) (r .0), r .1)
-unfolding hold mapHeads sum process holdHead binds untidy piece
+unfolding hold mapHeads total process holdHead binds untidy piece
 receipt-bound around c q b r x B R = record {
   rises = omega (arith, x .index, B .rises, R .rises);
   receipts = λ v.
@@ -129,10 +127,10 @@ body-bound = record {
 -- ---- the tree
 
 -- how often a number stands in the script's tree as it is held
-held-range : (ws : List ℕ) (p : Script × Cursor) → readScript ws ≡ got p → (j : ℕ) → Range j 0 (0 + parts (p .0)) (count j (hold (p .0)))
+held-range : (ws : List ℕ) (p : Script × Cursor) → readScript ws ≡ got p → (j : ℕ) → Range j 0 (0 + parts (p .0)) (timesIn j (hold (p .0)))
 unfolding hold
 held-range ws p e j =
-    subst (Range j 0 (0 + parts (p .0))) (sym (map-sum (λ i h. one (eqb j i)) (λ (w : Written). holdHead (w .head)) (p .0))) (numbered-range j 0 (p .0) (script-tabled ws p e .numbered))
+    subst (Range j 0 (0 + parts (p .0))) (sym (map-total (λ i h. oneIf (eqb j i)) (λ (w : Written). holdHead (w .head)) (p .0))) (numbered-range j 0 (p .0) (script-tabled ws p e .numbered))
 
 -- THEOREM: the process of the tree that a script begins with is the script's as it is written, up to structural congruence.
 pub script-written : (ws : List ℕ) (p : Script × Cursor) → readScript ws ≡ got p → process (started (p .0)) ≅ written (p .0)
@@ -144,12 +142,12 @@ unfolding started settle hold member
 script-good ws p e =
     let B = body.script-case Known Bound body-bound ws p e in
     let n : p .1 .number ≡ parts (p .0) = script-number ws p e in
-    let held : (j : ℕ) → Range j 0 (0 + parts (p .0)) (count j (hold (p .0))) = held-range ws p e in
+    let held : (j : ℕ) → Range j 0 (0 + parts (p .0)) (timesIn j (hold (p .0))) = held-range ws p e in
     record {
       settled = settle-settled (hold (p .0)) (B .itemised);
-      itemised = omega (arith, settle-sum (λ k h. untidy h) bare (hold (p .0)), B .itemised);
-      distinct = λ k. omega (arith, settle-sum (λ i h. one (eqb k i)) bare (hold (p .0)), held k .once);
-      below = λ k h. omega (arith, settle-sum (λ i h. one (eqb k i)) bare (hold (p .0)), held k .over (omega arith));
-      once = λ v. omega (arith, settle-sum (λ i h. binds v h) bare (hold (p .0)), B .receipts v .once);
-      unbound = closed-cong (calculus.Symm (settle-process (hold (p .0)) (λ k. held k .once))) (λ v. B .bound v refl);
+      itemised = omega (arith, settle-total (λ k h. untidy h) bare (hold (p .0)), B .itemised);
+      distinct = λ k. omega (arith, settle-total (λ i h. oneIf (eqb k i)) bare (hold (p .0)), held k .once);
+      below = λ k h. omega (arith, settle-total (λ i h. oneIf (eqb k i)) bare (hold (p .0)), held k .over (omega arith));
+      once = λ v. omega (arith, settle-total (λ i h. binds v h) bare (hold (p .0)), B .receipts v .once);
+      unbound = closed-cong (calculus.StructSymm (settle-process (hold (p .0)) (λ k. held k .once))) (λ v. B .bound v refl);
     }

@@ -1,7 +1,7 @@
 -- The questions before the moves: what follows where all are answered by yes, and where one is answered by no. Assumes
 -- nothing.
 use Prim.Native.Nat.{ℕ, _+_, _≤_}
-use mathlib.Core.Bool.{_&&_}
+use mathlib.Core.Bool.{_&&_, and-eq-true-iff}
 use mathlib.Core.Path.{_≡_, refl, ap, _∙_}
 use native.Mathlib.Omega.{arith}
 use lib.Dec.{leb}
@@ -11,7 +11,6 @@ use Rattle.messages.specs.Reading.{Cursor, Reading, refuse, got, ask}
 use Rattle.messages.proofs.Readings.{bind-inv, bind-all, got-all, bind-got, bind-refuse, ask-inv}
 use Rattle.messages.proofs.Places.{Within, bind-within, ask-within}
 use Rattle.scripts.specs.Script.{Script, readScript}
-use Rattle.machine.proofs.Options.{and-inv}
 use Rattle.rules.specs.Rule.{Rule}
 use Rattle.rules.specs.ReadRule.{readWholeRule}
 use Rattle.rule_reader.proofs.Places.{rule-within}
@@ -47,7 +46,7 @@ pub terms-patience : (p k : ℕ) (u : Unit {0}) → terms p k ≡ got u → p �
 unfolding terms
 terms-patience p k u e =
     let x = bind-inv (ask 13 0 (leb 1 p && leb p 16777216)) (λ v. ask 14 0 _) u e in
-    leb-true p 16777216 (and-inv (leb 1 p) (leb p 16777216) (ask-inv 13 0 _ (x .0) (x .1)) .1)
+    leb-true p 16777216 (and-eq-true-iff (leb 1 p) (leb p 16777216) .0 (ask-inv 13 0 _ (x .0) (x .1)) .1)
 
 terms-within : (x p k : ℕ) → Within x (terms p k)
 unfolding terms
@@ -92,11 +91,11 @@ module _ (c : Call) (s : Start) where
 -- ---- from the script's own start, along whose line no move is made
 
 module _ (c : Call) (p : Script × Cursor) (r : Rule × Cursor) (e : readWholeRule (p .1 .number) (c .rule) ≡ got r) where
-  none : terms (c .patience) (0 + length (c .moves)) ≡ terms (c .patience) (length (c .moves))
-  none = let z : 0 + length (c .moves) ≡ length (c .moves) = omega arith in ap (terms (c .patience)) z
+  no-more : terms (c .patience) (0 + length (c .moves)) ≡ terms (c .patience) (length (c .moves))
+  no-more = let z : 0 + length (c .moves) ≡ length (c .moves) = omega arith in ap (terms (c .patience)) z
 
   pub own-unasked : (q i : ℕ) → terms (c .patience) (length (c .moves)) ≡ refuse q i → door c (startOf (c .script) p) ≡ refuse q i
-  own-unasked q i d = door-unasked c (startOf (c .script) p) r e q i (none ∙ d)
+  own-unasked q i d = door-unasked c (startOf (c .script) p) r e q i (no-more ∙ d)
 
   pub own-got : terms (c .patience) (length (c .moves)) ≡ got tt → door c (startOf (c .script) p) ≡ got r
-  own-got d = door-got c (startOf (c .script) p) r e (none ∙ d)
+  own-got d = door-got c (startOf (c .script) p) r e (no-more ∙ d)

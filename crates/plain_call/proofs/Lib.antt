@@ -1,5 +1,6 @@
 -- The theorems about the call as a definition: demand 2, the moves as reductions, the weight, the bound, how small an answer
--- is, what patience and buffers can't change, and the same told by closures.
+-- is, that its trees rise, what patience and buffers can't change, the written tree read again, and the same told by closures.
+-- Assumes nothing.
 pub mod Runs
 pub mod Door
 pub mod Begun

@@ -11,7 +11,7 @@ use lib.Dec.{leb, eqb}
 use lib.ListN.{length, length-append, take}
 use borrow.Author.Tests.{leb-true, leb-false, le-leb}
 use Rattle.messages.specs.Words.{kind, operand, word, nameFits, member}
-use Rattle.messages.specs.Reading.{Cursor, cursor, Reading, refuse, got, _>>=_, ask, split, nextWord, nextPart, isEmpty}
+use Rattle.messages.specs.Reading.{Cursor, cursor, Reading, refuse, got, _>>=_, ask, takeWord, nextWord, nextPart, isEmpty}
 use Rattle.messages.specs.Message.{Message, name, variable, enter, exit, opens, empty, path, mentions}
 use Rattle.messages.specs.ReadMessage.{ifZero, messageKind, messageWord, fits, bound, messageFrom, readMessage}
 use Rattle.messages.specs.declared.MessageWord.{MessageWord}
@@ -31,7 +31,8 @@ use Rattle.slices.proofs.Tests.{byTest}
 use Rattle.machine.proofs.Everywhere.{Everywhere, map-everywhere, settle-everywhere}
 use Rattle.message_writer.specs.Write.{Indices, newIndex, writeMessage, whole, writeHead, within, writeInside, write, writePart}
 use Rattle.message_writer.proofs.Trees.{write-part}
-use Rattle.calculus.specs.Calculus.{Process, input, piece, process}
+use Rattle.calculus.specs.Calculus.{Process, input}
+use Rattle.calculus.specs.TreeProcess.{piece, process}
 use Rattle.calculus.proofs.Variables.{eqb-same, free, free-other}
 use Rattle.calculus.proofs.Substitutions.{Closed}
 use Rattle.calculus.proofs.Kept.{Good, good-move}
@@ -153,7 +154,7 @@ judged-level nest i = byTest (leb nest 64) (λ t. rw t (passed (leb-true nest 64
 
 -- a word that is there
 judged-word : {B : Type 0} (n : ℕ) (c : Cursor) (w : ℕ) (ws : List ℕ) (k : ℕ × Cursor → Reading B) → c .left ≡ w ∷ ws → Judged n (k (w, cursor (suc (c .index)) (c .number) ws)) → Judged n (nextWord 5 c >>= k)
-unfolding split
+unfolding takeWord
 judged-word n c w ws k e h = subst (Judged n) (sym (bind-got (nextWord 5 c) k (w, cursor (suc (c .index)) (c .number) ws) (rw e))) h
 
 -- ---- messages

@@ -15,7 +15,8 @@ use Rattle.scripts.specs.Script.{Script, readScript}
 use Rattle.machine.specs.Moves.{Moved}
 use Rattle.machine.specs.PlainMachine.{move, Machine}
 use Rattle.slices.proofs.Tests.{byTest}
-use Rattle.calculus.specs.Calculus.{Refl, Symm, process}
+use Rattle.calculus.specs.Calculus.{StructRefl, StructSymm}
+use Rattle.calculus.specs.TreeProcess.{process}
 use Rattle.calculus.specs.Written.{stop, Leads}
 use Rattle.calculus.specs.Written as calculus
 use Rattle.calculus.proofs.Writings.{leads-congruent, leads-step}
@@ -34,7 +35,7 @@ use Rattle.plain_call.proofs.Verdicts.{answer-stands, verdict-yes, verd
 
 -- every word of a list that is made is one reduction
 pub run-leads : (n : ℕ) (i : ℕ) (ws : List ℕ) (m l : Machine) → Good n (m .tree) → run n i ws m ≡ moved l → Leads (length ws) (process (m .tree)) (process (l .tree))
-run-leads n i [] m l g e = subst (λ (k : Machine). Leads 0 (process (m .tree)) (process (k .tree))) (run-none n i m l e) (process (m .tree), stop, Refl)
+run-leads n i [] m l g e = subst (λ (k : Machine). Leads 0 (process (m .tree)) (process (k .tree))) (run-none n i m l e) (process (m .tree), stop, StructRefl)
 run-leads n i (w ∷ ws) m l g e =
     let s = run-step n i w ws m l e in
     leads-step (move-reduces (actor w) (target w) (m .tree) (s .result) (g .distinct) (g .once) (s .makes))
@@ -44,7 +45,7 @@ run-leads n i (w ∷ ws) m l g e =
 -- as it has words.
 pub list-leads : (ws : List ℕ) (p : Script × Cursor) → readScript ws ≡ got p → (moves : List ℕ) (m : Machine) → run (p .1 .number) 0 moves (begun (p .0)) ≡ moved m
     → Leads (length moves) (calculus.written (p .0)) (process (m .tree))
-list-leads ws p e moves m d = leads-congruent (Symm (script-written ws p e)) (run-leads (p .1 .number) 0 moves (begun (p .0)) m (script-good ws p e) d)
+list-leads ws p e moves m d = leads-congruent (StructSymm (script-written ws p e)) (run-leads (p .1 .number) 0 moves (begun (p .0)) m (script-good ws p e) d)
 
 -- THEOREM: and so the first k moves of a call's list, where they are made.
 pub first-reduced : (c : Call) (p : Script × Cursor) → readScript (c .script) ≡ got p → (k : ℕ) (m : Machine) → k ≤ length (c .moves) → After c p k m → Reduced c p k m
@@ -153,7 +154,7 @@ module _ (c : Call) where
       let s = answer-stands c true e in
       let n : k ≡ length (c .moves) = sym d ∙ accepted-moves true e in
       let x = standing-reduced s k n in
-      (s, x, n, congruent-satisfies (s .rule .0) [] (process (s .machine .tree)) (x .last) (Symm (x .stands)) (verdict-yes c s e))
+      (s, x, n, congruent-satisfies (s .rule .0) [] (process (s .machine .tree)) (x .last) (StructSymm (x .stands)) (verdict-yes c s e))
   reduces (accepted false) k e d =
       let s = answer-stands c false e in
       let n : k ≡ length (c .moves) = sym d ∙ accepted-moves false e in

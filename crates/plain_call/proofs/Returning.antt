@@ -13,7 +13,7 @@ use Rattle.messages.specs.Reading.{Cursor, cursor, Reading, got, ask, nextWord,
 use Rattle.messages.specs.Message.{Message, name, variable, enter, exit, opens, empty, path, items, mentions}
 use Rattle.messages.specs.ReadMessage.{readMessage}
 use Rattle.messages.proofs.Readings.{refuse≢got, bind-all, got-all, next}
-use Rattle.scripts.specs.Tree.{Head, close, part, sum, parts, PlainHead, Plain}
+use Rattle.scripts.specs.Tree.{Head, close, part, total, parts, PlainHead, Plain}
 use Rattle.scripts.specs.Script.{Written, Script, partWord, fits, guardedFrom, partFrom, orClose, readBody, readScript}
 use Rattle.scripts.specs.declared.PartWord.{PartWord}
 use Rattle.scripts.specs.declared.PartWord.the-variants.{Close, Ambient, Action, Receipt, Output, No}
@@ -22,7 +22,8 @@ use Rattle.scripts.proofs.Laws.{short}
 use Rattle.slices.proofs.Tests.{byTest}
 use Rattle.message_writer.specs.Write.{Indices, newIndex, writeMessage, whole, writeHead, within, writeInside, write, writePart}
 use Rattle.message_writer.proofs.Trees.{write-part}
-use Rattle.calculus.specs.Calculus.{Process, 𝟎, _∣_, input, _≅_, prefix, piece, process}
+use Rattle.calculus.specs.Calculus.{Process, 𝟎, _‖_, input, _≅_}
+use Rattle.calculus.specs.TreeProcess.{prefix, piece, process}
 use Rattle.calculus.specs.Written.{writtenPart, written}
 use Rattle.calculus.proofs.Variables.{eqb-same, eqb-flip, free, free-other}
 use Rattle.calculus.proofs.Shapes.{Shape, nil, cell, place, hear, say, _⊕_, chain, chain-append, same-eq}
@@ -172,7 +173,7 @@ abbrev pub AnyBack : Plain → Type 0
 AnyBack b = (ix : Indices) → Small ix → BodyBack ix b
 
 close-back : AnyBack close
-unfolding write process shape written sum
+unfolding write process shape written total
 close-back ix s f nest around c i rest ei e l =
     close-first (Reread ix i close rest) f nest around c rest e
     (λ d x y. record { behind = record { left = x; index = omega (arith, y, ei) }; few = omega arith; says = λ n ρ σ a. refl })
@@ -181,11 +182,11 @@ close-back ix s f nest around c i rest ei e l =
 beside-says : (k : ℕ) (h : PlainHead) (b r : Plain) (ix : Indices) (i o : ℕ) → i ≤ o → (p q : Process)
     → ((n : ℕ) (ρ σ : ℕ → ℕ) → Alike i ix ρ σ (piece h (process b)) → shape n ρ p ≡ shape n σ (piece h (process b)))
     → ((n : ℕ) (ρ σ : ℕ → ℕ) → Alike o ix ρ σ (process r) → shape n ρ q ≡ shape n σ (process r))
-    → (n : ℕ) (ρ σ : ℕ → ℕ) → Alike i ix ρ σ (process (part k h b r)) → shape n ρ (p ∣ q) ≡ shape n σ (process (part k h b r))
+    → (n : ℕ) (ρ σ : ℕ → ℕ) → Alike i ix ρ σ (process (part k h b r)) → shape n ρ (p ‖ q) ≡ shape n σ (process (part k h b r))
 unfolding process shape free
 beside-says k h b r ix i o l p q x y n ρ σ a =
-    ap₂ _⊕_ (x n ρ σ (alike-less i i ix ρ σ (piece h (process b)) (piece h (process b) ∣ process r) (omega arith) (λ v z. omega arith) a))
-    (y n ρ σ (alike-less i o ix ρ σ (process r) (piece h (process b) ∣ process r) l (λ v z. omega arith) a))
+    ap₂ _⊕_ (x n ρ σ (alike-less i i ix ρ σ (piece h (process b)) (piece h (process b) ‖ process r) (omega arith) (λ v z. omega arith) a))
+    (y n ρ σ (alike-less i o ix ρ σ (process r) (piece h (process b) ‖ process r) l (λ v z. omega arith) a))
 
 -- a part that has a message and a body: an ambient, an action
 module _ (F : Message → Head Message) (h : PlainHead) (m : Message) (wd : ℕ) (W : PartWord) (worded : partWord wd ≡ W) (parted : IsPart W)
@@ -204,7 +205,7 @@ module _ (F : Message → Head Message) (h : PlainHead) (m : Message) (wd : ℕ)
       (f n ρ σ (alike-less i j ix ρ σ (process b) (piece h (process b)) l (λ v z. omega (arith, frees v (process b))) a))
 
   guarded-back : (k : ℕ) (b r : Plain) → AnyBack b → AnyBack r → AnyBack (part k h b r)
-  unfolding written sum
+  unfolding written total
   guarded-back k b r B R ix s f nest around c i rest ei e l =
       part-first (Reread ix i (part k h b r) rest) f nest around c wd (M ++ (inner ++ (outer ++ rest))) spelled W worded parted
       (λ g d dl di x xe.
@@ -311,7 +312,7 @@ unfolding writePart writeHead writeInside within
 receipt-written ix i v b = refl
 
 receipt-back : (v k : ℕ) (b r : Plain) → AnyBack b → AnyBack r → AnyBack (part k (Head.receipt v) b r)
-unfolding written partFrom sum
+unfolding written partFrom total
 receipt-back v k b r B R ix s f nest around c i rest ei e l =
     part-first (Reread ix i (part k h b r) rest) f nest around c (word 3 0) (inner ++ (outer ++ rest)) spelled Receipt receipt-word tt
     (λ g d dl di x xe.
@@ -386,7 +387,7 @@ output-says m b ix i x e p n ρ σ a =
     ap (λ (z : Message). cell (say (renamed ρ z)) nil nil) e ∙ ap (λ (z : Message). cell (say z) nil nil) (renamed-twice (newIndex ix) ρ σ m (λ v d. a v d .1))
 
 output-back : (m : Message) → MessageAll Fitting m → (k : ℕ) (b r : Plain) → AnyBack r → AnyBack (part k (Head.output m) b r)
-unfolding written partFrom sum
+unfolding written partFrom total
 output-back m names k b r R ix s f nest around c i rest ei e l =
     part-first (Reread ix i (part k (Head.output m) b r) rest) f nest around c (word 4 0) (M ++ (outer ++ rest)) spelled Output output-word tt
     (λ g d dl di x xe.

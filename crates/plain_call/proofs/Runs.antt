@@ -11,7 +11,7 @@ use Rattle.scripts.specs.Script.{Written, Script, holdHead, hold, started}
 use Rattle.machine.specs.Moves.{Moved}
 use Rattle.machine.specs.PlainMachine.{move, Machine, weightOf}
 use Rattle.slices.proofs.Tests.{byTest}
-use Rattle.machine.proofs.Sums.{map-sum, settle-sum, weight}
+use Rattle.machine.proofs.Sums.{map-total, settle-total, weight}
 use Rattle.plain_call.specs.Call.{Call, halted, moved, actor, target, moveFits, afterMove, ifMade, run, begun}
 use Rattle.plain_call.specs.Standing.{WeightHolds}
 
@@ -60,7 +60,7 @@ run-weight n i ws m l b h e =
 
 started-parts : (b : Script) → parts (started b) ≤ parts b
 unfolding started hold settle
-started-parts b = omega (arith, settle-sum (λ i h. 1) bare (hold b), map-sum (λ i h. 1) (λ (w : Written). holdHead (w .head)) b)
+started-parts b = omega (arith, settle-total (λ i h. 1) bare (hold b), map-total (λ i h. 1) (λ (w : Written). holdHead (w .head)) b)
 
 begun-weight : (b : Script) → weightOf (begun b) ≤ parts b
 unfolding weightOf

@@ -16,7 +16,7 @@ use Rattle.scripts.specs.Tree.{parts}
 use Rattle.scripts.specs.Script.{readScript}
 use Rattle.scripts.proofs.Tabled.{script-tabled}
 use Rattle.scripts.proofs.Places.{script-within}
-use Rattle.rules.specs.Rule.{Names, Rule, always, negation, either, void, at, beside, some-name, sometime, somewhere, placed, ruleIndex}
+use Rattle.rules.specs.Rule.{Names, Rule, truth, negation, either, void, at, beside, some-name, sometime, somewhere, placed, ruleIndex}
 use Rattle.rules.specs.ReadRule.{readWholeRule}
 use Rattle.rule_reader.specs.Ruled.{Ruled}
 use Rattle.rule_reader.specs.RuleTable.{vacant, tabulate}
@@ -25,7 +25,7 @@ use Rattle.rule_reader.proofs.Tabled.{rule-tabled}
 use Rattle.machine.specs.Moves.{Moved}
 use Rattle.machine.specs.PlainMachine.{move, Machine, weightOf}
 use Rattle.slices.proofs.Tests.{byTest}
-use Rattle.decision.specs.Walk.{Space, Count, Walked, stopped, says, Setting, range, onYes, onNo, turned, ifAny, firstYes, lastName, look, counted, walk, walkFrom}
+use Rattle.decision.specs.Walk.{Space, Count, Walked, stopped, says, Setting, onYes, onNo, turned, ifAny, firstYes, look, counted, walk, walkFrom}
 use Rattle.decision.specs.PlainWalk.{plainSpace}
 use Rattle.plain_call.specs.Call.{Call, Verdict, accepted, refused, Answer, refusal, Ran, halted, moved, actor, target, moveFits, ifMade, run, Start, partsOf, setting, starting, answer}
 use Rattle.plain_call.specs.Standing.{Standing, WeightBounded}
@@ -72,7 +72,7 @@ module _ (words : List ℕ) (t : RuleTable) where
   -- a rule's own word is one of the words
   ruled-index : (somes : List ℕ) (r : Rule) → Ruled words t somes r → ruleIndex r ≤ length words
   unfolding ruleIndex
-  ruled-index somes (always i) h = omega (arith, h .inside)
+  ruled-index somes (truth i) h = omega (arith, h .inside)
   ruled-index somes (negation i r) h = omega (arith, h .0 .inside)
   ruled-index somes (either i r q) h = omega (arith, h .0 .inside)
   ruled-index somes (void i) h = omega (arith, h .inside)
@@ -90,14 +90,14 @@ module _ (words : List ℕ) (t : RuleTable) where
 
     look-stops : (visit : Names → Rule → S → Count → Walked) → StopsAll visit → StopsAll (look space s visit)
     unfolding look
-    look-stops visit f e somes (always i) b n h = tt
+    look-stops visit f e somes (truth i) b n h = tt
     look-stops visit f e somes (negation i r) b n h = turned-stops (length words) (visit e r b n) (f e somes r b n (h .2))
     look-stops visit f e somes (either i r q) b n h = no-stops (length words) (visit e r b n) _ (f e somes r b n (h .2)) (λ n₁. f e somes q b n₁ (h .4))
     look-stops visit f e somes (void i) b n h = tt
     look-stops visit f e somes (at i m r) b n h = any-stops (length words) _ _ n (λ c. f e somes r c n (h .2))
     look-stops visit f e somes (beside i r q) b n h =
         first-stops (length words) _ (λ d n₁. yes-stops (length words) (visit e r (d .0) n₁) _ (f e somes r (d .0) n₁ (h .2)) (λ n₂. f e somes q (d .1) n₂ (h .4))) (space .divisions b) n
-    look-stops visit f e somes (some-name i r) b n h = first-stops (length words) _ (λ m n₁. f ((i, m) ∷ e) (i ∷ somes) r b n₁ (h .2)) (range 1 (lastName s e)) n
+    look-stops visit f e somes (some-name i r) b n h = first-stops (length words) _ (λ m n₁. f ((i, m) ∷ e) (i ∷ somes) r b n₁ (h .2)) _ n
     look-stops visit f e somes (sometime i r) b n h =
         no-stops (length words) (visit e r b n) _ (f e somes r b n (h .2)) (λ n₁. first-stops (length words) _ (λ c n₂. f e somes (sometime i r) c n₂ h) (space .nexts b) n₁)
     look-stops visit f e somes (somewhere i r) b n h =

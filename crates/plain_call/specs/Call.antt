@@ -32,7 +32,7 @@ pub data Verdict : Type 0 where
   accepted : Bool → Verdict
   refused : (question place : ℕ) → Verdict
 
--- "An accepted call gives yes or no, moves, visits, deepest, weight, words, and writes the tree at the buffer's start"
+-- "An accepted call gives yes or no, moves, visits, deepest .. weight, words .. and writes the tree at the buffer's start"
 pub record Answer : Type 0 where
   pub verdict : Verdict
   pub moves : ℕ
@@ -146,7 +146,7 @@ starting c = do
   p ← readScript (c .script)
   got (startOf (c .script) p)
 
--- The questions that ask nothing but numbers: "13. Patience 1 to 16,777,216? 14. At most 4,096 moves?"
+-- The questions that ask nothing but numbers: "13. Patience 1 to 16,777,216?", "14. At most 4,096 moves?"
 unfoldable pub terms : (patience moves : ℕ) → Reading (Unit {0})
 terms p k = do
   _ ← ask 13 0 (leb 1 p && leb p 16777216)

@@ -41,8 +41,8 @@ W = 0x10000000 ∷ 0x80000001 ∷ 0x20000000 ∷ 0xA0000000 ∷ 0x80000002 ∷ 0
 abbrev nil : List ℕ
 nil = 0 ∷ []
 
-abbrev one : List ℕ
-one = 0x10000000 ∷ 0x80000001 ∷ 0 ∷ 0 ∷ []
+abbrev onlyOne : List ℕ
+onlyOne = 0x10000000 ∷ 0x80000001 ∷ 0 ∷ 0 ∷ []
 
 abbrev oneTwo : List ℕ
 oneTwo = 0x10000000 ∷ 0x80000001 ∷ 0x10000000 ∷ 0x80000002 ∷ 0 ∷ 0 ∷ 0 ∷ []
@@ -57,18 +57,18 @@ abbrev pub table : List (Call × Answer × ℕ)
 table =
     (row nil [] (0x30000000 ∷ []) 100, gives true 0 1 1 0 1 nil, 0)
     ∷ (row nil [] (0x50000000 ∷ 0x30000000 ∷ 0x30000000 ∷ []) 100, gives true 0 3 2 0 1 nil, 0)
-    ∷ (row one [] (0x30000000 ∷ []) 100, gives false 0 1 1 1 4 one, 0)
-    ∷ (row one [] (0x40000001 ∷ 0x30000000 ∷ []) 100, gives true 0 2 2 1 4 one, 0)
-    ∷ (row one [] (0x50000000 ∷ 0x30000000 ∷ 0x30000000 ∷ []) 100, gives false 0 4 2 1 4 one, 0)
-    ∷ (row one [] (0x60000000 ∷ 0x48000000 ∷ 0x00000000 ∷ []) 100, gives true 0 3 3 1 4 one, 0)
-    ∷ (row one [] (0x60000000 ∷ 0x10000000 ∷ 0x48000000 ∷ 0x00000000 ∷ []) 100, gives true 0 6 4 1 4 one, 0)
+    ∷ (row onlyOne [] (0x30000000 ∷ []) 100, gives false 0 1 1 1 4 onlyOne, 0)
+    ∷ (row onlyOne [] (0x40000001 ∷ 0x30000000 ∷ []) 100, gives true 0 2 2 1 4 onlyOne, 0)
+    ∷ (row onlyOne [] (0x50000000 ∷ 0x30000000 ∷ 0x30000000 ∷ []) 100, gives false 0 4 2 1 4 onlyOne, 0)
+    ∷ (row onlyOne [] (0x60000000 ∷ 0x48000000 ∷ 0x00000000 ∷ []) 100, gives true 0 3 3 1 4 onlyOne, 0)
+    ∷ (row onlyOne [] (0x60000000 ∷ 0x10000000 ∷ 0x48000000 ∷ 0x00000000 ∷ []) 100, gives true 0 6 4 1 4 onlyOne, 0)
     ∷ (row oneTwo [] (0x80000000 ∷ 0x40000002 ∷ 0x30000000 ∷ []) 100, gives true 0 5 4 2 7 oneTwo, 0)
     ∷ (row W [] (0x70000000 ∷ 0x40000002 ∷ 0x40000001 ∷ 0x30000000 ∷ []) 100, gives true 0 6 5 3 11 W, 1)
     ∷ (row W [] (0x70000000 ∷ 0x40000002 ∷ 0x40000001 ∷ 0x30000000 ∷ []) 5, refuses 18 3 0 5, 1)
     ∷ (row W (0x10000102 ∷ []) (0x40000002 ∷ 0x40000001 ∷ 0x30000000 ∷ []) 9, gives true 1 3 3 2 7 (0x10000000 ∷ 0x80000002 ∷ 0x10000000 ∷ 0x80000001 ∷ 0 ∷ 0 ∷ 0 ∷ []), 1)
     ∷ (row W (0x10000102 ∷ 0x10000102 ∷ []) (0x40000002 ∷ 0x40000001 ∷ 0x30000000 ∷ []) 9, refuses 16 1 1 0, 1)
     ∷ (row sent (0x10000100 ∷ 0x10000304 ∷ 0x10000304 ∷ []) (0 ∷ []) 1, gives true 3 1 1 4 7 (0x10000000 ∷ 0x80000001 ∷ 0 ∷ 0x10000000 ∷ 0x80000002 ∷ 0 ∷ 0 ∷ []), 5)
-    ∷ (row guarded (0x10000100 ∷ []) (0 ∷ []) 1, gives true 1 1 1 3 4 one, 2)
+    ∷ (row guarded (0x10000100 ∷ []) (0 ∷ []) 1, gives true 1 1 1 3 4 onlyOne, 2)
     ∷ []
 
 -- the bound of a script, r + a × s ^ (r + 1); 0 where the script is refused

@@ -1,5 +1,6 @@
--- The call as a definition, what its yes or no is about, the nesting of a written tree, what patience and buffers can't change
--- of an answer, and the starred examples. Assumes nothing: these are definitions.
+-- The call as a definition; what its yes or no, its moves and the tree that it writes are about; the nesting of a written tree;
+-- what patience and buffers can't change of an answer; its list of moves on closures; and the starred examples. Assumes nothing:
+-- these are definitions.
 pub mod Call
 pub mod Nesting
 pub mod Standing

@@ -1,6 +1,6 @@
--- What a call's yes or no is about (demand 2), what its moves are in the paper's calculus, and what they keep to (demand 3's
--- weight and bound). Not the walk: the script and the rule as read, and the tree that stands after the moves. Assumes
--- nothing: these are definitions.
+-- What a call's yes or no is about (demand 2), what its moves are in the paper's calculus, what is read again of the tree that
+-- it writes, and what the moves keep to (demand 3's weight and bound). Not the walk: the script and the rule as read, and the
+-- tree that stands after the moves. Assumes nothing: these are definitions.
 use Prim.Native.Nat.{ℕ, _≤_}
 use mathlib.Core.Bool.{true, false}
 use mathlib.Core.List.{List, []}
@@ -14,7 +14,8 @@ use Rattle.scripts.specs.Tree.{parts}
 use Rattle.machine.specs.PlainMachine.{Machine, weightOf}
 use Rattle.rules.specs.Rule.{Rule}
 use Rattle.calculus.specs.Satisfaction.{Sat}
-use Rattle.calculus.specs.Calculus.{Process, _≅_, Satisfies, process}
+use Rattle.calculus.specs.Calculus.{Process, _≅_, Satisfies}
+use Rattle.calculus.specs.TreeProcess.{process}
 use Rattle.calculus.specs.Written.{written, Steps}
 use Rattle.plain_call.specs.Call.{Call, Verdict, accepted, refused, moved, run, begun, Start, partsOf, starting, door}
 use Rattle.plain_call.specs.Call as call
@@ -97,7 +98,8 @@ unfoldable pub Readmitted : Verdict → (left : List ℕ) → Type 0
 Readmitted (accepted a) ws = LetIn ws
 Readmitted (refused q i) ws = Unit {0}
 
--- "parts in the tree plus twice the receipts made are at most the script's parts", before the first move and after each
+-- the weight, "the parts in the tree plus twice the receipts made", is at most the script's parts, before the first move and
+-- after each
 unfoldable pub WeightHolds : Call → Type 0
 WeightHolds c = (p : Script × Cursor) → readScript (c .script) ≡ got p → (k : ℕ) (m : Machine) → After c p k m → weightOf m ≤ parts (p .0)
 

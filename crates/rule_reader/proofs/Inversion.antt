@@ -1,6 +1,6 @@
 -- What a walk learns where it stands: of the rule at an index, by the kind of the word there. Assumes nothing.
 use Prim.Native.Nat.{ℕ, zero, suc, _+_, _-_, _≤_, _<_}
-use mathlib.Core.Bool.{Bool, true, false, _||_, false≢true}
+use mathlib.Core.Bool.{Bool, true, false, _||_, false≢true, and-eq-true-iff}
 use mathlib.Core.List.{List, _∷_}
 use mathlib.Core.Path.{_≡_, refl, sym, ap, ap₂, _∙_, subst}
 use native.Mathlib.Omega.{arith}
@@ -8,14 +8,13 @@ use lib.Dec.{leb}
 use lib.ListN.{getD, length}
 use borrow.Author.Tests.{leb-true}
 use Rattle.messages.specs.Words.{kind, operand, nameFits, member}
-use Rattle.rules.specs.Rule.{Term, constant, chosen, Rule, always, negation, either, void, at, beside, some-name, sometime, somewhere, placed, ruleIndex}
+use Rattle.rules.specs.Rule.{Term, constant, chosen, Rule, truth, negation, either, void, at, beside, some-name, sometime, somewhere, placed, ruleIndex}
 use Rattle.rules.specs.ReadRule.{isChosen, termOf, termBound}
 use Rattle.rules.specs.RuleWords.{termWord}
 use Rattle.rule_reader.specs.Ruled.{Said, Ruled}
 use Rattle.rule_reader.specs.declared.RuleTable.{RuleTable}
 use Rattle.rules.specs.declared.RuleTerm.the-variants.{Constant, Chosen}
 use Rattle.rules.proofs.Words.{constant-told, chosen-told}
-use Rattle.rules.proofs.Cases.{and-true}
 
 module _ (words : List ℕ) (t : RuleTable) (somes : List ℕ) where
   -- the term of the word at the index i
@@ -31,7 +30,7 @@ module _ (words : List ℕ) (t : RuleTable) (somes : List ℕ) where
 
   -- The rule r at the index i, whose word has the kind k. A kind above 9 is none of a rule.
   abbrev pub Told : (k i : ℕ) → Rule → Type 0
-  Told zero i r = r ≡ always i
+  Told zero i r = r ≡ truth i
   Told (suc zero) i r = Single i (negation i) r
   Told (suc (suc zero)) i r = Double i (either i) r
   Told (suc (suc (suc zero))) i r = r ≡ void i
@@ -50,7 +49,7 @@ module _ (words : List ℕ) (t : RuleTable) (somes : List ℕ) where
 
   told : (r : Rule) → Ruled words t somes r → Told (kind (getD words (ruleIndex r) 0)) (ruleIndex r) r
   unfolding ruleIndex
-  told (always i) h = subst (Of (always i)) (sym (h .kind)) refl
+  told (truth i) h = subst (Of (truth i)) (sym (h .kind)) refl
   told (negation i q) h = subst (Of (negation i q)) (sym (h .0 .kind)) (q, refl, h .1, h .2)
   told (either i q s) h = subst (Of (either i q s)) (sym (h .0 .kind)) (q, s, refl, h .1, h .2, h .3, h .4)
   told (void i) h = subst (Of (void i)) (sym (h .kind)) refl
@@ -71,7 +70,7 @@ module _ (words : List ℕ) (t : RuleTable) (somes : List ℕ) where
   -- a rule stands in the words
   pub rule-inside : (r : Rule) → Ruled words t somes r → ruleIndex r < length words
   unfolding ruleIndex
-  rule-inside (always i) h = h .inside
+  rule-inside (truth i) h = h .inside
   rule-inside (negation i q) h = h .0 .inside
   rule-inside (either i q s) h = h .0 .inside
   rule-inside (void i) h = h .inside
@@ -94,7 +93,7 @@ plain-fits n m f e = told (isChosen n) refl (nameFits n) refl
 
 name-between : (n : ℕ) → nameFits n ≡ true → (1 ≤ n) × (n ≤ 255)
 unfolding nameFits
-name-between n f = let h = and-true (leb 1 n) (leb n 255) f in (leb-true 1 n (h .0), leb-true n 255 (h .1))
+name-between n f = let h = and-eq-true-iff (leb 1 n) (leb n 255) .0 f in (leb-true 1 n (h .0), leb-true n 255 (h .1))
 
 module _ (words somes : List ℕ) (i : ℕ) (t : Term) (s : Said words somes i t) where
   pub constant-said : (n : ℕ) → Constant n ≡ termWord t → (t ≡ constant n) × (1 ≤ n) × (n ≤ 255)

@@ -9,12 +9,12 @@ use native.Mathlib.Numerals.{add-one}
 use lib.Dec.{leb}
 use lib.ListN.{length}
 use Rattle.messages.specs.Words.{operand}
-use Rattle.messages.specs.Reading.{Cursor, cursor, Reading, refuse, got, _>>=_, ask, split, nextWord, nextPart}
+use Rattle.messages.specs.Reading.{Cursor, cursor, Reading, refuse, got, _>>=_, ask, takeWord, nextWord, nextPart}
 use Rattle.messages.specs.declared.Outcome.the-variants.{Read}
 use Rattle.messages.proofs.Readings.{bind-cong, bind-got, bind-refuse, Advances, advances-on, Next, next, next-advances, next-shorter, advances-shorter, next-end}
-use Rattle.rules.specs.Rule.{Term, Rule, always, negation, either, void, at, beside, some-name, sometime, somewhere, ruleIndex}
+use Rattle.rules.specs.Rule.{Term, Rule, truth, negation, either, void, at, beside, some-name, sometime, somewhere, ruleIndex}
 use Rattle.rules.specs.Rule as Rule
-use Rattle.rules.specs.ReadRule.{RuleKind, TRUE, NOT, OR, VOID, AT, BESIDE, SOME, SOMETIME, SOMEWHERE, PLACED, OTHER, ruleKind, termOf, fits, bound, somesWith, Reader, one, two, ruleFrom, readRule}
+use Rattle.rules.specs.ReadRule.{RuleKind, TRUE, NOT, OR, VOID, AT, BESIDE, SOME, SOMETIME, SOMEWHERE, PLACED, OTHER, ruleKind, termOf, fits, bound, somesWith, Reader, oneRule, twoRules, ruleFrom, readRule}
 use Rattle.rules.specs.RuleWords.{follow, levelled, asked}
 use Rattle.rule_reader.specs.RuleTable.{refusedAt, turned, entered, tabulate, scanned}
 use Rattle.rule_reader.specs.declared.RuleTable.{RuleTable}
@@ -82,7 +82,7 @@ module _ (somes : List ℕ) (c : Cursor) (q : ℕ × Cursor) (n : Next c q) wher
 pub read-cases : Cases RuleRead
 unfolding ruleIndex tabulate
 read-cases = record {
-  leaves = λ s c q n. ((λ k. leaf-read s c q n (always (c .index)) refl (λ t. refl)), (λ k. leaf-read s c q n (void (c .index)) refl (λ t. refl)));
+  leaves = λ s c q n. ((λ k. leaf-read s c q n (truth (c .index)) refl (λ t. refl)), (λ k. leaf-read s c q n (void (c .index)) refl (λ t. refl)));
   ones = λ s c q p n x. (
     (λ k. one-read s c q n s p x (negation (c .index) (p .0)) refl (λ t. refl)),
     (λ k. one-read s c q n s p x (sometime (c .index) (p .0)) refl (λ t. refl)),
@@ -103,12 +103,12 @@ rule-read f around somes c p e = rule-case RuleRead read-cases f around somes c 
 -- readers that agree where at most n words are left
 module _ (n : ℕ) (r s : Reader) (h : (a : List ℕ) (c : Cursor) (p : Rule × Cursor) → r a c ≡ got p → RuleRead a c p)
     (agree : (a : List ℕ) (c : Cursor) → length (c .left) ≤ n → r a c ≡ s a c) where
-  one-agree : (g : Rule → Rule) (a : List ℕ) (c : Cursor) → length (c .left) ≤ n → one g (r a) c ≡ one g (s a) c
-  unfolding one
+  one-agree : (g : Rule → Rule) (a : List ℕ) (c : Cursor) → length (c .left) ≤ n → oneRule g (r a) c ≡ oneRule g (s a) c
+  unfolding oneRule
   one-agree g a c l = rw (agree a c l)
 
-  two-agree : (g : Rule → Rule → Rule) (a : List ℕ) (c : Cursor) → length (c .left) ≤ n → two g (r a) c ≡ two g (s a) c
-  unfolding two
+  two-agree : (g : Rule → Rule → Rule) (a : List ℕ) (c : Cursor) → length (c .left) ≤ n → twoRules g (r a) c ≡ twoRules g (s a) c
+  unfolding twoRules
   two-agree g a c l = rw (← agree a c l) (bind-cong (r a c) _ _ (λ q e. rw (agree a (q .1) (omega (arith, advances-shorter c (q .1) (h a c q e .advances))))))
 
   from-agree : (k : RuleKind) (t : Term) (i : ℕ) (a : List ℕ) (c : Cursor) → length (c .left) ≤ n → ruleFrom r k t i a c ≡ ruleFrom s k t i a c
@@ -177,7 +177,7 @@ module _ (f around i : ℕ) (somes : List ℕ) (t : RuleTable) where
   scanned-two g k (got p) = two-on g k p (read somes (p .1)) refl
 
   from-stepped : (k : RuleKind) (n : Term) (c : Cursor) → scanned t (ruleFrom read k n i somes c) ≡ stepped (follow k) i read somes c t
-  unfolding ruleFrom follow one two tabulate scanned
+  unfolding ruleFrom follow oneRule twoRules tabulate scanned
   from-stepped TRUE n c = refl
   from-stepped NOT n c = scanned-one (negation i) t t (λ r. refl) (read somes c)
   from-stepped OR n c = scanned-two (either i) (λ r q. refl) (read somes c)
@@ -199,8 +199,8 @@ module _ (f around i : ℕ) (somes : List ℕ) (t : RuleTable) where
   questions true true true a c w h = h
 
   pub step : (n w : ℕ) (ws : List ℕ) → scanned t (readRule (suc f) around somes (cursor i n (w ∷ ws))) ≡ stepped (asked around somes (ruleKind w) (operand w)) i read somes (cursor (suc i) n ws) t
-  unfolding readRule split asked levelled
+  unfolding readRule takeWord asked levelled
   step n w ws =
-      ap (scanned t) (bind-got (split 11 i n (w ∷ ws)) _ (w, cursor (suc i) n ws) refl)
+      ap (scanned t) (bind-got (takeWord 11 i n (w ∷ ws)) _ (w, cursor (suc i) n ws) refl)
       ∙ questions (fits (ruleKind w) (operand w)) (bound somes (ruleKind w) (operand w)) (leb around 64 && leb (somesWith (ruleKind w) (length somes)) 8) (follow (ruleKind w)) (cursor (suc i) n ws) _
       (from-stepped (ruleKind w) (termOf (operand w)) (cursor (suc i) n ws))

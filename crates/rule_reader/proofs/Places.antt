@@ -1,6 +1,6 @@
 -- Where the reader of rules refuses: at a place that is at most 256. Assumes nothing.
 use Prim.Native.Nat.{ℕ, zero, suc, _+_, _≤_}
-use mathlib.Core.Bool.{_&&_}
+use mathlib.Core.Bool.{_&&_, and-eq-true-iff}
 use mathlib.Core.List.{List, [], _∷_}
 use mathlib.Core.Path.{_≡_}
 use native.Mathlib.Omega.{arith}
@@ -12,19 +12,18 @@ use Rattle.messages.specs.Reading.{Cursor, cursor, got, ask, nextWord, nextPart
 use Rattle.messages.proofs.Readings.{ask-inv}
 use Rattle.messages.proofs.Places.{Within, bind-within, ask-within, Ends, ends-on, next-within, next-ends}
 use Rattle.rules.specs.Rule.{Term, Rule, negation, either, at, beside, some-name, sometime, somewhere, placed}
-use Rattle.rules.specs.ReadRule.{RuleKind, TRUE, NOT, OR, VOID, AT, BESIDE, SOME, SOMETIME, SOMEWHERE, PLACED, OTHER, ruleKind, termOf, fits, bound, somesWith, Reader, one, two, ruleFrom, readRule, readWholeRule}
-use Rattle.rules.proofs.Cases.{and-true}
+use Rattle.rules.specs.ReadRule.{RuleKind, TRUE, NOT, OR, VOID, AT, BESIDE, SOME, SOMETIME, SOMEWHERE, PLACED, OTHER, ruleKind, termOf, fits, bound, somesWith, Reader, oneRule, twoRules, ruleFrom, readRule, readWholeRule}
 use Rattle.rule_reader.proofs.Laws.{RuleRead, rule-read}
 
 -- a rule, by the rules inside it
 module _ (x : ℕ) (read : Reader) (h : (a : List ℕ) (c : Cursor) (p : Rule × Cursor) → read a c ≡ got p → RuleRead a c p)
     (w : (a : List ℕ) (c : Cursor) → Ends x c → Within x (read a c)) where
-  one-within : (g : Rule → Rule) (a : List ℕ) (c : Cursor) → Ends x c → Within x (one g (read a) c)
-  unfolding one
+  one-within : (g : Rule → Rule) (a : List ℕ) (c : Cursor) → Ends x c → Within x (oneRule g (read a) c)
+  unfolding oneRule
   one-within g a c l = bind-within x (read a c) _ (w a c l) (λ p e. tt)
 
-  two-within : (g : Rule → Rule → Rule) (a : List ℕ) (c : Cursor) → Ends x c → Within x (two g (read a) c)
-  unfolding two
+  two-within : (g : Rule → Rule → Rule) (a : List ℕ) (c : Cursor) → Ends x c → Within x (twoRules g (read a) c)
+  unfolding twoRules
   two-within g a c l =
       bind-within x (read a c) _ (w a c l)
       (λ p e. bind-within x (read a (p .1)) _ (w a (p .1) (ends-on x c (p .1) (h a c p e .advances) l)) (λ q d. tt))
@@ -60,7 +59,7 @@ unfolding readWholeRule
 rule-within n ws =
     bind-within 256 (ask 7 0 (leb 1 (length ws) && leb (length ws) 256)) _ (ask-within 256 7 0 _ (omega arith))
     (λ u e₁.
-    let few : length ws ≤ 256 = leb-true (length ws) 256 (and-true (leb 1 (length ws)) _ (ask-inv 7 0 _ u e₁) .1) in
+    let few : length ws ≤ 256 = leb-true (length ws) 256 (and-eq-true-iff (leb 1 (length ws)) _ .0 (ask-inv 7 0 _ u e₁) .1) in
     bind-within 256 (readRule (length ws) 0 [] (cursor 0 0 ws)) _ (read-within 256 (length ws) 0 [] (cursor 0 0 ws) (omega arith))
     (λ q e. bind-within 256 (ask 11 (q .1 .index) (isEmpty (q .1 .left))) _
     (ask-within 256 11 (q .1 .index) _ (omega (arith, rule-read (length ws) 0 [] (cursor 0 0 ws) q e .advances .within)))

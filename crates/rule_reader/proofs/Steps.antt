@@ -1,6 +1,6 @@
 -- The reader of rules as the code meets it: what a call inside answers, and what the whole answer then is. Assumes nothing.
 use Prim.Native.Nat.{ℕ, suc, _+_, _-_, _≤_, _<_}
-use mathlib.Core.Bool.{Bool, true, false, _&&_, cond}
+use mathlib.Core.Bool.{Bool, true, false, _&&_, cond, and-eq-true-iff}
 use mathlib.Core.List.{List, _∷_}
 use mathlib.Core.Path.{_≡_, refl, sym, ap, _∙_, subst}
 use native.Mathlib.Omega.{arith}
@@ -22,7 +22,6 @@ use Rattle.rule_reader.specs.declared.RuleTable.{RuleTable}
 use Rattle.rule_reader.specs.declared.RuleScan.{RuleScan}
 use Rattle.rules.specs.declared.Asked.{Asked}
 use Rattle.rules.specs.declared.Asked.the-variants.{Leaf, One, Two, Choice, Place, No}
-use Rattle.rules.proofs.Cases.{and-true}
 use Rattle.rule_reader.proofs.Laws.{RuleRead, rule-read, rule-fuel, onward, stepped, step}
 
 -- the rule at the front of the words l, the first of which has the index i; n PLACED words stand before it
@@ -82,7 +81,7 @@ level-told around m k false y z e = tt
 level-told around m k true false z e = tt
 level-told around m k true true false e = tt
 level-told around m k true true true e =
-    let h = and-true (leb around 64) (leb (somesWith k m) 8) e in
+    let h = and-eq-true-iff (leb around 64) (leb (somesWith k m) 8) .0 e in
     level-kind around m k (leb-true around 64 (h .0)) (leb-true (somesWith k m) 8 (h .1))
 
 -- The laws as the code meets them: where the questions 8, 9 and 10 were asked of the first word, and what they said.

@@ -1,7 +1,7 @@
 -- The rule table and the words hold the rule that is read: what is written at a rule's own words stays, whatever is read
 -- behind them. Assumes nothing.
 use Prim.Native.Nat.{ℕ, suc, _+_, _-_, _≤_, _<_}
-use mathlib.Core.Bool.{_&&_}
+use mathlib.Core.Bool.{_&&_, and-eq-true-iff}
 use mathlib.Core.List.{List, [], _∷_}
 use mathlib.Core.Path.{_≡_, refl, sym, ap, _∙_, subst}
 use native.Mathlib.Omega.{arith}
@@ -13,13 +13,13 @@ use borrow.Author.Tests.{leb-true}
 use Rattle.messages.specs.Words.{kind, operand}
 use Rattle.messages.specs.Reading.{Cursor, cursor, got, ask, nextPart, isEmpty}
 use Rattle.messages.proofs.Readings.{bind-all, got-all, ask-inv, Stands, stands-on, Next, next-advances}
-use Rattle.rules.specs.Rule.{Rule, always, negation, either, void, at, beside, some-name, sometime, somewhere, placed, ruleIndex}
+use Rattle.rules.specs.Rule.{Rule, truth, negation, either, void, at, beside, some-name, sometime, somewhere, placed, ruleIndex}
 use Rattle.rules.specs.ReadRule.{termOf, readRule, readWholeRule}
 use Rattle.rule_reader.specs.RuleTable.{vacant, turned, entered, tabulate, scanned}
 use Rattle.rule_reader.specs.Ruled.{Worded, Said, Ruled, Tabled}
 use Rattle.rule_reader.specs.declared.RuleTable.{RuleTable}
 use Rattle.rule_reader.specs.declared.RuleScan.{RuleScan}
-use Rattle.rules.proofs.Cases.{Cases, Operand, rule-case, and-true}
+use Rattle.rules.proofs.Cases.{Cases, Operand, rule-case}
 use Rattle.rule_reader.proofs.Laws.{RuleRead, read-cases}
 
 -- what the table has at an index
@@ -144,7 +144,7 @@ module _ (words : List ℕ) (few : length words ≤ 256) where
   unfolding tabulate
   fill-cases = record {
     leaves = λ s c q n. (
-      (λ k. leaf-filled s c q n (always (c .index)) (λ t. refl) (read-cases .leaves s c q n .0 k) (λ st u. worded c q n st 0 k)),
+      (λ k. leaf-filled s c q n (truth (c .index)) (λ t. refl) (read-cases .leaves s c q n .0 k) (λ st u. worded c q n st 0 k)),
       (λ k. leaf-filled s c q n (void (c .index)) (λ t. refl) (read-cases .leaves s c q n .1 k) (λ st u. worded c q n st 3 k)),
     );
     ones = λ s c q p n h. (
@@ -198,7 +198,7 @@ rule-tabled n ws =
     (λ q e. bind-all (Holds n ws) (ask 11 (q .1 .index) (isEmpty (q .1 .left))) _
     (λ _ _. bind-all (Holds n ws) (ask 12 0 (leb (n + q .1 .number) 64)) _
     (λ v e₁₂. got-all (Holds n ws) q
-    (whole-tabled ws (leb-true (length ws) 256 (and-true (leb 1 (length ws)) (leb (length ws) 256) (ask-inv 7 0 _ u e₇) .1)) n q e (leb-true (n + q .1 .number) 64 (ask-inv 12 0 _ v e₁₂)))))))
+    (whole-tabled ws (leb-true (length ws) 256 (and-eq-true-iff (leb 1 (length ws)) (leb (length ws) 256) .0 (ask-inv 7 0 _ u e₇) .1)) n q e (leb-true (n + q .1 .number) 64 (ask-inv 12 0 _ v e₁₂)))))))
 
 -- what the reader answers, and so what its table holds
 abbrev pub Answers : ℕ → List ℕ → RuleScan → Type 0

@@ -6,7 +6,7 @@ use lib.ListN.{replicate}
 use Rattle.messages.specs.Words
 use Rattle.messages.specs.Reading
 use Rattle.messages.specs.Reading.{Reading, refuse, got, cursor}
-use Rattle.rules.specs.Rule.{constant, chosen, always, negation, either, void, at, beside, some-name, sometime, placed, greatestRuleName}
+use Rattle.rules.specs.Rule.{constant, chosen, truth, negation, either, void, at, beside, some-name, sometime, placed, greatestRuleName}
 use Rattle.rules.specs.Rule
 use Rattle.rules.specs.ReadRule.{readWholeRule}
 use Rattle.rules.specs.ReadRule
@@ -19,11 +19,11 @@ Row = ℕ × List ℕ × Reading (Rule.Rule × Reading.Cursor)
 
 -- SOME NOT AT its name TRUE, and SOMETIME AT 2 AT 1 VOID; an OR whose left rule is a BESIDE of two PLACEDs
 abbrev nested : Rule.Rule
-nested = either 0 (beside 1 (placed 2 0 (constant 1) (always 3)) (placed 4 1 (constant 2) (always 5))) (void 6)
+nested = either 0 (beside 1 (placed 2 0 (constant 1) (truth 3)) (placed 4 1 (constant 2) (truth 5))) (void 6)
 
 abbrev readings : List Row
 readings =
-    (1, 0x60000000 ∷ 0x10000000 ∷ 0x48000000 ∷ 0x00000000 ∷ [], got (some-name 0 (negation 1 (at 2 (chosen 0) (always 3))), cursor 4 0 []))
+    (1, 0x60000000 ∷ 0x10000000 ∷ 0x48000000 ∷ 0x00000000 ∷ [], got (some-name 0 (negation 1 (at 2 (chosen 0) (truth 3))), cursor 4 0 []))
     ∷ (3, 0x70000000 ∷ 0x40000002 ∷ 0x40000001 ∷ 0x30000000 ∷ [], got (sometime 0 (at 1 (constant 2) (at 2 (constant 1) (void 3))), cursor 4 0 []))
     ∷ (62, 0x20000000 ∷ 0x50000000 ∷ 0x90000001 ∷ 0 ∷ 0x90000002 ∷ 0 ∷ 0x30000000 ∷ [], got (nested, cursor 7 2 []))
     ∷ (0, [], refuse 7 0)

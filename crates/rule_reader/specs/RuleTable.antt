@@ -4,7 +4,7 @@ use Prim.Native.Nat.{ℕ, _+_}
 use lib.ListN.{set, replicate}
 use Rattle.messages.specs.Reading.{Cursor, Reading, refuse, got}
 use Rattle.messages.specs.declared.Outcome.the-variants.{Read, Refused}
-use Rattle.rules.specs.Rule.{Rule, always, negation, either, void, at, beside, some-name, sometime, somewhere, placed, ruleIndex}
+use Rattle.rules.specs.Rule.{Rule, truth, negation, either, void, at, beside, some-name, sometime, somewhere, placed, ruleIndex}
 use Rattle.rule_reader.specs.declared.RuleTable.{RuleTable}
 use Rattle.rule_reader.specs.declared.RuleScan.{RuleScan}
 
@@ -22,7 +22,7 @@ entered i j t = record { rights = t .rights; places = set (t .places) i j; count
 
 -- the table after a rule was read
 unfoldable pub tabulate : Rule → RuleTable → RuleTable
-tabulate (always i) t = t
+tabulate (truth i) t = t
 tabulate (negation i r) t = tabulate r t
 tabulate (either i r q) t = tabulate q (turned i (ruleIndex q) (tabulate r t))
 tabulate (void i) t = t

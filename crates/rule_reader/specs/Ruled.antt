@@ -7,7 +7,7 @@ use mathlib.Core.Path.{_≡_}
 use lib.ListN.{getD, length}
 use Rattle.messages.specs.Words.{kind, operand, nameFits}
 use Rattle.messages.specs.Reading.{Cursor}
-use Rattle.rules.specs.Rule.{Term, Rule, always, negation, either, void, at, beside, some-name, sometime, somewhere, placed, ruleIndex}
+use Rattle.rules.specs.Rule.{Term, Rule, truth, negation, either, void, at, beside, some-name, sometime, somewhere, placed, ruleIndex}
 use Rattle.rules.specs.ReadRule.{isChosen, termOf, termBound}
 use Rattle.rule_reader.specs.declared.RuleTable.{RuleTable}
 
@@ -27,7 +27,7 @@ module _ (words : List ℕ) where
   -- "in prefix order": the rule stands at its index, the first rule inside it behind its word, and the second where the table
   -- says; `somes` are the SOMEs around it.
   abbrev pub Ruled : RuleTable → (somes : List ℕ) → Rule → Type 0
-  Ruled t somes (always i) = Worded 0 i
+  Ruled t somes (truth i) = Worded 0 i
   Ruled t somes (negation i r) = Worded 1 i × (ruleIndex r ≡ i + 1) × Ruled t somes r
   Ruled t somes (either i r q) = Worded 2 i × (ruleIndex r ≡ i + 1) × Ruled t somes r × (ruleIndex q ≡ getD (t .rights) i 0) × Ruled t somes q
   Ruled t somes (void i) = Worded 3 i

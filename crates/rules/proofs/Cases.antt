@@ -1,7 +1,7 @@
 -- What holds of every rule that is read: shown by a case for each kind of rule. Assumes nothing.
 use Prim.Native.Nat.{ℕ, zero, suc, _+_, _≤_}
 use mathlib.Core.List.{List, [], _∷_}
-use mathlib.Core.Bool.{Bool, true, false, _&&_, _||_, false≢true}
+use mathlib.Core.Bool.{true, _&&_, _||_, and-eq-true-iff}
 use mathlib.Core.Path.{_≡_, refl}
 use lib.Dec.{leb}
 use lib.ListN.{length}
@@ -9,14 +9,9 @@ use borrow.Author.Tests.{leb-true}
 use Rattle.messages.specs.Words.{kind, operand, nameFits}
 use Rattle.messages.specs.Reading.{Cursor, cursor, got, ask, nextWord, nextPart, isEmpty}
 use Rattle.messages.proofs.Readings.{refuse≢got, bind-all, got-all, ask-inv, Next, next}
-use Rattle.rules.specs.Rule.{Rule, always, negation, either, void, at, beside, some-name, sometime, somewhere, placed}
-use Rattle.rules.specs.ReadRule.{RuleKind, TRUE, NOT, OR, VOID, AT, BESIDE, SOME, SOMETIME, SOMEWHERE, PLACED, OTHER, ruleKind, isChosen, termOf, fits, termBound, bound, somesWith, one, two, ruleFrom, readRule, readWholeRule}
+use Rattle.rules.specs.Rule.{Rule, truth, negation, either, void, at, beside, some-name, sometime, somewhere, placed}
+use Rattle.rules.specs.ReadRule.{RuleKind, TRUE, NOT, OR, VOID, AT, BESIDE, SOME, SOMETIME, SOMEWHERE, PLACED, OTHER, ruleKind, isChosen, termOf, fits, termBound, bound, somesWith, oneRule, twoRules, ruleFrom, readRule, readWholeRule}
 use Rattle.rules.proofs.Words.{kind-told}
-
--- two tests that both hold
-pub and-true : (a b : Bool) → (a && b) ≡ true → (a ≡ true) × (b ≡ true)
-and-true true b e = (refl, e)
-and-true false b e = absurd (false≢true e)
 
 -- what is known of the operand of AT and PLACED: it fits, and its SOME is around
 pub record Operand (somes : List ℕ) (w : ℕ) : Type 0 where
@@ -27,7 +22,7 @@ pub record Operand (somes : List ℕ) (w : ℕ) : Type 0 where
 -- behind it, and p is what was read with the cursor behind it.
 pub record Cases (C : List ℕ → Cursor → Rule × Cursor → Type 0) : Type 0 where
   pub leaves : (somes : List ℕ) (c : Cursor) (q : ℕ × Cursor) → Next c q
-      → (kind (q .0) ≡ 0 → C somes c (always (c .index), q .1)) × (kind (q .0) ≡ 3 → C somes c (void (c .index), q .1))
+      → (kind (q .0) ≡ 0 → C somes c (truth (c .index), q .1)) × (kind (q .0) ≡ 3 → C somes c (void (c .index), q .1))
   pub ones : (somes : List ℕ) (c : Cursor) (q : ℕ × Cursor) (p : Rule × Cursor) → Next c q → C somes (q .1) p
       → (kind (q .0) ≡ 1 → C somes c (negation (c .index) (p .0), p .1)) × (kind (q .0) ≡ 7 → C somes c (sometime (c .index) (p .0), p .1))
       × (kind (q .0) ≡ 8 → C somes c (somewhere (c .index) (p .0), p .1))
@@ -43,12 +38,12 @@ pub record Cases (C : List ℕ → Cursor → Rule × Cursor → Type 0) : Type 
 module _ (C : List ℕ → Cursor → Rule × Cursor → Type 0) (cases : Cases C) where
   -- a rule by the kind of its word
   module _ (f around : ℕ) (somes : List ℕ) (c : Cursor) (q : ℕ × Cursor) (n : Next c q) (read : (a : List ℕ) (d : Cursor) (p : Rule × Cursor) → readRule f (suc around) a d ≡ got p → C a d p) where
-    one-case : (g : Rule → Rule) (a : List ℕ) (d : Cursor) → ((p : Rule × Cursor) → C a d p → C somes c (g (p .0), p .1)) → (p : Rule × Cursor) → one g (readRule f (suc around) a) d ≡ got p → C somes c p
-    unfolding one
+    one-case : (g : Rule → Rule) (a : List ℕ) (d : Cursor) → ((p : Rule × Cursor) → C a d p → C somes c (g (p .0), p .1)) → (p : Rule × Cursor) → oneRule g (readRule f (suc around) a) d ≡ got p → C somes c p
+    unfolding oneRule
     one-case g a d h = bind-all (C somes c) (readRule f (suc around) a d) _ (λ p e. got-all (C somes c) _ (h p (read a d p e)))
 
-    two-case : (g : Rule → Rule → Rule) → ((p r : Rule × Cursor) → C somes (q .1) p → C somes (p .1) r → C somes c (g (p .0) (r .0), r .1)) → (p : Rule × Cursor) → two g (readRule f (suc around) somes) (q .1) ≡ got p → C somes c p
-    unfolding two
+    two-case : (g : Rule → Rule → Rule) → ((p r : Rule × Cursor) → C somes (q .1) p → C somes (p .1) r → C somes c (g (p .0) (r .0), r .1)) → (p : Rule × Cursor) → twoRules g (readRule f (suc around) somes) (q .1) ≡ got p → C somes c p
+    unfolding twoRules
     two-case g h =
         bind-all (C somes c) (readRule f (suc around) somes (q .1)) _
         (λ p e. bind-all (C somes c) (readRule f (suc around) somes (p .1)) _ (λ r d. got-all (C somes c) _ (h p r (read somes (q .1) p e) (read somes (p .1) r d))))
@@ -78,7 +73,7 @@ module _ (C : List ℕ → Cursor → Rule × Cursor → Type 0) (cases : Cases 
       (λ u₂ e₂. bind-all (C somes c) (ask 9 (c .index) (bound somes (ruleKind (q .0)) (operand (q .0)))) _
       (λ u₃ e₃. bind-all (C somes c) (ask 10 (c .index) (leb around 64 && leb (somesWith (ruleKind (q .0)) (length somes)) 8)) _
       (λ u₄ e₄. from-case f around somes c q (next 11 c q e₁) (rule-case f (suc around)) (ruleKind (q .0)) refl (ask-inv 8 _ _ u₂ e₂) (ask-inv 9 _ _ u₃ e₃)
-      (leb-true (somesWith (ruleKind (q .0)) (length somes)) 8 (and-true (leb around 64) _ (ask-inv 10 _ _ u₄ e₄) .1))))))
+      (leb-true (somesWith (ruleKind (q .0)) (length somes)) 8 (and-eq-true-iff (leb around 64) _ .0 (ask-inv 10 _ _ u₄ e₄) .1))))))
 
   -- and so of every whole rule that is read
   pub whole-rule-case : (n : ℕ) (ws : List ℕ) (p : Rule × Cursor) → readWholeRule n ws ≡ got p → C [] (cursor 0 0 ws) p

@@ -5,12 +5,12 @@ use mathlib.Core.Path.{_≡_, subst}
 use native.Mathlib.Omega.{arith}
 use Rattle.messages.specs.Reading.{Cursor, got}
 use Rattle.messages.proofs.Readings.{Next}
-use Rattle.rules.specs.Rule.{Rule, Later, always, negation, either, void, at, beside, some-name, sometime, somewhere, placed}
+use Rattle.rules.specs.Rule.{Rule, Later, truth, negation, either, void, at, beside, some-name, sometime, somewhere, placed}
 use Rattle.rules.specs.ReadRule.{readRule, readWholeRule}
 use Rattle.rules.proofs.Cases.{Cases, rule-case, whole-rule-case}
 
 pub later-down : (m n : ℕ) (r : Rule) → m ≤ n → Later n r → Later m r
-later-down m n (always i) l h = tt
+later-down m n (truth i) l h = tt
 later-down m n (negation i r) l h = later-down m n r l h
 later-down m n (either i r q) l h = (later-down m n r l (h .0), later-down m n q l (h .1))
 later-down m n (void i) l h = tt

@@ -7,7 +7,7 @@ use lib.ListN.{getD, length}
 use lib.Dec.{leb, eqb}
 use Rattle.messages.specs.Words.{kind, operand, nameFits, member}
 use Rattle.messages.specs.Reading.{Cursor, cursor, Reading, refuse, got, _>>=_, ask, nextWord, nextPart, isEmpty}
-use Rattle.rules.specs.Rule.{Term, constant, chosen, Rule, always, negation, either, void, at, beside, some-name, sometime, somewhere, placed}
+use Rattle.rules.specs.Rule.{Term, constant, chosen, Rule, truth, negation, either, void, at, beside, some-name, sometime, somewhere, placed}
 
 pub data RuleKind : Type 0 where
   TRUE NOT OR VOID AT BESIDE SOME SOMETIME SOMEWHERE PLACED OTHER : RuleKind
@@ -73,29 +73,29 @@ abbrev pub Reader : Type 0
 Reader = (somes : List ℕ) → Cursor → Reading (Rule × Cursor)
 
 -- one rule, and two
-unfoldable pub one : (Rule → Rule) → (read : Cursor → Reading (Rule × Cursor)) → Cursor → Reading (Rule × Cursor)
-one f read c = do
+unfoldable pub oneRule : (Rule → Rule) → (read : Cursor → Reading (Rule × Cursor)) → Cursor → Reading (Rule × Cursor)
+oneRule f read c = do
   (r, c₁) ← read c
   got (f r, c₁)
 
-unfoldable pub two : (Rule → Rule → Rule) → (read : Cursor → Reading (Rule × Cursor)) → Cursor → Reading (Rule × Cursor)
-two f read c = do
+unfoldable pub twoRules : (Rule → Rule → Rule) → (read : Cursor → Reading (Rule × Cursor)) → Cursor → Reading (Rule × Cursor)
+twoRules f read c = do
   (r, c₁) ← read c
   (q, c₂) ← read c₁
   got (f r q, c₂)
 
 -- the rule whose word at the index i has that kind and term, the cursor behind that word; `read` reads the rules inside it
 unfoldable pub ruleFrom : Reader → RuleKind → Term → (i : ℕ) → (somes : List ℕ) → Cursor → Reading (Rule × Cursor)
-ruleFrom read TRUE t i somes c = got (always i, c)
-ruleFrom read NOT t i somes c = one (negation i) (read somes) c
-ruleFrom read OR t i somes c = two (either i) (read somes) c
+ruleFrom read TRUE t i somes c = got (truth i, c)
+ruleFrom read NOT t i somes c = oneRule (negation i) (read somes) c
+ruleFrom read OR t i somes c = twoRules (either i) (read somes) c
 ruleFrom read VOID t i somes c = got (void i, c)
-ruleFrom read AT t i somes c = one (at i t) (read somes) c
-ruleFrom read BESIDE t i somes c = two (beside i) (read somes) c
-ruleFrom read SOME t i somes c = one (some-name i) (read (i ∷ somes)) c
-ruleFrom read SOMETIME t i somes c = one (sometime i) (read somes) c
-ruleFrom read SOMEWHERE t i somes c = one (somewhere i) (read somes) c
-ruleFrom read PLACED t i somes c = one (placed i (c .number) t) (read somes) (nextPart c)
+ruleFrom read AT t i somes c = oneRule (at i t) (read somes) c
+ruleFrom read BESIDE t i somes c = twoRules (beside i) (read somes) c
+ruleFrom read SOME t i somes c = oneRule (some-name i) (read (i ∷ somes)) c
+ruleFrom read SOMETIME t i somes c = oneRule (sometime i) (read somes) c
+ruleFrom read SOMEWHERE t i somes c = oneRule (somewhere i) (read somes) c
+ruleFrom read PLACED t i somes c = oneRule (placed i (c .number) t) (read somes) (nextPart c)
 ruleFrom read OTHER t i somes c = refuse 8 i
 
 -- The rule at the cursor, `around` rules around it. The cursor's number counts the PLACED words. `fuel` bounds the recursion:
@@ -120,5 +120,5 @@ readWholeRule n ws = do
 
 -- To unfold this is to unfold every definition of this module: for a proof by computation.
 unfoldable pub computing : Unit {0}
-unfolding ruleKind isChosen termOf fits termBound bound somesWith one two ruleFrom readRule readWholeRule
+unfolding ruleKind isChosen termOf fits termBound bound somesWith oneRule twoRules ruleFrom readRule readWholeRule
 computing = tt

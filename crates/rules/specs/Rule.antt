@@ -13,7 +13,7 @@ pub data Term : Type 0 where
 -- "0 TRUE, 1 NOT, 2 OR, 3 VOID, 4 AT, 5 BESIDE, 6 SOME, 7 SOMETIME, 8 SOMEWHERE, 9 PLACED; 2 and 5 take two rules, 1, 4, 6
 -- to 9 one." Each has its word's index first; PLACED has then its place among the PLACED words, from 0.
 pub data Rule : Type 0 where
-  always : ℕ → Rule
+  truth : ℕ → Rule
   negation : ℕ → Rule → Rule
   either : ℕ → Rule → Rule → Rule
   void : ℕ → Rule
@@ -26,7 +26,7 @@ pub data Rule : Type 0 where
 
 -- the index of a rule's own word
 unfoldable pub ruleIndex : Rule → ℕ
-ruleIndex (always i) = i
+ruleIndex (truth i) = i
 ruleIndex (negation i r) = i
 ruleIndex (either i r q) = i
 ruleIndex (void i) = i
@@ -41,14 +41,14 @@ ruleIndex (placed i j t r) = i
 abbrev pub Names : Type 0
 Names = List (ℕ × ℕ)
 
-unfoldable pub lookup : Names → ℕ → ℕ
-lookup [] i = 0
-lookup (p ∷ ps) i = cond (eqb (p .0) i) (p .1) (lookup ps i)
+unfoldable pub chosenName : Names → ℕ → ℕ
+chosenName [] i = 0
+chosenName (p ∷ ps) i = cond (eqb (p .0) i) (p .1) (chosenName ps i)
 
 -- the name that AT or PLACED says
 unfoldable pub termName : Names → Term → ℕ
 termName e (constant n) = n
-termName e (chosen i) = lookup e i
+termName e (chosen i) = chosenName e i
 
 -- the plain operand of a word of AT or PLACED, 0 for any other
 unfoldable pub ruleName : ℕ → ℕ
@@ -62,7 +62,7 @@ greatestRuleName (w ∷ ws) = max (ruleName w) (greatestRuleName ws)
 -- "The j-th PLACED word (from 0) makes part n + j": the PLACED words in a rule are m or later, and those inside another are
 -- later than that
 abbrev pub Later : (m : ℕ) → Rule → Type 0
-Later m (always i) = Unit {0}
+Later m (truth i) = Unit {0}
 Later m (negation i r) = Later m r
 Later m (either i r q) = Later m r × Later m q
 Later m (void i) = Unit {0}
@@ -75,5 +75,5 @@ Later m (placed i j t r) = (m ≤ j) × Later (suc j) r
 
 -- To unfold this is to unfold every definition of this module: for a proof by computation.
 unfoldable pub computing : Unit {0}
-unfolding ruleIndex lookup termName ruleName greatestRuleName
+unfolding ruleIndex chosenName termName ruleName greatestRuleName
 computing = tt

@@ -6,7 +6,7 @@ use native.Mathlib.Omega.{arith}
 use lib.Dec.{eqb, ltb}
 use borrow.Author.Tests.{eqb-true, ltb-true, ltb-false}
 use Rattle.slices.proofs.Tests.{byTest}
-use Rattle.scripts.specs.Tree.{Body, close, part, sum, parts, one, count}
+use Rattle.scripts.specs.Tree.{Body, close, part, total, parts, oneIf, timesIn}
 use Rattle.scripts.specs.Represents.{Numbered}
 
 -- how often a number stands in a tree that is numbered from n on
@@ -28,14 +28,14 @@ pub sooner : (v lo from hi k : ℕ) → lo ≤ from → Range v from hi k → Ra
 sooner v lo from hi k l x = record { once = x .once; under = λ h. x .under (omega arith); over = x .over }
 
 -- a number by itself
-pub one-range : (v i : ℕ) → Range v i (i + 1) (one (eqb v i))
+pub one-range : (v i : ℕ) → Range v i (i + 1) (oneIf (eqb v i))
 one-range v i = byTest (eqb v i)
     (λ t. let e = eqb-true v i t in rw t (record { once = omega arith; under = λ h. absurd (omega arith); over = λ h. absurd (omega arith) }))
     (λ t. rw t (record { once = omega arith; under = λ h. refl; over = λ h. refl }))
 
 module _ {H : Type 0} (j : ℕ) where
-  pub numbered-range : (n : ℕ) (b : Body H) → Numbered n b → Range j n (n + parts b) (count j b)
-  unfolding sum
+  pub numbered-range : (n : ℕ) (b : Body H) → Numbered n b → Range j n (n + parts b) (timesIn j b)
+  unfolding total
   numbered-range n close N = record { once = omega arith; under = λ h. refl; over = λ h. refl }
   numbered-range n (part i h b r) N =
       let B = numbered-range (n + 1) b (N .1) in
@@ -43,13 +43,13 @@ module _ {H : Type 0} (j : ℕ) where
       byTest (eqb j i)
       (λ t.
       let e : j ≡ i = eqb-true j i t in
-      let z : one (eqb j i) ≡ 1 = ap one t in
+      let z : oneIf (eqb j i) ≡ 1 = ap oneIf t in
       let i₀ : i ≡ n = N .0 in
       let b₀ = B .under (omega arith) in
       let r₀ = R .under (omega arith) in
       record { once = omega arith; under = λ h. absurd (omega arith); over = λ h. absurd (omega arith) })
       (λ t.
-      let z : one (eqb j i) ≡ 0 = ap one t in
+      let z : oneIf (eqb j i) ≡ 0 = ap oneIf t in
       record {
         once = byTest (ltb j (n + 1 + parts b))
             (λ l. omega (arith, B .once, R .under (ltb-true j (n + 1 + parts b) l)))

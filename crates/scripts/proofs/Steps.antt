@@ -13,7 +13,7 @@ use types.Run.{OneOf}
 use lib.Dec.{leb, eqb, ltb}
 use lib.ListN.{length, getD, take, drop, length-drop}
 use lib.Seq.{getD-drop, drop-drop, take-all}
-use Rattle.messages.specs.Reading.{Cursor, cursor, Reading, refuse, got, _>>=_, ask, split, nextWord, nextPart, outcome}
+use Rattle.messages.specs.Reading.{Cursor, cursor, Reading, refuse, got, _>>=_, ask, takeWord, nextWord, nextPart, outcome}
 use Rattle.messages.specs.Words.{kind, operand}
 use Rattle.messages.specs.Message.{Message}
 use Rattle.messages.specs.ReadMessage.{readMessage}
@@ -21,7 +21,7 @@ use Rattle.messages.proofs.Readings.{bind-got, placed, outcome-read, read≢ref
 use Rattle.slices.proofs.Tails.{part-drop, length-part}
 use Rattle.slices.proofs.Tails as Tails
 use Rattle.messages.proofs.Laws.{MessageRead, message-advances, readOf, read-bounds}
-use Rattle.scripts.specs.Tree.{Head, ambient, action, receipt, close, part, sum, parts, kindNumber}
+use Rattle.scripts.specs.Tree.{Head, ambient, action, receipt, close, part, total, parts, kindNumber}
 use Rattle.scripts.specs.Script.{Written, Script, partWord, fits, guardedHead, guardedFrom, partFrom, orClose, readBody, askedPart}
 use Rattle.scripts.specs.Table.{entered, startBy, tabulate, refusedAt, vacant, scanned, scannedPart}
 use Rattle.scripts.specs.declared.Table.{Table}
@@ -120,10 +120,10 @@ unroll f nest around c = refl
 
 body-cons : (f nest : ℕ) (around : List ℕ) (i n w : ℕ) (ws : List ℕ) → readBody (suc f) nest around (cursor i n (w ∷ ws))
     ≡ goesOn around (readMessage f nest around) (readBody f (suc nest)) i (cursor (suc i) n ws) (cursor (suc i) (suc n) ws) (behindPart f nest around n) (askedPart nest (partWord w))
-unfolding split askedPart
+unfolding takeWord askedPart
 body-cons f nest around i n w ws =
     unroll f nest around (cursor i n (w ∷ ws))
-    ∙ bind-got (split 5 i n (w ∷ ws)) _ (w, cursor (suc i) n ws) refl
+    ∙ bind-got (takeWord 5 i n (w ∷ ws)) _ (w, cursor (suc i) n ws) refl
     ∙ questions around (readMessage f nest around) (readBody f (suc nest)) i (cursor (suc i) n ws) (cursor (suc i) (suc n) ws) (behindPart f nest around n) (leb nest 64) (partWord w) (word-second w)
 
 pub body-none : (l : List ℕ) (i nest : ℕ) (around : List ℕ) (n : ℕ) → length l ≡ 0 → bodyAt l i nest around n ≡ refuse 5 i
@@ -174,7 +174,7 @@ pub entered-next : (o k s : ℕ) (table t : Table) → t ≡ entered o k s table
 entered-next o k s table t e = ap (λ (x : Table). x .count) e ∙ entered-count o k s table ∙ add-one (table .count)
 
 pub tabulate-count : (o : ℕ) (b : Script) (t : Table) → tabulate o b t .count ≡ t .count + parts b
-unfolding tabulate sum
+unfolding tabulate total
 tabulate-count o close t = omega arith
 tabulate-count o (part i w b r) t =
     omega (arith, tabulate-count o r (tabulate i b (entered o (kindNumber (w .head)) (startBy (w .head) (w .index)) t)), tabulate-count i b (entered o (kindNumber (w .head)) (startBy (w .head) (w .index)) t), entered-count o (kindNumber (w .head)) (startBy (w .head) (w .index)) t)
@@ -248,7 +248,7 @@ module _ (s : List ℕ) (at nest : ℕ) (around : List ℕ) (owner : ℕ) (table
         body-hands q i d = part-refused owner t here _ p q i told d ∙ sym goes
 
         again : (q : (Written × Script) × Cursor) (n : ℕ) (t′ : Table) → here ≡ got q → q .1 .index ≡ n → t′ ≡ tabulate owner (part (t .count) (q .0 .0) (q .0 .1) close) t → BodyOn s at nest around owner table k n t′
-        unfolding sum
+        unfolding total
         again q n t′ eq en et =
             let a : PartRead nest around (cursor (at + k + 1) (suc (t .count)) (drop 1 (drop k s))) q = part-read (length (drop k s) - 1) nest around w (at + k) (cursor (at + k + 1) (suc (t .count)) (drop 1 (drop k s))) q eq in
             let c : t′ .count ≡ t .count + parts (part (t .count) (q .0 .0) (q .0 .1) close) = ap (λ (x : Table). x .count) et ∙ tabulate-count owner (part (t .count) (q .0 .0) (q .0 .1) close) t in

@@ -12,12 +12,12 @@ use lib.Seq.{getD-set-same, getD-set-other}
 use lib.Dec.{leb, ltb, eqb}
 use borrow.Author.Tests.{ne-eqb, eqb-true, eqb-false, lt-ltb, le-ltb, ltb-true, ltb-false, leb-true}
 use Rattle.slices.proofs.Tests.{byTest}
-use Rattle.sets.specs.Sets.{members, insert, mask, Below}
+use Rattle.sets.specs.Sets.{members, inserted, mask, Below}
 use Rattle.sets.proofs.Members.{members-rising, members-below, members-empty}
-use Rattle.sets.proofs.Lists.{members-mask, insert-rising}
+use Rattle.sets.proofs.Lists.{members-mask, inserted-rising}
 use Rattle.messages.specs.Reading.{Cursor, cursor, got, ask, isEmpty}
 use Rattle.messages.proofs.Readings.{bind-all, got-all, ask-inv}
-use Rattle.scripts.specs.Tree.{Body, close, part, tops, sum, parts, mapHeads, kindNumber}
+use Rattle.scripts.specs.Tree.{Body, close, part, tops, total, parts, mapHeads, kindNumber}
 use Rattle.scripts.specs.Script.{Written, Script, readBody, readScript}
 use Rattle.scripts.specs.Table.{vacant, entered, startOf, tabulate, scanned}
 use Rattle.scripts.specs.Represents.{Numbered, Held, bodyIn, headAt, headIn, written, Placed, Low, Tabled}
@@ -27,11 +27,11 @@ use Rattle.scripts.proofs.Laws.{body-advances, short}
 
 -- ---- a number above all others of a rising list is inserted at its end
 
-insert-last : (n : ℕ) (l : List ℕ) → Below n l → insert n l ≡ l ++ (n ∷ [])
-unfolding insert
-insert-last n [] b = refl
-insert-last n (x ∷ l) b =
-    rw (le-ltb n x (omega (arith, b .0)), ne-eqb n x (λ e. omega (arith, b .0))) (ap (λ (k : List ℕ). x ∷ k) (insert-last n l (b .1)))
+inserted-last : (n : ℕ) (l : List ℕ) → Below n l → inserted n l ≡ l ++ (n ∷ [])
+unfolding inserted
+inserted-last n [] b = refl
+inserted-last n (x ∷ l) b =
+    rw (le-ltb n x (omega (arith, b .0)), ne-eqb n x (λ e. omega (arith, b .0))) (ap (λ (k : List ℕ). x ∷ k) (inserted-last n l (b .1)))
 
 below-more : (n m : ℕ) (l : List ℕ) → n ≤ m → Below n l → Below m l
 below-more n m [] h b = tt
@@ -54,7 +54,7 @@ module _ {G H : Type 0} (f : G → H) (k k′ : ℕ → List ℕ) (w w′ : ℕ 
   held-frame : (n : ℕ) (b : Body G) → Numbered n b
       → ((j : ℕ) → n ≤ j → j < n + parts b → k j ≡ k′ j) → ((j : ℕ) → n ≤ j → j < n + parts b → w j ≡ w′ j)
       → Held k w (mapHeads f b) → Held k′ w′ (mapHeads f b)
-  unfolding sum mapHeads
+  unfolding total mapHeads
   held-frame n close N K W h = tt
   held-frame n (part i g b r) N K W h =
       let e : i ≡ n = N .0 in (
@@ -92,18 +92,18 @@ other o n j w a b e = ⊎-elim (λ h. omega arith) (λ h. omega arith) (w .small
 owner-more : (o n m : ℕ) → n ≤ m → Owner o n → Owner o m
 owner-more o n m h w = record { inside = w .inside; smaller = ⊎-elim (λ a. inl (omega arith)) (λ a. inr a) (w .smaller) }
 
-insert-members : (n m : ℕ) → n < 64 → Below n (members m) → members (mask (insert n (members m))) ≡ members m ++ (n ∷ [])
-insert-members n m l b =
-    members-mask (insert n (members m)) (insert-rising 0 n (members m) (omega arith) (members-rising m))
-    (rw (insert-last n (members m) b) (below-append 64 (members m) (n ∷ []) (members-below m) (l, tt)))
-    ∙ insert-last n (members m) b
+inserted-members : (n m : ℕ) → n < 64 → Below n (members m) → members (mask (inserted n (members m))) ≡ members m ++ (n ∷ [])
+inserted-members n m l b =
+    members-mask (inserted n (members m)) (inserted-rising 0 n (members m) (omega arith) (members-rising m))
+    (rw (inserted-last n (members m) b) (below-append 64 (members m) (n ∷ []) (members-below m) (l, tt)))
+    ∙ inserted-last n (members m) b
 
 -- one part more
 module _ (o k s : ℕ) (t : Table) (R : Room t) (W : Owner o (t .count)) (l : t .count < 64) where
   entered-is : entered o k s t ≡ record {
     kinds = set (t .kinds) (t .count) k;
     starts = set (t .starts) (t .count) s;
-    kids = set (t .kids) o (mask (insert (t .count) (members (getD (t .kids) o 0))));
+    kids = set (t .kids) o (mask (inserted (t .count) (members (getD (t .kids) o 0))));
     count = t .count + 1;
   }
   unfolding entered
@@ -118,8 +118,8 @@ module _ (o k s : ℕ) (t : Table) (R : Room t) (W : Owner o (t .count)) (l : t 
   entered-own : Below (t .count) (bodyIn (t .kids) o) → bodyIn (entered o k s t .kids) o ≡ bodyIn (t .kids) o ++ (t .count ∷ [])
   entered-own B =
       rw entered-is
-      (ap members (getD-set-same (t .kids) o (mask (insert (t .count) (members (getD (t .kids) o 0)))) 0 (omega (arith, R .kids-length, W .inside)))
-      ∙ insert-members (t .count) (getD (t .kids) o 0) l B)
+      (ap members (getD-set-same (t .kids) o (mask (inserted (t .count) (members (getD (t .kids) o 0)))) 0 (omega (arith, R .kids-length, W .inside)))
+      ∙ inserted-members (t .count) (getD (t .kids) o 0) l B)
 
   entered-kids : (j : ℕ) → (j ≡ o → ⊥) → getD (entered o k s t .kids) j 0 ≡ getD (t .kids) j 0
   entered-kids j n = rw entered-is (getD-set-other (t .kids) o j _ 0 n)
@@ -221,7 +221,7 @@ module _ (ws : List ℕ) (o i : ℕ) (w : Written) (b r : Script) (t t₁ t₂ :
 
     part-filled : bodyIn (t₂ .kids) o ≡ bodyIn (t .kids) o ++ (i ∷ []) → bodyIn (t₁ .kids) i ≡ [] → getD (t₁ .kinds) i 0 ≡ kindNumber (w .head) → getD (t₁ .starts) i 0 ≡ startOf w
         → Numbered (t .count + 1) b → Placed ws (part i w b r) → Filled ws o (part i w b r) t u
-    unfolding sum tops mapHeads
+    unfolding total tops mapHeads
     part-filled h n k s N P = record {
       wrote = all-wrote;
       own = G .own ∙ ap (λ (m : List ℕ). m ++ tops r) h ∙ append-assoc (bodyIn (t .kids) o) (i ∷ []) (tops r);
@@ -259,7 +259,7 @@ module _ (ws : List ℕ) (o i : ℕ) (w : Written) (b r : Script) (t : Table) (e
 
 module _ (ws : List ℕ) where
   filled : (o : ℕ) (b : Script) → Fills ws o b
-  unfolding tabulate sum tops mapHeads
+  unfolding tabulate total tops mapHeads
   filled o close t N P l R W B = record {
     wrote = record { counts = omega arith; room = R; kinds-kept = λ j a. refl; starts-kept = λ j a. refl; kids-kept = λ j n a. refl };
     own = sym (append-nil (bodyIn (t .kids) o));

@@ -6,7 +6,7 @@ use lib.ListN.{length}
 use lib.Dec.{eqb}
 use Rattle.messages.specs.Words.{kind, operand}
 use Rattle.messages.specs.Message.{Message, items}
-use Rattle.scripts.specs.Tree.{Head, ambient, action, receipt, output, sum, greatest}
+use Rattle.scripts.specs.Tree.{Head, ambient, action, receipt, output, total, greatest}
 use Rattle.scripts.specs.Script.{Script}
 
 -- "In the bound, receipts and actions are the script's RECs and ACTs"
@@ -23,10 +23,10 @@ isAction (receipt v) = 0
 isAction (output m) = 0
 
 unfoldable pub receiptsIn : Script → ℕ
-receiptsIn b = sum (λ i w. isReceipt (w .head)) b
+receiptsIn b = total (λ i w. isReceipt (w .head)) b
 
 unfoldable pub actionsIn : Script → ℕ
-actionsIn b = sum (λ i w. isAction (w .head)) b
+actionsIn b = total (λ i w. isAction (w .head)) b
 
 -- "items are those of its parts' messages as read, a VAR counting as one"
 abbrev pub itemsOf : Head Message → ℕ

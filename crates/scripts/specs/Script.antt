@@ -1,5 +1,5 @@
--- How a script is read from words: questions 1 to 6 (document 01, "Questions at the door").
--- Assumes nothing: these are definitions.
+-- How a script is read from words: questions 1 to 6 (document 01, "Questions at the door"); and the plain machine's tree that
+-- it begins as. Assumes nothing: these are definitions.
 use Prim.Native.Nat.{ℕ, zero, suc}
 use mathlib.Core.Bool.{Bool, true, false, _&&_, cond}
 use mathlib.Core.List.{List, [], _∷_}
@@ -21,7 +21,7 @@ pub record Written : Type 0 where
 abbrev pub Script : Type 0
 Script = Body Written
 
--- "0 CLOSE. 1 AMB. 2 ACT. 3 REC. 4 OUT."
+-- "0 CLOSE. 1 AMB .. 2 ACT .. 3 REC .. 4 OUT"
 abbrev pub partKind : ℕ → PartWord
 partKind k =
     cond (eqb k 0) Close
@@ -34,7 +34,7 @@ partKind k =
 unfoldable pub partWord : ℕ → PartWord
 partWord w = cond (eqb (operand w) 0) (partKind (kind w)) (No 2)
 
--- question 2: "Does this word's kind and operand fit?"
+-- question 2: "Does this word's kind and operand fit (VAR: any operand)?"
 unfoldable pub fits : PartWord → Bool
 fits Close = true
 fits Ambient = true

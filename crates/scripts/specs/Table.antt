@@ -4,7 +4,7 @@ use Prim.Native.Nat.{ℕ, _+_}
 use mathlib.Core.Bool.{cond}
 use lib.ListN.{getD, set, replicate}
 use lib.Dec.{ltb}
-use Rattle.sets.specs.Sets.{members, insert, mask}
+use Rattle.sets.specs.Sets.{members, inserted, mask}
 use Rattle.messages.specs.Reading.{Cursor, Reading, refuse, got}
 use Rattle.messages.specs.Message.{Message}
 use Rattle.messages.specs.declared.Outcome.the-variants.{Read, Refused}
@@ -25,7 +25,7 @@ entered o k s t =
     (record {
       kinds = set (t .kinds) (t .count) k;
       starts = set (t .starts) (t .count) s;
-      kids = set (t .kids) o (mask (insert (t .count) (members (getD (t .kids) o 0))));
+      kids = set (t .kids) o (mask (inserted (t .count) (members (getD (t .kids) o 0))));
       count = t .count + 1;
     })
     (record { kinds = t .kinds; starts = t .starts; kids = t .kids; count = t .count + 1 })

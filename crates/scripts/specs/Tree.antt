@@ -20,12 +20,13 @@ pub data Body (H : Type 0) : Type 0 where
   part : (number : ℕ) (head : H) (inside : Body H) (rest : Body H) → Body H
 
 -- one where the test holds
-abbrev pub one : Bool → ℕ
-one true = 1
-one false = 0
+abbrev pub oneIf : Bool → ℕ
+oneIf true = 1
+oneIf false = 0
 
 module _ {A : Type 0} where
-  -- "1 AMB: message, body. 2 ACT (action): message, body. 3 REC (receipt): body. 4 OUT (output): message."
+  -- "1 AMB: message, body. 2 ACT (action): message, body. 3 REC (receipt): body; its variable is this
+  -- word's index. 4 OUT (output): message."
   unfoldable pub kindNumber : Head A → ℕ
   kindNumber (ambient m) = 1
   kindNumber (action a) = 2
@@ -45,9 +46,9 @@ module _ {H : Type 0} where
   tops (part i h b r) = i ∷ tops r
 
   -- the sum of f over all parts, at any depth
-  unfoldable pub sum : (ℕ → H → ℕ) → Body H → ℕ
-  sum f close = 0
-  sum f (part i h b r) = f i h + (sum f b + sum f r)
+  unfoldable pub total : (ℕ → H → ℕ) → Body H → ℕ
+  total f close = 0
+  total f (part i h b r) = f i h + (total f b + total f r)
 
   -- the greatest value of f over all parts, 0 if there are none
   unfoldable pub greatest : (ℕ → H → ℕ) → Body H → ℕ
@@ -56,11 +57,11 @@ module _ {H : Type 0} where
 
   -- "the parts in the tree": how many there are
   abbrev pub parts : Body H → ℕ
-  parts b = sum (λ i h. 1) b
+  parts b = total (λ i h. 1) b
 
   -- how often part number j stands in the tree
-  abbrev pub count : ℕ → Body H → ℕ
-  count j b = sum (λ i h. one (eqb j i)) b
+  abbrev pub timesIn : ℕ → Body H → ℕ
+  timesIn j b = total (λ i h. oneIf (eqb j i)) b
 
   -- the body with one part more, at the place of its number
   unfoldable pub put : ℕ → H → Body H → Body H → Body H
@@ -107,5 +108,5 @@ settle b = settleBy bare b
 
 -- To unfold this is to unfold every definition of this module: for a proof by computation.
 unfoldable pub computing : Unit {0}
-unfolding kindNumber isAmbient tops sum greatest put merge mapHeads settleBy bare settle
+unfolding kindNumber isAmbient tops total greatest put merge mapHeads settleBy bare settle
 computing = tt

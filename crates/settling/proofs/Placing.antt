@@ -9,7 +9,7 @@ use lib.Seq.{getD-set-same, getD-set-other, lt-length-set}
 use borrow.Author.Tests.{eqb-true, ne-eqb, le-ltb}
 use Rattle.messages.specs.Message.{name}
 use Rattle.sets.specs.Sets.{members}
-use Rattle.scripts.specs.Tree.{ambient, close, part, tops, sum, parts, count}
+use Rattle.scripts.specs.Tree.{ambient, close, part, tops, total, parts, timesIn}
 use Rattle.scripts.specs.Represents.{bodyIn}
 use Rattle.bindings.specs.Resolve.{messageOf}
 use Rattle.held_bindings.specs.declared.Bindings as arrays
@@ -18,14 +18,14 @@ use Rattle.closure_machine.specs.Closure.{Closure}
 use Rattle.closures.specs.Represents.{headOf, heads, Represents}
 use Rattle.closures.specs.declared.State.{State}
 use Rattle.closures.proofs.Heads.{head-ambient}
-use Rattle.closures.proofs.Holding.{differ, frame}
+use Rattle.closures.proofs.Holding.{numbers-differ, frame}
 
 -- a start from 65536 on is a name
 given : (script : List ℕ) (n : ℕ) → messageOf script (65536 + n) ≡ name n
 unfolding messageOf
 given script n = let e : 65536 + n - 65536 ≡ n = omega arith in rw (le-ltb (65536 + n) 65536 (omega arith)) (ap name e)
 
-module _ (script kinds starts : List ℕ) (weight spent : ℕ) (s r : State) (b : Closure) (i n m : ℕ) (R : Represents script kinds starts weight spent s b) (free : count i b ≡ 0)
+module _ (script kinds starts : List ℕ) (weight spent : ℕ) (s r : State) (b : Closure) (i n m : ℕ) (R : Represents script kinds starts weight spent s b) (free : timesIn i b ≡ 0)
     (low : i < 64) (in-kinds : i < length kinds) (in-starts : i < length starts) (in-kids : length (s .kids) ≡ 65)
     (bodies : r .kids ≡ set (set (s .kids) i (getD (s .kids) 64 0)) 64 m) (top : members m ≡ i ∷ []) (offsets : r .offsets ≡ s .offsets) (bound : r .bindings ≡ s .bindings) where
   abbrev kinds′ : List ℕ
@@ -41,10 +41,10 @@ module _ (script kinds starts : List ℕ) (weight spent : ℕ) (s r : State) (b 
   body-is j v e = ap members (ap (λ (l : List ℕ). getD l j 0) bodies ∙ e)
 
   -- a part of the tree is neither the new one nor the top
-  others : (j : ℕ) → 1 ≤ count j b → (bodyIn (s .kids) j ≡ bodyIn (r .kids) j) × (heads script kinds starts (s .offsets) j ≡ heads script kinds′ starts′ (r .offsets) j)
+  others : (j : ℕ) → 1 ≤ timesIn j b → (bodyIn (s .kids) j ≡ bodyIn (r .kids) j) × (heads script kinds starts (s .offsets) j ≡ heads script kinds′ starts′ (r .offsets) j)
   others j c =
-      let not-new : j ≡ i → ⊥ = differ j i b c free in
-      let not-top : j ≡ 64 → ⊥ = differ j 64 b c (R .inside 64 (omega arith)) in
+      let not-new : j ≡ i → ⊥ = numbers-differ j i b c free in
+      let not-top : j ≡ 64 → ⊥ = numbers-differ j 64 b c (R .inside 64 (omega arith)) in
       let ek : getD kinds′ j 0 ≡ getD kinds j 0 = getD-set-other kinds i j 1 0 not-new in
       let es : getD starts′ j 0 ≡ getD starts j 0 = getD-set-other starts i j (65536 + n) 0 not-new in (
         sym (body-is j (getD (s .kids) j 0) (getD-set-other inner 64 j m 0 not-top ∙ getD-set-other (s .kids) i j (getD (s .kids) 64 0) 0 not-new)),
@@ -52,7 +52,7 @@ module _ (script kinds starts : List ℕ) (weight spent : ℕ) (s r : State) (b 
       )
 
   pub placed-is : weight < 64 → Represents script kinds′ starts′ (weight + 1) spent r (part i (ambient (name n)) b close)
-  unfolding tops sum
+  unfolding tops total
   placed-is light = record {
     top = body-is 64 m (getD-set-same inner 64 m 0 (lt-length-set (s .kids) i (getD (s .kids) 64 0) (omega arith))) ∙ top;
     held = (

@@ -10,7 +10,7 @@ use lib.Seq.{getD-set-same, getD-set-other}
 use borrow.Author.Tests.{lt-ltb, ltb-true, ltb-false}
 use Rattle.messages.specs.Message.{Message}
 use Rattle.sets.specs.Sets.{members}
-use Rattle.scripts.specs.Tree.{Head, close, part, one, parts, count, mapHeads}
+use Rattle.scripts.specs.Tree.{Head, close, part, oneIf, parts, timesIn, mapHeads}
 use Rattle.scripts.specs.Script.{Written, Script}
 use Rattle.scripts.specs.Represents.{Held, bodyIn, headAt, headIn, written, Tabled}
 use Rattle.scripts.proofs.Numbers.{numbered-range}
@@ -18,7 +18,7 @@ use Rattle.bindings.specs.Resolve.{messageOf}
 use Rattle.held_bindings.specs.declared.Bindings as arrays
 use Rattle.held_bindings.specs.Held.{bindingsOf}
 use Rattle.slices.proofs.Tests.{byTest}
-use Rattle.machine.proofs.Sums.{map-sum, settle-sum}
+use Rattle.machine.proofs.Sums.{map-total, settle-total}
 use Rattle.machine.proofs.Naturality.{tops-map}
 use Rattle.closure_machine.specs.Closure.{ClosureHead, Closure, Bindings, allSpent, settleUnder, wholeHead, closureOf}
 use Rattle.closures.specs.Represents.{headOf, heads, boundIn, Counted, Ready, Represents}
@@ -26,12 +26,12 @@ use Rattle.closures.specs.Searches.{SettlesBy}
 use Rattle.closures.specs.Seen.{Seen}
 use Rattle.closures.specs.declared.Looks.{Looks}
 use Rattle.closures.specs.declared.State.{State}
-use Rattle.closures.proofs.Holding.{differ, frame}
+use Rattle.closures.proofs.Holding.{numbers-differ, frame}
 use Rattle.closures.proofs.Heads.{kind-ambient}
 use Rattle.lent_states.specs.Lent.{kindsIn, standing}
 use Rattle.arrays.proofs.Copying.{getD-stretch}
 use Rattle.lent_states.proofs.Standing.{below-64, body-in}
-use Rattle.settling.proofs.Settling.{settled-count}
+use Rattle.settling.proofs.Settling.{settled-times}
 
 -- the state after its parts are settled from the top
 pub settled-is : (script kinds starts : List ℕ) (weight spent : ℕ) (sets numbers : List ℕ) (b : Closure) (after : List ℕ) (m : ℕ) → kindsIn numbers ≡ kinds → Ready script kinds starts (standing sets numbers)
@@ -46,16 +46,16 @@ settled-is script kinds starts weight spent sets numbers b after m ek ready few 
     let held : Held (bodyIn sets) w b = frame (bodyIn (s .kids)) (bodyIn sets) w w b (R .held) (λ i c. let low : i < 64 = below-64 b (R .inside) i c in (body-in sets i (omega arith), refl)) in
     let kind : (i : ℕ) → i < 64 → getD numbers i 0 ≡ getD kinds i 0 = λ i n. let e : i ≡ 0 + i = omega arith in ap (λ (x : ℕ). getD numbers x 0) e ∙ sym (getD-stretch 0 64 i numbers n) ∙ ap (λ (x : List ℕ). getD x i 0) ek in
     let q = S τ w (λ i n. seen .deeds i n .settles) (λ i n. ap (λ (x : ℕ). eqb x 1) (kind i n) ∙ kind-ambient script (getD kinds i 0) (getD starts i 0) (getD (s .offsets) i 0)) b (sym (body-in sets 64 (omega arith)) ∙ R .top) held (R .once) (omega (arith, R .weighs, R .light)) in
-    let inside : (i : ℕ) → 64 ≤ i → count i (settleUnder τ b) ≡ 0 = λ i h. omega (arith, settled-count τ i b, R .inside i h) in
+    let inside : (i : ℕ) → 64 ≤ i → timesIn i (settleUnder τ b) ≡ 0 = λ i h. omega (arith, settled-times τ i b, R .inside i h) in
     record {
       top = body-in (set after 64 m) 64 (omega arith) ∙ ap members (getD-set-same after 64 m 0 (omega arith)) ∙ q .0;
       held =
           frame (bodyIn after) (bodyIn (standing (set after 64 m) numbers .kids)) w w (settleUnder τ b) (q .1)
-          (λ i c. let low : i < 64 = below-64 (settleUnder τ b) inside i c in (sym (body-in (set after 64 m) i (omega arith) ∙ ap members (getD-set-other after 64 i m 0 (differ i 64 (settleUnder τ b) c (inside 64 (omega arith))))), refl));
-      once = λ i. omega (arith, settled-count τ i b, R .once i);
+          (λ i c. let low : i < 64 = below-64 (settleUnder τ b) inside i c in (sym (body-in (set after 64 m) i (omega arith) ∙ ap members (getD-set-other after 64 i m 0 (numbers-differ i 64 (settleUnder τ b) c (inside 64 (omega arith))))), refl));
+      once = λ i. omega (arith, settled-times τ i b, R .once i);
       inside = inside;
       light = R .light;
-      weighs = omega (arith, settle-sum (λ i h. 1) (allSpent τ) b, R .weighs);
+      weighs = omega (arith, settle-total (λ i h. 1) (allSpent τ) b, R .weighs);
       spends = R .spends;
     }
 
@@ -84,7 +84,7 @@ pub begun : (script kinds starts kids : List ℕ) (n : ℕ) (s : State) (b : Scr
 unfolding closureOf
 begun script kinds starts kids n s b T ek eo ef =
     let zero : (i : ℕ) → getD (s .offsets) i 0 ≡ 0 = λ i. ap (λ (o : List ℕ). getD o i 0) eo ∙ zeros i in
-    let numbers : (j : ℕ) → count j (closureOf b) ≡ count j b = λ j. map-sum (λ i h. one (eqb j i)) (λ (x : Written). wholeHead (x .head)) b in
+    let numbers : (j : ℕ) → timesIn j (closureOf b) ≡ timesIn j b = λ j. map-total (λ i h. oneIf (eqb j i)) (λ (x : Written). wholeHead (x .head)) b in
     let few : parts b ≤ 64 = omega (arith, T .few, T .counted) in
     record {
       top = ap (λ (l : List ℕ). bodyIn l 64) ek ∙ T .top ∙ sym (tops-map (λ (x : Written). wholeHead (x .head)) b);
@@ -94,7 +94,7 @@ begun script kinds starts kids n s b T ek eo ef =
       once = λ i. omega (arith, numbers i, numbered-range i 0 b (T .numbered) .once);
       inside = λ i h. omega (arith, numbers i, numbered-range i 0 b (T .numbered) .over (omega arith));
       light = few;
-      weighs = omega (arith, map-sum (λ i h. 1) (λ (x : Written). wholeHead (x .head)) b);
+      weighs = omega (arith, map-total (λ i h. 1) (λ (x : Written). wholeHead (x .head)) b);
       spends = λ i. omega (arith, zero i);
     }
   where

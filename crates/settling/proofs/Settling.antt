@@ -1,25 +1,25 @@
 -- A body that is settled part by part: what the sets hold then. Assumes nothing.
 use Prim.Native.Nat.{ℕ, suc, _-_, _^_, _≤_, _<_}
 use mathlib.Core.Bool.{Bool, true, false, _&&_, _||_, true≢false}
-use mathlib.Core.List.{List, [], _∷_}
+use mathlib.Core.List.{List, [], _∷_, tail}
 use mathlib.Core.Path.{_≡_, refl, sym, ap, ap₂, _∙_, subst}
 use native.Mathlib.Omega.{arith}
 use lib.Dec.{eqb}
 use borrow.Author.Tests.{eqb-true, eq-eqb}
-use Rattle.sets.specs.Sets.{members, elem, insert, join, both, keep, headOr, tail, Rising, Below}
-use Rattle.sets.proofs.Members.{insert-front, elem-keep, members-empty, members-same, members-below}
-use Rattle.scripts.specs.Tree.{ambient, action, receipt, output, close, part, one, isAmbient, tops, sum, count, settleBy}
+use Rattle.sets.specs.Sets.{members, elem, inserted, joined, both, keep, headOr, Rising, Below}
+use Rattle.sets.proofs.Members.{inserted-front, elem-keep, members-empty, members-same, members-below}
+use Rattle.scripts.specs.Tree.{ambient, action, receipt, output, close, part, oneIf, isAmbient, tops, total, timesIn, settleBy}
 use Rattle.scripts.specs.Represents.{Held}
 use Rattle.slices.proofs.Tests.{byTest}
-use Rattle.machine.proofs.Sums.{settle-sum}
+use Rattle.machine.proofs.Sums.{settle-total}
 use Rattle.closure_machine.specs.Closure.{ClosureHead, Closure, Bindings, allSpent, settleUnder}
 use Rattle.closures.specs.Searches.{Settles}
 use Rattle.closures.specs.Seen.{busyUnder, Busy}
-use Rattle.closures.proofs.Holding.{no-cons, self, tops-put, tops-merge, differ, frame, held-put, held-merge}
+use Rattle.closures.proofs.Holding.{no-cons, self, tops-put, tops-merge, numbers-differ, frame, held-put, held-merge}
 
 -- no number stands more often than before
-pub settled-count : (σ : Bindings) (j : ℕ) (b : Closure) → count j (settleUnder σ b) ≤ count j b
-settled-count σ j b = settle-sum (λ i h. one (eqb j i)) (allSpent σ) b
+pub settled-times : (σ : Bindings) (j : ℕ) (b : Closure) → timesIn j (settleUnder σ b) ≤ timesIn j b
+settled-times σ j b = settle-total (λ i h. oneIf (eqb j i)) (allSpent σ) b
 
 -- a part at which settling does not look stays as it is
 pub not-busy : (σ : Bindings) (h : ClosureHead) → busyUnder σ h ≡ false → (allSpent σ h ≡ false) × (isAmbient h ≡ false)
@@ -54,7 +54,7 @@ quiet-body σ k w a (part j g s r) up none h =
     let free : busyUnder σ g ≡ false = ap (busyUnder σ) (sym (h .1)) ∙ none j (ap (λ (t : Bool). t || elem j (tops r)) (eq-eqb j j refl)) in
     let (bare, amb) = not-busy σ g free in
     rw (bare, amb) (
-      ap (λ (l : List ℕ). j ∷ l) (q .0) ∙ sym (tops-put j g s (settleUnder σ r) ∙ insert-front j (tops (settleUnder σ r)) (subst (Rising (suc j)) (q .0) (up .1))),
+      ap (λ (l : List ℕ). j ∷ l) (q .0) ∙ sym (tops-put j g s (settleUnder σ r) ∙ inserted-front j (tops (settleUnder σ r)) (subst (Rising (suc j)) (q .0) (up .1))),
       held-put k w j g s (settleUnder σ r) (h .0) (h .1) (h .2) (q .1),
     )
   where
@@ -72,21 +72,21 @@ module _ (σ : Bindings) (k k₁ : ℕ → List ℕ) (w : ℕ → ClosureHead) (
       )
 
   pub settle-no-fuel : (x : ℕ) (l : List ℕ) → left ≡ x ∷ l → fuel ≡ 0 → Settles σ k k₁ w left R fuel
-  unfolding tops sum
+  unfolding tops total
   settle-no-fuel x l z d close e h once m = absurd (no-cons x l (sym z ∙ e))
   settle-no-fuel x l z d (part i g s r) e h once m = absurd (let o : ⊥ = omega arith in o)
 
   module _ (i : ℕ) (l X : List ℕ) (first : left ≡ i ∷ l) (rest : Settles σ k k₁ w l R (fuel - 1)) where
     -- a part that stays as it is
-    pub settle-keeps : allSpent σ (w i) ≡ false → isAmbient (w i) ≡ false → X ≡ insert i R → Settles σ k k₁ w left X fuel
-    unfolding settleBy tops sum
+    pub settle-keeps : allSpent σ (w i) ≡ false → isAmbient (w i) ≡ false → X ≡ inserted i R → Settles σ k k₁ w left X fuel
+    unfolding settleBy tops total
     settle-keeps b m x close e h once z = absurd (no-cons i l (sym first ∙ e))
     settle-keeps b m x (part j g s r) e h once z =
         let p : i ≡ j = ap (headOr 0) (sym first ∙ e) in
         let a : g ≡ w i = sym (h .1) ∙ ap w (sym p) in
         let q = rest r (ap tail (sym first ∙ e)) (h .3) (λ n. omega (arith, once n)) (omega arith) in
         rw (ap (allSpent σ) a ∙ b, ap isAmbient a ∙ m) (
-          x ∙ ap₂ insert p (q .0) ∙ sym (tops-put j g s (settleUnder σ r)),
+          x ∙ ap₂ inserted p (q .0) ∙ sym (tops-put j g s (settleUnder σ r)),
           held-put k₁ w j g s (settleUnder σ r) (sym (q .2 j (omega (arith, once j, self j))) ∙ h .0) (h .1)
               (frame k k₁ w w s (h .2) (λ n c. (q .2 n (omega (arith, once n)), refl))) (q .1),
           λ n c. q .2 n (omega arith),
@@ -94,8 +94,8 @@ module _ (σ : Bindings) (k k₁ : ℕ → List ℕ) (w : ℕ → ClosureHead) (
 
     module _ (k₂ : ℕ → List ℕ) (S : List ℕ) (inside : Settles σ k₁ k₂ w (k₁ i) S (fuel - 1)) where
       -- an action with no items left: its body comes in its place
-      pub settle-melts : allSpent σ (w i) ≡ true → X ≡ join S R → Settles σ k k₂ w left X fuel
-      unfolding settleBy tops sum
+      pub settle-melts : allSpent σ (w i) ≡ true → X ≡ joined S R → Settles σ k k₂ w left X fuel
+      unfolding settleBy tops total
       settle-melts b x close e h once z = absurd (no-cons i l (sym first ∙ e))
       settle-melts b x (part j g s r) e h once z =
           let p : i ≡ j = ap (headOr 0) (sym first ∙ e) in
@@ -104,15 +104,15 @@ module _ (σ : Bindings) (k k₁ : ℕ → List ℕ) (w : ℕ → ClosureHead) (
           let held-s : Held k₁ w s = frame k k₁ w w s (h .2) (λ n c. (q .2 n (omega (arith, once n)), refl)) in
           let y = inside s (ap k₁ p ∙ sym (q .2 j (omega (arith, once j, self j))) ∙ h .0) held-s (λ n. omega (arith, once n)) (omega arith) in
           rw (ap (allSpent σ) a ∙ b) (
-            x ∙ ap₂ join (y .0) (q .0) ∙ sym (tops-merge (settleUnder σ s) (settleUnder σ r)),
+            x ∙ ap₂ joined (y .0) (q .0) ∙ sym (tops-merge (settleUnder σ s) (settleUnder σ r)),
             held-merge k₂ w (settleUnder σ s) (settleUnder σ r) (y .1)
-                (frame k₁ k₂ w w (settleUnder σ r) (q .1) (λ n c. (y .2 n (omega (arith, settled-count σ n r, once n)), refl))),
+                (frame k₁ k₂ w w (settleUnder σ r) (q .1) (λ n c. (y .2 n (omega (arith, settled-times σ n r, once n)), refl))),
             λ n c. q .2 n (omega arith) ∙ y .2 n (omega arith),
           )
 
       -- an ambient: it stays, and its body is settled
-      pub settle-enters : (k₃ : ℕ → List ℕ) → allSpent σ (w i) ≡ false → isAmbient (w i) ≡ true → X ≡ insert i R → k₃ i ≡ S → ((j : ℕ) → (j ≡ i → ⊥) → k₂ j ≡ k₃ j) → Settles σ k k₃ w left X fuel
-      unfolding settleBy tops sum
+      pub settle-enters : (k₃ : ℕ → List ℕ) → allSpent σ (w i) ≡ false → isAmbient (w i) ≡ true → X ≡ inserted i R → k₃ i ≡ S → ((j : ℕ) → (j ≡ i → ⊥) → k₂ j ≡ k₃ j) → Settles σ k k₃ w left X fuel
+      unfolding settleBy tops total
       settle-enters k₃ b m x c d close e h once z = absurd (no-cons i l (sym first ∙ e))
       settle-enters k₃ b m x c d (part j g s r) e h once z =
           let p : i ≡ j = ap (headOr 0) (sym first ∙ e) in
@@ -120,16 +120,16 @@ module _ (σ : Bindings) (k k₁ : ℕ → List ℕ) (w : ℕ → ClosureHead) (
           let q = rest r (ap tail (sym first ∙ e)) (h .3) (λ n. omega (arith, once n)) (omega arith) in
           let held-s : Held k₁ w s = frame k k₁ w w s (h .2) (λ n c. (q .2 n (omega (arith, once n)), refl)) in
           let y = inside s (ap k₁ p ∙ sym (q .2 j (omega (arith, once j, self j))) ∙ h .0) held-s (λ n. omega (arith, once n)) (omega arith) in
-          let zs : count j (settleUnder σ s) ≡ 0 = omega (arith, settled-count σ j s, once j, self j) in
-          let zr : count j (settleUnder σ r) ≡ 0 = omega (arith, settled-count σ j r, once j, self j) in
+          let zs : timesIn j (settleUnder σ s) ≡ 0 = omega (arith, settled-times σ j s, once j, self j) in
+          let zr : timesIn j (settleUnder σ r) ≡ 0 = omega (arith, settled-times σ j r, once j, self j) in
           rw (ap (allSpent σ) a ∙ b, ap isAmbient a ∙ m) (
-            x ∙ ap₂ insert p (q .0) ∙ sym (tops-put j g (settleUnder σ s) (settleUnder σ r)),
+            x ∙ ap₂ inserted p (q .0) ∙ sym (tops-put j g (settleUnder σ s) (settleUnder σ r)),
             held-put k₃ w j g (settleUnder σ s) (settleUnder σ r) (ap k₃ (sym p) ∙ c ∙ y .0) (h .1)
-                (frame k₂ k₃ w w (settleUnder σ s) (y .1) (λ n f. (d n (λ v. differ n j (settleUnder σ s) f zs (v ∙ p)), refl)))
+                (frame k₂ k₃ w w (settleUnder σ s) (y .1) (λ n f. (d n (λ v. numbers-differ n j (settleUnder σ s) f zs (v ∙ p)), refl)))
                 (frame k₁ k₃ w w (settleUnder σ r) (q .1)
-                (λ n f. (y .2 n (omega (arith, settled-count σ n r, once n)) ∙ d n (λ v. differ n j (settleUnder σ r) f zr (v ∙ p)), refl))),
+                (λ n f. (y .2 n (omega (arith, settled-times σ n r, once n)) ∙ d n (λ v. numbers-differ n j (settleUnder σ r) f zr (v ∙ p)), refl))),
             λ n f. q .2 n (omega arith) ∙ y .2 n (omega arith)
-                ∙ d n (λ (v : n ≡ i). let o : 1 ≤ one (eqb n j) = subst (λ (a : ℕ). 1 ≤ one (eqb n a)) (v ∙ p) (omega (arith, self n)) in let o₁ : ⊥ = omega arith in o₁),
+                ∙ d n (λ (v : n ≡ i). let o : 1 ≤ oneIf (eqb n j) = subst (λ (a : ℕ). 1 ≤ oneIf (eqb n a)) (v ∙ p) (omega (arith, self n)) in let o₁ : ⊥ = omega arith in o₁),
           )
 
 -- ---- the parts at which settling looks, as a set

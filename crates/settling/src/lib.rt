@@ -21,12 +21,12 @@ ghost use Prim.Native.Nat.{ℕ, _+_, _≤_, _<_};
 ghost use lib.ListN.{length, getD, set};
 ghost use Rattle.sets.specs.Sets.{members};
 ghost use Rattle.messages.specs.Message.{name as named};
-ghost use Rattle.scripts.specs.Tree.{ambient, close, part, parts, count};
+ghost use Rattle.scripts.specs.Tree.{ambient, close, part, parts, timesIn};
 ghost use Rattle.scripts.specs.Represents.{bodyIn, Tabled};
 ghost use Rattle.scripts.specs.Script.{Script};
 ghost use Rattle.held_bindings.specs.Held.{bindingsOf};
 ghost use Rattle.machine.specs.Moves.{firstOf};
-ghost use Rattle.closure_machine.specs.Closure.{Closure, under, settleUnder, closureOf};
+ghost use Rattle.closure_machine.specs.Closure.{Closure, viewUnder, settleUnder, closureOf};
 ghost use Rattle.closures.specs.Searches.{SettlesBy};
 ghost use Rattle.closures.specs.Represents.{headOf, boundIn, Counted, Ready, Represents};
 ghost use Rattle.targets.specs.Makes.{Received};
@@ -84,7 +84,7 @@ pub fn settle<'a, 'b>(sets: &'b mut [u64; 131], numbers: &'a [u32; 481])
 // The first item of an action that is not spent, under the bindings that are lent.
 fn item_under(script: &[u32], start: u32, offset: u32, numbers: &[u32; 481]) -> First
     requires { ⌜ Counted (now script) (bindingsAt (now numbers)) ⌝ }
-    ensures { λ r. ⌜ (offset < 4294967295 → r ≡ firstOf (under (bindingsOf (now (script .entry)) (bindingsAt (now (numbers .entry))))) (headOf (now (script .entry)) 2 start offset)) ⌝ }
+    ensures { λ r. ⌜ (offset < 4294967295 → r ≡ firstOf (viewUnder (bindingsOf (now (script .entry)) (bindingsAt (now (numbers .entry))))) (headOf (now (script .entry)) 2 start offset)) ⌝ }
 {
     let variables = numbers_32(numbers, 320);
     let places = numbers_32(numbers, 352);
@@ -195,7 +195,7 @@ pub fn place_part(
 ) -> Placed
     requires { ⌜ (i < 64) × (name < 536870912) × Ready (now script) kinds starts state ⌝ }
     ensures ready { λ r. ⌜ Ready (now (script .entry)) (r .kinds) (r .starts) (r .state) × (boundIn (now (script .entry)) (r .state) ≡ boundIn (now (script .entry)) state) ⌝ }
-    ensures placed { λ r. ⌜ ((weight spent : ℕ) (b : Closure) → Represents (now (script .entry)) kinds starts weight spent state b → count i b ≡ 0 → weight < 64 → Represents (now (script .entry)) (r .kinds) (r .starts) (weight + 1) spent (r .state) (part i (ambient (named name)) b close)) ⌝ }
+    ensures placed { λ r. ⌜ ((weight spent : ℕ) (b : Closure) → Represents (now (script .entry)) kinds starts weight spent state b → timesIn i b ≡ 0 → weight < 64 → Represents (now (script .entry)) (r .kinds) (r .starts) (weight + 1) spent (r .state) (part i (ambient (named name)) b close)) ⌝ }
 {
     let mut with_kind = kinds;
     with_kind[i] = 1;

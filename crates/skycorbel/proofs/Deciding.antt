@@ -1,7 +1,7 @@
 -- What the program writes is right, by the paper's own relation: a text that begins with `yes` or `no` is a call's, and the
 -- call's answer is right. Assumes nothing.
 use Prim.Native.Nat.{ℕ, _/_, _%_, _≤_}
-use mathlib.Core.Bool.{Bool, true, false, _&&_}
+use mathlib.Core.Bool.{Bool, true, false, _&&_, and-eq-true-iff}
 use mathlib.Core.List.{List, [], _∷_, _++_, append-assoc}
 use mathlib.Core.Option.{Option, none, some}
 use mathlib.Core.Path.{_≡_, refl, sym, ap, _∙_, subst}
@@ -10,7 +10,7 @@ use lib.Dec.{leb, eqb}
 use lib.ListN.{length, take, getD, replicate, length-take, take-append-drop}
 use borrow.Author.Tests.{leb-true, eqb-true}
 use Rattle.slices.proofs.Tests.{byTest}
-use Rattle.machine.proofs.Options.{and-inv, some-is, none≢some}
+use Rattle.machine.proofs.Options.{some-is, none≢some}
 use Rattle.plain_call.specs.Call.{Call, Verdict, accepted, refused, Answer, answer}
 use Rattle.plain_call.specs.Standing.{Decides}
 use Rattle.plain_call.proofs.Answers.{refused≢accepted}
@@ -117,7 +117,7 @@ Says s t = (a : Bool) → Begins (saidText a) t → (c : Call) × Asks s c × De
 reply-says : (s : List ℕ) → Says s (reply s)
 unfolding reply
 reply-says s = byTest (leb (length s) 24576 && eqb (length s % 4) 0)
-    (λ t. let (l, m) = and-inv (leb (length s) 24576) (eqb (length s % 4) 0) t in
+    (λ t. let (l, m) = and-eq-true-iff (leb (length s) 24576) (eqb (length s % 4) 0) .0 t in
     rw t (λ a b. let (c, x, d) = words-tell (wordsOf (length s / 4) s) a b in (c, asks s (leb-true (length s) 24576 l) (eqb-true (length s % 4) 0 m) c x, d)))
     (λ t. rw t (λ a b. unfit-silent a b))
 

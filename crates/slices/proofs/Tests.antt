@@ -1,4 +1,4 @@
--- Tests. Assumes nothing.
+-- Proofs by the two cases of a test. Assumes nothing.
 use mathlib.Core.Bool.{Bool, true, false}
 use mathlib.Core.Path.{_≡_, refl}
 

@@ -11,7 +11,7 @@ use Rattle.sets.specs.Shares.{putIf, picked, left, spread, shares}
 use Rattle.sets.proofs.Shares.{share-more, share-last, share-rises}
 use Rattle.sets.proofs.Divisions.{picked-map, left-map, from, from-zero, from-one, from-end, but-picked}
 use Rattle.sets.proofs.Members.{members-rising}
-use Rattle.scripts.specs.Tree.{close, part, tops, sum}
+use Rattle.scripts.specs.Tree.{close, part, tops, total}
 use Rattle.scripts.specs.Represents.{Held}
 use Rattle.closure_machine.specs.Closure.{ClosureHead, Closure}
 use Rattle.decision.specs.ClosureWalk.{withEither, divisions}
@@ -59,10 +59,10 @@ divisions-cells (part i h b r) = ap (withEither i h b) (divisions-cells r) ∙ e
 -- a share and the rest are pieces
 module _ (k : ℕ → List ℕ) (w : ℕ → ClosureHead) where
   abbrev Halved : (b taken rest : Closure) → Type 0
-  Halved b taken rest = Held k w taken × Held k w rest × ((f : ℕ → ClosureHead → ℕ) → sum f taken + sum f rest ≡ sum f b)
+  Halved b taken rest = Held k w taken × Held k w rest × ((f : ℕ → ClosureHead → ℕ) → total f taken + total f rest ≡ total f b)
 
   halved : (b : Closure) (n : ℕ) → Held k w b → Halved b (bodyOf (picked (cells b) n)) (bodyOf (left (cells b) n))
-  unfolding cells picked left bodyOf sum
+  unfolding cells picked left bodyOf total
   halved close n h = (tt, tt, λ f. refl)
   halved (part i g b r) n h = go (odd n) (halved r (n / 2) (h .3))
     where

@@ -7,7 +7,7 @@ use lib.Dec.{eqb}
 use lib.ListN.{getD, set, length}
 use lib.Seq.{getD-set-same, getD-set-other}
 use Rattle.sets.specs.Sets.{members}
-use Rattle.scripts.specs.Tree.{one, tops, parts, count}
+use Rattle.scripts.specs.Tree.{oneIf, tops, parts, timesIn}
 use Rattle.scripts.specs.Represents.{bodyIn}
 use Rattle.rules.specs.Rule.{Names, Rule, ruleIndex, Later}
 use Rattle.rule_reader.specs.Ruled.{Ruled}
@@ -16,14 +16,14 @@ use Rattle.closure_machine.specs.Closure.{Closure, ClosureHead}
 use Rattle.closures.specs.Seen.{Seen}
 use Rattle.closures.specs.Represents.{heads, boundIn, Ready, Represents}
 use Rattle.closures.specs.declared.State.{State}
-use Rattle.closures.proofs.Holding.{differ, frame}
+use Rattle.closures.proofs.Holding.{numbers-differ, frame}
 use Rattle.stages.specs.Pieces.{withTop, Piece}
 use Rattle.stages.specs.Visits.{indices, Stage}
 use Rattle.stages.specs.declared.Limits.{Limits}
 
 module _ (k : ℕ → List ℕ) (w : ℕ → ClosureHead) (b c : Closure) (P : Piece k w b c) where
-  pub fewer : (j : ℕ) → count j c ≤ count j b
-  fewer j = P .less (λ i h. one (eqb j i))
+  pub fewer : (j : ℕ) → timesIn j c ≤ timesIn j b
+  fewer j = P .less (λ i h. oneIf (eqb j i))
 
   pub lighter : parts c ≤ parts b
   lighter = P .less (λ i h. 1)
@@ -57,7 +57,7 @@ module _ (script kinds starts : List ℕ) (weight spent : ℕ) (s : State) (b : 
   focused c m P e = record {
     top = ap members (getD-set-same kids 64 m 0 (omega arith)) ∙ e;
     held = frame k (bodyIn (set kids 64 m)) w w c (P .held) (λ i n.
-        let inner : i ≡ 64 → ⊥ = differ i 64 c n (let z : count 64 c ≡ 0 = omega (arith, fewer k w b c P 64, R .inside 64 (omega arith)) in z) in
+        let inner : i ≡ 64 → ⊥ = numbers-differ i 64 c n (let z : timesIn 64 c ≡ 0 = omega (arith, fewer k w b c P 64, R .inside 64 (omega arith)) in z) in
         (lent-told i inner ∙ sym (ap members (getD-set-other kids 64 i m 0 inner)), refl));
     once = λ i. omega (arith, fewer k w b c P i, R .once i);
     inside = λ i l. omega (arith, fewer k w b c P i, R .inside i l);

@@ -6,9 +6,10 @@ use mathlib.Core.List.{List, [], _∷_, _++_}
 use mathlib.Core.Logic.{⊎-elim}
 use mathlib.Core.Path.{_≡_, refl, sym, ap, _∙_}
 use native.Mathlib.Omega.{arith}
+use Rattle.sets.specs.Sets.{span}
 use denote.Enum.Declared.{tagOf}
 use types.Run.{OneOf}
-use Rattle.decision.specs.Walk.{Count, says, range, onYes, onNo, firstYes}
+use Rattle.decision.specs.Walk.{Count, says, onYes, onNo, firstYes}
 use Rattle.decision.specs.Walk as spec
 use Rattle.stages.specs.Visits.{countOf, walkedOf}
 use Rattle.stages.specs.declared.Counts.{Counts}
@@ -93,10 +94,10 @@ module _ {A : Type 0} (f : A → Count → spec.Walked) where
       (λ i. onNo (f a n) (λ n₁. first-append l k n₁ i)) ∙ sym (no-again (f a n) (λ n₁. firstYes f l n₁) (λ n₁. firstYes f k n₁))
 
 -- a loop from one number on to a limit
-pub range-first : (a limit : ℕ) → a < limit → range a (limit - a) ≡ a ∷ range (suc a) (limit - suc a)
-unfolding range
-range-first a limit h = let e : limit - a ≡ suc (limit - suc a) = omega arith in ap (range a) e
+pub span-first : (a limit : ℕ) → a < limit → span a (limit - a) ≡ a ∷ span (suc a) (limit - suc a)
+unfolding span
+span-first a limit h = let e : limit - a ≡ suc (limit - suc a) = omega arith in ap (span a) e
 
-pub range-none : (a limit : ℕ) → limit ≤ a → range a (limit - a) ≡ []
-unfolding range
-range-none a limit h = let e : limit - a ≡ 0 = omega arith in ap (range a) e
+pub span-none : (a limit : ℕ) → limit ≤ a → span a (limit - a) ≡ []
+unfolding span
+span-none a limit h = let e : limit - a ≡ 0 = omega arith in ap (span a) e

@@ -14,10 +14,10 @@ use Rattle.messages.specs.declared.Named.the-variants.{Called}
 use Rattle.sets.specs.Sets.{members, headOr, isOne, but}
 use Rattle.sets.proofs.Lists.{one-is}
 use Rattle.sets.proofs.Members.{first-below}
-use Rattle.scripts.specs.Tree.{ambient, close, part, tops, count}
+use Rattle.scripts.specs.Tree.{ambient, close, part, tops, timesIn}
 use Rattle.scripts.specs.Represents.{bodyIn}
 use Rattle.machine.specs.Moves.{sameName}
-use Rattle.rules.specs.Rule.{Names, termName, Rule, always, negation, either, void, at, beside, placed, ruleIndex, Later}
+use Rattle.rules.specs.Rule.{Names, termName, Rule, truth, negation, either, void, at, beside, placed, ruleIndex, Later}
 use Rattle.rules.specs.ReadRule.{termOf}
 use Rattle.rule_reader.specs.Ruled.{Ruled, Said}
 use Rattle.rule_reader.proofs.Inversion.{Told}
@@ -117,9 +117,9 @@ module _ (program script sets numbers choices : List ℕ) (top somes left index 
   inside X q i R e L = record { ruled = R; stood = e; later = L }
 
   -- TRUE
-  pub always-finds : Looks program script sets numbers choices top somes left index limits c (Yes c) 0
+  pub truth-finds : Looks program script sets numbers choices top somes left index limits c (Yes c) 0
   unfolding look walkedOf
-  always-finds X e = as-told X (always index) (told X 0 e)
+  truth-finds X e = as-told X (truth index) (told X 0 e)
 
   -- VOID
   pub void-finds : (r : Walked) → top < 2 ^ 64 → walkedOf r ≡ says (eqb top 0) (countOf c) → Looks program script sets numbers choices top somes left index limits c r 3
@@ -281,7 +281,7 @@ module _ (program script sets numbers choices : List ℕ) (top somes left index 
 
   pub placed-goes : somes ≤ 8 → (n : ℕ) → n ≡ nameSaid choices (termOf (operand (getD program index 0))) → (i : ℕ) → i ≡ limits .parts + getD program (512 + index) 0
       → (sets′ numbers′ : List ℕ) (top′ : ℕ) → Lendable script sets′ numbers′ top′ → boundIn script (stateIn sets′ numbers′ top′) ≡ boundIn script state
-      → ((weight spent : ℕ) (b : Closure) → Represents script (kindsIn numbers) (startsIn numbers) weight spent state b → count i b ≡ 0 → weight < 64
+      → ((weight spent : ℕ) (b : Closure) → Represents script (kindsIn numbers) (startsIn numbers) weight spent state b → timesIn i b ≡ 0 → weight < 64
       → Represents script (kindsIn numbers′) (startsIn numbers′) (weight + 1) spent (stateIn sets′ numbers′ top′) (part i (ambient (name n)) b close))
       → (r : Walked) → Visits program script sets′ numbers′ choices top′ somes left (index + 1) limits c r → Looks program script sets numbers choices top somes left index limits c r 9
   unfolding look
@@ -290,7 +290,7 @@ module _ (program script sets numbers choices : List ℕ) (top somes left index 
       let later = subst (Later (X .from)) eq (X .stage .later) in
       let z : i ≡ limits .parts + number X = ei ∙ ap (λ (x : ℕ). limits .parts + x) (number-is X) in
       visited (scene-placed program script sets numbers choices top somes left index limits X sets′ numbers′ top′ (number X) n L (later .0) low
-      (subst (λ (x : ℕ). (weight spent : ℕ) (b : Closure) → Represents script (kindsIn numbers) (startsIn numbers) weight spent state b → count x b ≡ 0 → weight < 64 → Represents script (kindsIn numbers′) (startsIn numbers′) (weight + 1) spent (stateIn sets′ numbers′ top′) (part x (ambient (name n)) b close)) z P)
+      (subst (λ (x : ℕ). (weight spent : ℕ) (b : Closure) → Represents script (kindsIn numbers) (startsIn numbers) weight spent state b → timesIn x b ≡ 0 → weight < 64 → Represents script (kindsIn numbers′) (startsIn numbers′) (weight + 1) spent (stateIn sets′ numbers′ top′) (part x (ambient (name n)) b close)) z P)
       q (index + 1) R ej (later .1))
       ∙ ap₂ (λ (σ : Bindings) (x : ℕ). visits limits left (X .names) q (record { tree = part (limits .parts + number X) (ambient (name x)) (X .tree) close; bindings = σ }) (countOf c)) eb (name-is X small n en s .0)
       ∙ as-told X (placed index (number X) (termOf (operand (getD (X .words) index 0))) q) eq

@@ -2,19 +2,19 @@
 -- Assumes nothing.
 use Prim.Native.Nat.{ℕ, _^_, _≤_, _<_}
 use mathlib.Core.Bool.{true, false}
-use mathlib.Core.List.{List, [], _∷_, map}
+use mathlib.Core.List.{List, [], _∷_, map, tail}
 use mathlib.Core.Path.{_≡_, refl, sym, ap, _∙_, subst}
 use native.Mathlib.Omega.{arith}
 use lib.Dec.{ltb}
 use lib.ListN.{set, length}
 use borrow.Author.Tests.{ltb-true, ltb-false}
-use Rattle.sets.specs.Sets.{keep, members, elem, both, headOr, tail}
+use Rattle.sets.specs.Sets.{keep, members, elem, both, headOr}
 use Rattle.sets.proofs.Members.{members-step, members-empty, first-below}
-use Rattle.scripts.specs.Tree.{close, part, tops, sum, count}
+use Rattle.scripts.specs.Tree.{close, part, tops, total, timesIn}
 use Rattle.scripts.specs.Represents.{Held, bodyIn}
 use Rattle.machine.specs.Moves.{headName, isNamed}
 use Rattle.slices.proofs.Tests.{byTest}
-use Rattle.closure_machine.specs.Closure.{ClosureHead, Closure, Bindings, under, ClosureMachine}
+use Rattle.closure_machine.specs.Closure.{ClosureHead, Closure, Bindings, viewUnder, ClosureMachine}
 use Rattle.closures.specs.Seen.{Names}
 use Rattle.closures.specs.Represents.{heads, boundIn, Ready, Represents}
 use Rattle.closures.specs.declared.State.{State}
@@ -33,7 +33,7 @@ module _ (k : ℕ → List ℕ) (w : ℕ → ClosureHead) where
   Rooms b (i ∷ l) (c ∷ cs) = Room k w b i c × Rooms b l cs
 
   piece-later : (i : ℕ) (h : ClosureHead) (b r c : Closure) → Piece k w r c → Piece k w (part i h b r) c
-  unfolding sum
+  unfolding total
   piece-later i h b r c P = record { held = P .held; less = λ f. omega (arith, P .less f) }
 
   rooms-later : (i : ℕ) (h : ClosureHead) (b r : Closure) (l : List ℕ) (cs : List Closure) → Rooms r l cs → Rooms (part i h b r) l cs
@@ -43,21 +43,21 @@ module _ (k : ℕ → List ℕ) (w : ℕ → ClosureHead) where
   rooms-later i h b r (j ∷ l) (c ∷ cs) R = (record { own = R .0 .own; piece = piece-later i h b r c (R .0 .piece) }, rooms-later i h b r l cs (R .1))
 
   room-first : (i : ℕ) (h : ClosureHead) (b r : Closure) → Held k w (part i h b r) → Room k w (part i h b r) i b
-  unfolding sum
+  unfolding total
   room-first i h b r p = record { own = p .0; piece = record { held = p .2; less = λ f. omega arith } }
 
   module _ (σ : Bindings) (named : List ℕ) where
-    insides-rooms : (b : Closure) → Held k w b → ((i : ℕ) → 1 ≤ count i b → elem i named ≡ isNamed (headName (under σ) (w i)))
+    insides-rooms : (b : Closure) → Held k w b → ((i : ℕ) → 1 ≤ timesIn i b → elem i named ≡ isNamed (headName (viewUnder σ) (w i)))
         → (cs : List Closure) × (insides σ b ≡ map (beside σ) cs) × Rooms b (both (tops b) named) cs
-    unfolding insides tops keep sum
+    unfolding insides tops keep total
     insides-rooms close p n = ([], refl, tt)
     insides-rooms (part i h b r) p n =
         let (cs, e, R) = insides-rooms r (p .3) (λ j m. n j (omega arith)) in
-        let same : elem i named ≡ isNamed (headName (under σ) h) = n i (omega (arith, self i)) ∙ ap (λ (g : ClosureHead). isNamed (headName (under σ) g)) (p .1) in
+        let same : elem i named ≡ isNamed (headName (viewUnder σ) h) = n i (omega (arith, self i)) ∙ ap (λ (g : ClosureHead). isNamed (headName (viewUnder σ) g)) (p .1) in
         byTest (elem i named)
-        (λ t. let u : isNamed (headName (under σ) h) ≡ true = sym same ∙ t in
+        (λ t. let u : isNamed (headName (viewUnder σ) h) ≡ true = sym same ∙ t in
         rw (t, u) (b ∷ cs, ap (λ (l : List ClosureMachine). beside σ b ∷ l) e, (room-first i h b r p, rooms-later i h b r (both (tops r) named) cs R)))
-        (λ t. let u : isNamed (headName (under σ) h) ≡ false = sym same ∙ t in
+        (λ t. let u : isNamed (headName (viewUnder σ) h) ≡ false = sym same ∙ t in
         rw (t, u) (cs, e, rooms-later i h b r (both (tops r) named) cs R))
 
   -- the first of them, and those behind it
@@ -91,5 +91,5 @@ rooms-told script kinds starts weight spent s b kids top sets long R ready few m
     let (cs, q, rooms) = insides-rooms k w σ (members (s .looks .named)) b (R .held) (λ i c. names i (low i c)) in
     (cs, q, subst (λ (l : List ℕ). Rooms k w b l cs) (sym (e ∙ ap (λ (l : List ℕ). both l (members (s .looks .named))) (top-told script kinds starts weight spent s b kids top sets long R))) rooms)
   where
-    low : (i : ℕ) → 1 ≤ count i b → i < 64
+    low : (i : ℕ) → 1 ≤ timesIn i b → i < 64
     low i c = byTest (ltb i 64) (λ t. ltb-true i 64 t) (λ t. absurd (let z : ⊥ = omega (arith, R .inside i (ltb-false i 64 t)) in z))

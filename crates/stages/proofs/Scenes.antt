@@ -12,11 +12,11 @@ use borrow.Author.Tests.{lt-ltb, eqb-true, eqb-false, ne-eqb, eq-eqb}
 use Rattle.sets.specs.Sets.{members}
 use Rattle.messages.specs.Words.{kind, member}
 use Rattle.messages.specs.Message.{name}
-use Rattle.scripts.specs.Tree.{ambient, close, part, sum, tops, count}
+use Rattle.scripts.specs.Tree.{ambient, close, part, total, tops, timesIn}
 use Rattle.scripts.specs.Represents.{bodyIn}
 use Rattle.machine.specs.Moves.{Moved}
 use Rattle.slices.proofs.Tests.{byTest}
-use Rattle.rules.specs.Rule.{Term, constant, chosen, Names, lookup, termName, Rule, ruleIndex, Later}
+use Rattle.rules.specs.Rule.{Term, constant, chosen, Names, chosenName, termName, Rule, ruleIndex, Later}
 use Rattle.rule_reader.specs.Ruled.{Ruled, Said}
 use Rattle.rules.specs.RuleWords.{termWord}
 use Rattle.rules.specs.declared.RuleTerm.the-variants as terms
@@ -151,17 +151,17 @@ module _ (program script sets numbers choices : List ℕ) (top somes left index 
   -- under the name n for the SOME that is visited
   module _ (more : List ℕ) (n : ℕ) (en : getD more index 0 ≡ n) (others : (i : ℕ) → (i ≡ index → ⊥) → getD more i 0 ≡ getD choices i 0) (bound : n ≤ limits .greatest + (somes + 1))
       (q : Rule) (i : ℕ) (R : Ruled (X .words) (X .table) (index ∷ indices (X .names)) q) (ei : ruleIndex q ≡ i) (L : Later (X .from) q) where
-    low : index < 256
-    low = scene-low program script sets numbers choices top somes (suc left) index limits X
+    index-low : index < 256
+    index-low = scene-low program script sets numbers choices top somes (suc left) index limits X
 
     abbrev Fits : ℕ → Type 0
-    Fits x = (x < 256) × (lookup ((index, n) ∷ X .names) x ≡ getD more x 0) × (getD more x 0 ≤ limits .greatest + (somes + 1))
+    Fits x = (x < 256) × (chosenName ((index, n) ∷ X .names) x ≡ getD more x 0) × (getD more x 0 ≤ limits .greatest + (somes + 1))
 
     chosen-names : (j : ℕ) → member j (index ∷ indices (X .names)) ≡ true → Fits j
-    unfolding lookup member
+    unfolding chosenName member
     chosen-names j m =
         byTest (eqb j index)
-        (λ t. let e : index ≡ j = sym (eqb-true j index t) in subst Fits e (low, rw (eq-eqb index index refl) (sym en), rw en bound))
+        (λ t. let e : index ≡ j = sym (eqb-true j index t) in subst Fits e (index-low, rw (eq-eqb index index refl) (sym en), rw en bound))
         (λ t. let e : j ≡ index → ⊥ = eqb-false j index t in
         let old = X .stage .named .names j (rw t at m) in
         let same : getD more j 0 ≡ getD choices j 0 = others j e in
@@ -238,11 +238,11 @@ module _ (program script sets numbers choices : List ℕ) (top somes left index 
 
   -- inside a new ambient, whose number is that of the j-th PLACED word
   module _ (sets′ numbers′ : List ℕ) (top′ j n : ℕ) (L : Lendable script sets′ numbers′ top′) (fj : X .from ≤ j) (jc : j < X .table .count)
-      (R : (weight spent : ℕ) (b : Closure) → Represents script (kindsIn numbers) (startsIn numbers) weight spent (stateIn sets numbers top) b → count (limits .parts + j) b ≡ 0 → weight < 64
+      (R : (weight spent : ℕ) (b : Closure) → Represents script (kindsIn numbers) (startsIn numbers) weight spent (stateIn sets numbers top) b → timesIn (limits .parts + j) b ≡ 0 → weight < 64
       → Represents script (kindsIn numbers′) (startsIn numbers′) (weight + 1) spent (stateIn sets′ numbers′ top′) (part (limits .parts + j) (ambient (name n)) b close))
       (q : Rule) (i : ℕ) (ruled : Ruled (X .words) (X .table) (indices (X .names)) q) (ei : ruleIndex q ≡ i) (later : Later (suc j) q) where
-    below-placed : (x : ℕ) → limits .parts + suc j ≤ x → count x (part (limits .parts + j) (ambient (name n)) (X .tree) close) ≡ 0
-    unfolding sum
+    below-placed : (x : ℕ) → limits .parts + suc j ≤ x → timesIn x (part (limits .parts + j) (ambient (name n)) (X .tree) close) ≡ 0
+    unfolding total
     below-placed x l = rw (ne-eqb x (limits .parts + j) (λ e. omega arith)) (let z = X .stage .below x (omega arith) in omega arith)
 
     pub stage-placed : Stage (X .words) (X .table) script (kindsIn numbers′) (startsIn numbers′) limits choices somes left (stateIn sets′ numbers′ top′) i (X .weight + 1) (X .spent) (suc j) (X .names) q (part (limits .parts + j) (ambient (name n)) (X .tree) close)

@@ -12,10 +12,10 @@ use Rattle.messages.specs.declared.Named.the-variants.{Called}
 use Rattle.sets.specs.Sets.{members, headOr, isNone, isOne}
 use Rattle.sets.proofs.Members.{none-test, first-below}
 use Rattle.sets.proofs.Lists.{one-is}
-use Rattle.scripts.specs.Tree.{close, part, tops, sum}
+use Rattle.scripts.specs.Tree.{close, part, tops, total}
 use Rattle.scripts.specs.Represents.{Held, bodyIn}
 use Rattle.machine.specs.Moves.{headName, sameName}
-use Rattle.closure_machine.specs.Closure.{ClosureHead, Closure, Bindings, under}
+use Rattle.closure_machine.specs.Closure.{ClosureHead, Closure, Bindings, viewUnder}
 use Rattle.closures.specs.Seen.{nameIn}
 use Rattle.closures.specs.Represents.{heads, boundIn, Ready, Represents}
 use Rattle.closures.specs.declared.State.{State}
@@ -41,14 +41,14 @@ only-none σ n (part i h b (part i₁ h₁ b₁ r)) e = refl
 
 -- and one alone is the first
 only-one : (σ : Bindings) (k : ℕ → List ℕ) (w : ℕ → ClosureHead) (n i : ℕ) (b : Closure) → Held k w b → tops b ≡ i ∷ []
-    → (c : Closure) × Room k w b i c × (only σ n b ≡ cond (sameName (Called n) (headName (under σ) (w i))) (some (beside σ c)) none)
-unfolding only tops sum
+    → (c : Closure) × Room k w b i c × (only σ n b ≡ cond (sameName (Called n) (headName (viewUnder σ) (w i))) (some (beside σ c)) none)
+unfolding only tops total
 only-one σ k w n i close h e = absurd (true≢false (ap isNone e))
 only-one σ k w n i (part j g c close) h e =
     let z : i ≡ j = cc in (
       c,
       record { own = ap k z ∙ h .0; piece = record { held = h .2; less = λ f. omega arith } },
-      ap (λ (x : ClosureHead). cond (sameName (Called n) (headName (under σ) x)) (some (beside σ c)) none) (sym (ap w z ∙ h .1)),
+      ap (λ (x : ClosureHead). cond (sameName (Called n) (headName (viewUnder σ) x)) (some (beside σ c)) none) (sym (ap w z ∙ h .1)),
     )
 only-one σ k w n i (part j g c (part j₁ g₁ c₁ r)) h e = absurd (let z : _≡_ {A = ℕ} 0 1 = cc in omega arith)
 

@@ -8,20 +8,19 @@ use mathlib.Core.Path.{_≡_, refl, sym, ap, _∙_, subst}
 use native.Mathlib.Omega.{arith}
 use lib.Dec.{ltb}
 use borrow.Author.Tests.{ne-eqb, ltb-true, ltb-false}
-use Rattle.sets.specs.Sets.{has, span, members, elem, headOr, tail}
+use Rattle.sets.specs.Sets.{has, span, members, elem, headOr}
 use Rattle.sets.specs.Sets as sets
 use Rattle.sets.proofs.Members.{has-elem, members-step, members-empty, first-below}
-use Rattle.scripts.specs.Tree.{close, part, sum, count}
+use Rattle.scripts.specs.Tree.{close, part, total, timesIn}
 use Rattle.machine.specs.Moves.{Moved}
 use Rattle.slices.proofs.Tests.{byTest}
 use Rattle.machine.proofs.Everywhere.{Everywhere, settle-everywhere, Keeps, makes-everywhere}
-use Rattle.closure_machine.specs.Closure.{Action, ClosureHead, Closure, Bindings, under, allSpent, closureMove, ClosureMachine}
+use Rattle.closure_machine.specs.Closure.{Action, ClosureHead, Closure, Bindings, viewUnder, allSpent, closureMove, ClosureMachine}
 use Rattle.closures.proofs.Holding.{self}
 use Rattle.targets.specs.Targets.{isSome}
 use Rattle.closure_machine.proofs.Tallies.{closure-inv}
-use Rattle.decision.specs.Walk.{range, keep, movesTo, movesFrom, inOrder}
+use Rattle.decision.specs.Walk.{keep, movesTo, movesFrom, inOrder}
 use Rattle.decision.specs.ClosureWalk.{machineAfter, nexts}
-use Rattle.stages.proofs.Loops.{range-first, range-none}
 
 -- ---- any moves of one actor
 
@@ -45,37 +44,37 @@ module _ {S : Type 0} (make : ℕ → Option S) where
 
   -- those that pass a test which says what makes something
   module _ (p : ℕ → Bool) where
-    to-kept : (b d : ℕ) → ((t : ℕ) → b ≤ t → t < b + d → p t ≡ isSome (make t)) → (movesTo make (range b d) ≡ movesTo make (sets.keep p (span b d))) × Each (sets.keep p (span b d))
-    unfolding range span sets.keep
+    to-kept : (b d : ℕ) → ((t : ℕ) → b ≤ t → t < b + d → p t ≡ isSome (make t)) → (movesTo make (span b d) ≡ movesTo make (sets.keep p (span b d))) × Each (sets.keep p (span b d))
+    unfolding span sets.keep
     to-kept b zero h = (refl, tt)
     to-kept b (suc d) h =
         let (e, a) = to-kept (suc b) d (λ t u v. h t (omega arith) (omega arith)) in
         let s : p b ≡ isSome (make b) = h b (omega arith) (omega arith) in
         byTest (p b)
-        (λ t. rw t (to-same b (range (suc b) d) _ e, (sym s ∙ t, a)))
-        (λ t. rw t (to-none b (range (suc b) d) (sym s ∙ t) ∙ e, a))
+        (λ t. rw t (to-same b (span (suc b) d) _ e, (sym s ∙ t, a)))
+        (λ t. rw t (to-none b (span (suc b) d) (sym s ∙ t) ∙ e, a))
 
   -- targets that make nothing
-  to-nothing : (b d : ℕ) → ((t : ℕ) → b ≤ t → isSome (make t) ≡ false) → movesTo make (range b d) ≡ movesTo make []
-  unfolding range
+  to-nothing : (b d : ℕ) → ((t : ℕ) → b ≤ t → isSome (make t) ≡ false) → movesTo make (span b d) ≡ movesTo make []
+  unfolding span
   to-nothing b zero h = refl
-  to-nothing b (suc d) h = to-none b (range (suc b) d) (h b (omega arith)) ∙ to-nothing (suc b) d (λ t u. h t (omega arith))
+  to-nothing b (suc d) h = to-none b (span (suc b) d) (h b (omega arith)) ∙ to-nothing (suc b) d (λ t u. h t (omega arith))
 
-  to-limit : (b d more : ℕ) → ((t : ℕ) → b + d ≤ t → isSome (make t) ≡ false) → movesTo make (range b (d + more)) ≡ movesTo make (range b d)
-  unfolding range
-  to-limit b zero more h = let e : 0 + more ≡ more = omega arith in ap (λ (n : ℕ). movesTo make (range b n)) e ∙ to-nothing b more (λ t u. h t (omega arith))
+  to-limit : (b d more : ℕ) → ((t : ℕ) → b + d ≤ t → isSome (make t) ≡ false) → movesTo make (span b (d + more)) ≡ movesTo make (span b d)
+  unfolding span
+  to-limit b zero more h = let e : 0 + more ≡ more = omega arith in ap (λ (n : ℕ). movesTo make (span b n)) e ∙ to-nothing b more (λ t u. h t (omega arith))
   to-limit b (suc d) more h =
       let e : suc d + more ≡ suc (d + more) = omega arith in
-      ap (λ (n : ℕ). movesTo make (range b n)) e ∙ to-same b (range (suc b) (d + more)) (range (suc b) d) (to-limit (suc b) d more (λ t u. h t (omega arith)))
+      ap (λ (n : ℕ). movesTo make (span b n)) e ∙ to-same b (span (suc b) (d + more)) (span (suc b) d) (to-limit (suc b) d more (λ t u. h t (omega arith)))
 
   -- THEOREM: what the moves to all targets make is what those to the members of the set make.
   pub to-members : (m limit : ℕ) → limit ≤ 64 → ((t : ℕ) → t < 64 → elem t (members m) ≡ isSome (make t)) → ((t : ℕ) → limit ≤ t → isSome (make t) ≡ false)
-      → (movesTo make (range 0 limit) ≡ movesTo make (members m)) × Each (members m)
+      → (movesTo make (span 0 limit) ≡ movesTo make (members m)) × Each (members m)
   unfolding members
   to-members m limit low told high =
       let e : 64 ≡ limit + (64 - limit) = omega arith in
       let (q, a) = to-kept (has m) 0 64 (λ t u v. sym (has-elem m t (omega arith)) ∙ told t (omega arith)) in
-      (sym (to-limit 0 limit (64 - limit) (λ t u. high t (omega arith))) ∙ ap (λ (n : ℕ). movesTo make (range 0 n)) (sym e) ∙ q, a)
+      (sym (to-limit 0 limit (64 - limit) (λ t u. high t (omega arith))) ∙ ap (λ (n : ℕ). movesTo make (span 0 n)) (sym e) ∙ q, a)
 
 -- ---- the closure's moves
 
@@ -90,13 +89,13 @@ after-some σ (some m) = refl
 
 -- no part of the closure is numbered that or more
 abbrev pub Low : ℕ → Closure → Type 0
-Low limit b = (i : ℕ) → limit ≤ i → count i b ≡ 0
+Low limit b = (i : ℕ) → limit ≤ i → timesIn i b ≡ 0
 
 abbrev Under : ℕ → Closure → Type 0
 Under limit b = Everywhere (λ (i : ℕ) (h : ClosureHead). i < limit) b
 
 low-under : (limit : ℕ) (b : Closure) → Low limit b → Under limit b
-unfolding sum
+unfolding total
 low-under limit close l = tt
 low-under limit (part i h b r) l =
     (small, low-under limit b (λ j g. let z = l j g in omega arith), low-under limit r (λ j g. let z = l j g in omega arith))
@@ -105,7 +104,7 @@ low-under limit (part i h b r) l =
     small = byTest (ltb i limit) (λ t. ltb-true i limit t) (λ t. absurd (let z : ⊥ = omega (arith, l i (ltb-false i limit t), self i) in z))
 
 under-low : (limit : ℕ) (b : Closure) → Under limit b → Low limit b
-unfolding sum
+unfolding total
 under-low limit close u i g = refl
 under-low limit (part j h b r) u i g =
     let s : j < limit = u .0 in
@@ -115,8 +114,8 @@ under-low limit (part j h b r) u i g =
 pub move-low : (σ : Bindings) (limit a t : ℕ) (b : Closure) (m : Moved Action) → Low limit b → closureMove σ a t b ≡ some m → (a < limit) × (t < limit) × Low limit (m .body)
 move-low σ limit a t b m l e =
     let M = closure-inv σ a t b m e in
-    let K : Keeps (under σ) (λ (i : ℕ) (h : ClosureHead). i < limit) = record { spends = λ i h q. q; delivers = λ i v n c q x. x } in
-    let (x, y, u) = makes-everywhere (under σ) (λ (i : ℕ) (h : ClosureHead). i < limit) K a t (M .makes) (low-under limit b l) in
+    let K : Keeps (viewUnder σ) (λ (i : ℕ) (h : ClosureHead). i < limit) = record { spends = λ i h q. q; delivers = λ i v n c q x. x } in
+    let (x, y, u) = makes-everywhere (viewUnder σ) (λ (i : ℕ) (h : ClosureHead). i < limit) K a t (M .makes) (low-under limit b l) in
     (x .1, y .1, under-low limit (m .body) (rw (M .settled) (settle-everywhere (λ (i : ℕ) (h : ClosureHead). i < limit) (allSpent (m .news ++ σ)) (M .before) u)))
 
 pub move-high : (σ : Bindings) (limit a t : ℕ) (b : Closure) → Low limit b → limit ≤ t → isSome (closureMove σ a t b) ≡ false

@@ -2,16 +2,16 @@
 -- something of a move. What is left of the loop answers what the whole of it does. Assumes nothing.
 use Prim.Native.Nat.{ℕ, zero, suc, _+_, _-_, _^_, _≤_, _<_}
 use mathlib.Core.Bool.{true, false}
-use mathlib.Core.List.{List, [], _∷_, _++_}
+use mathlib.Core.List.{List, [], _∷_, _++_, tail}
 use mathlib.Core.Option.{Option, none, some}
 use mathlib.Core.Path.{_≡_, refl, sym, ap, ap₂, _∙_, subst}
 use native.Mathlib.Omega.{arith}
 use lib.ListN.{getD, length}
-use Rattle.sets.specs.Sets.{members, elem, headOr, tail}
+use Rattle.sets.specs.Sets.{members, elem, headOr, span}
 use Rattle.sets.proofs.Members.{members-step, members-empty, first-is}
 use Rattle.closure_machine.specs.Closure.{Closure, Bindings, closureMove}
 use Rattle.targets.specs.Targets.{isSome}
-use Rattle.decision.specs.Walk.{Count, range, firstYes, keep, movesTo, movesFrom, inOrder}
+use Rattle.decision.specs.Walk.{Count, firstYes, keep, movesTo, movesFrom, inOrder}
 use Rattle.decision.specs.Walk as spec
 use Rattle.decision.specs.ClosureWalk.{nexts}
 use Rattle.stages.specs.Order.{paired, pairsFrom, pairsLeft, Turns}
@@ -132,8 +132,8 @@ module _ {S : Type 0} (make : ℕ → ℕ → Option S) where
   -- each outer number's set says with which inner ones it makes something
   module _ (inner : List ℕ) (limit : ℕ) (few : limit ≤ 64) (told : (o : ℕ) → o < limit → (i : ℕ) → i < 64 → elem i (members (getD inner o 0)) ≡ isSome (make o i))
       (high : (o i : ℕ) → limit ≤ i → isSome (make o i) ≡ false) where
-    made-from : (o n : ℕ) → o + n ≤ limit → (movesFrom make (range o n) (range 0 limit) ≡ madeOf (pairsFrom inner o n)) × AllMade (pairsFrom inner o n)
-    unfolding range movesFrom pairsFrom madeOf AllMade
+    made-from : (o n : ℕ) → o + n ≤ limit → (movesFrom make (span o n) (span 0 limit) ≡ madeOf (pairsFrom inner o n)) × AllMade (pairsFrom inner o n)
+    unfolding span movesFrom pairsFrom madeOf AllMade
     made-from o zero h = (refl, tt)
     made-from o (suc n) h =
         let (e, a) = made-from (suc o) n (omega arith) in

@@ -2,18 +2,18 @@
 -- holds at the start, again after a turn that says no, and tells the answer where a turn ends it or none is left.
 -- Assumes nothing.
 use Prim.Native.Nat.{ℕ, suc, _+_, _-_, _^_, _≤_, _<_}
-use mathlib.Core.List.{List, [], _∷_, map}
+use mathlib.Core.List.{List, [], _∷_, map, tail}
 use mathlib.Core.Option.{some}
 use mathlib.Core.Path.{_≡_, refl, sym, ap, _∙_, subst}
 use native.Mathlib.Omega.{arith}
 use lib.ListN.{getD, length}
 use lib.Pow.{pow-pos}
 use Rattle.messages.specs.Words.{kind}
-use Rattle.sets.specs.Sets.{members, elem, headOr, tail, both}
+use Rattle.sets.specs.Sets.{members, elem, headOr, both, span}
 use Rattle.sets.specs.Shares.{picked}
 use Rattle.sets.proofs.Members.{members-step, first-is, first-below}
 use Rattle.sets.proofs.Divisions.{share-first}
-use Rattle.scripts.specs.Tree.{tops, count}
+use Rattle.scripts.specs.Tree.{tops, timesIn}
 use Rattle.scripts.specs.Represents.{bodyIn}
 use Rattle.rules.specs.Rule.{Names, Rule, beside, some-name, sometime, somewhere, ruleIndex, Later}
 use Rattle.rule_reader.specs.Ruled.{Ruled}
@@ -28,7 +28,7 @@ use Rattle.targets.proofs.Aiming.{state-places, state-targets}
 use Rattle.arrays.specs.Stretches.{stretch}
 use Rattle.lent_states.specs.Lent.{kindsIn, startsIn, stateIn}
 use Rattle.arrays.proofs.Copying.{length-stretch, getD-stretch}
-use Rattle.decision.specs.Walk.{Count, range, onYes, onNo, firstYes, look, lastName}
+use Rattle.decision.specs.Walk.{Count, onYes, onNo, firstYes, look, lastName}
 use Rattle.decision.specs.Walk as spec
 use Rattle.decision.specs.ClosureWalk.{closureSpace, divisions, shares, insides, nexts}
 use Rattle.decision.specs.ClosureWalk as over
@@ -38,7 +38,7 @@ use Rattle.stages.specs.declared.Counts.{Counts}
 use Rattle.stages.specs.declared.Limits.{Limits}
 use Rattle.stages.specs.declared.Walked.{Walked}
 use Rattle.stages.specs.declared.Walked.the-variants.{No}
-use Rattle.stages.proofs.Loops.{NotNo, no-goes, no-stops, first-none, first-goes, first-stops, first-last, first-append, range-first, range-none}
+use Rattle.stages.proofs.Loops.{NotNo, no-goes, no-stops, first-none, first-goes, first-stops, first-last, first-append, span-first, span-none}
 use Rattle.stages.proofs.Focused.{top-told, lent-told}
 use Rattle.stages.proofs.Divided.{Shared, shared-last, shared-next, remaining, remaining-all, remaining-first, remaining-none}
 use Rattle.stages.proofs.Rooms.{Rooms, rooms-first, rooms-none, rooms-told}
@@ -164,13 +164,13 @@ module _ (program script sets numbers choices : List ℕ) (top somes left index 
 
   pub Naming : (c now : Counts) (n : ℕ) → Type 0
   Naming c now n = (X : Here) (q : Rule) → X .rule ≡ some-name index q
-      → firstYes (naming X q) (range 1 (lastName (settingOf limits) (X .names))) (countOf c) ≡ firstYes (naming X q) (range n (limits .greatest + somes + 2 - n)) (countOf now)
+      → firstYes (naming X q) (span 1 (lastName (settingOf limits) (X .names))) (countOf c) ≡ firstYes (naming X q) (span n (limits .greatest + somes + 2 - n)) (countOf now)
 
   pub naming-holds : (c : Counts) → Naming c c 1
   unfolding Naming
   naming-holds c X q e =
       let z : lastName (settingOf limits) (X .names) ≡ limits .greatest + somes + 2 - 1 = let h = X .stage .named .number in omega (arith, h) in
-      ap (λ (y : ℕ). firstYes (naming X q) (range 1 y) (countOf c)) z
+      ap (λ (y : ℕ). firstYes (naming X q) (span 1 y) (countOf c)) z
 
   module _ (c now : Counts) (n : ℕ) (N : Naming c now n) (low : n ≤ limits .greatest + somes + 1) (more : List ℕ) (en : getD more index 0 ≡ n)
       (others : (i : ℕ) → (i ≡ index → ⊥) → getD more i 0 ≡ getD choices i 0) (x : Walked) (visited : Visits program script sets numbers more top (somes + 1) left (index + 1) limits now x) where
@@ -179,22 +179,22 @@ module _ (program script sets numbers choices : List ℕ) (top somes left index 
         let R = subst (Ruled (X .words) (X .table) (indices (X .names))) e (X .stage .ruled) in
         visited (scene-chosen program script sets numbers choices top somes left index limits X more n en others (omega arith) q (index + 1) (R .2) (R .1) (subst (Later (X .from)) e (X .stage .later)))
 
-    step-named : range n (limits .greatest + somes + 2 - n) ≡ n ∷ range (n + 1) (limits .greatest + somes + 2 - (n + 1))
+    step-named : span n (limits .greatest + somes + 2 - n) ≡ n ∷ span (n + 1) (limits .greatest + somes + 2 - (n + 1))
     step-named =
         let z : suc n ≡ n + 1 = omega arith in
-        range-first n (limits .greatest + somes + 2) (omega arith) ∙ ap (λ (y : ℕ). n ∷ range y (limits .greatest + somes + 2 - y)) z
+        span-first n (limits .greatest + somes + 2) (omega arith) ∙ ap (λ (y : ℕ). n ∷ span y (limits .greatest + somes + 2 - y)) z
 
     pub naming-again : (d : Counts) → x ≡ No d → Naming c d (n + 1)
     unfolding Naming
     naming-again d ex X q e =
         N X q e ∙ ap (λ (l : List ℕ). firstYes (naming X q) l (countOf now)) step-named
-        ∙ first-goes (naming X q) n (range (n + 1) (limits .greatest + somes + 2 - (n + 1))) (countOf now) x d (turn-named X q e) ex
+        ∙ first-goes (naming X q) n (span (n + 1) (limits .greatest + somes + 2 - (n + 1))) (countOf now) x d (turn-named X q e) ex
 
     pub naming-stops : NotNo x → Looks program script sets numbers choices top somes left index limits c x 6
     unfolding look Naming
     naming-stops h X e =
         let (q, eq, ei, R, f) = told X 6 e in
-        first-stops (naming X q) n (range (n + 1) (limits .greatest + somes + 2 - (n + 1))) (countOf now) x (turn-named X q eq) h
+        first-stops (naming X q) n (span (n + 1) (limits .greatest + somes + 2 - (n + 1))) (countOf now) x (turn-named X q eq) h
         ∙ sym (N X q eq ∙ ap (λ (l : List ℕ). firstYes (naming X q) l (countOf now)) step-named)
         ∙ as-told X (some-name index q) c eq
 
@@ -203,7 +203,7 @@ module _ (program script sets numbers choices : List ℕ) (top somes left index 
   naming-ends c now n N h X e =
       let (q, eq, ei, R, f) = told X 6 e in
       first-none (naming X q) now
-      ∙ sym (N X q eq ∙ ap (λ (l : List ℕ). firstYes (naming X q) l (countOf now)) (range-none n (limits .greatest + somes + 2) (omega arith)))
+      ∙ sym (N X q eq ∙ ap (λ (l : List ℕ). firstYes (naming X q) l (countOf now)) (span-none n (limits .greatest + somes + 2) (omega arith)))
       ∙ as-told X (some-name index q) c eq
 
   -- more SOMEs than the reader lets in
@@ -317,7 +317,7 @@ module _ (program script sets numbers choices : List ℕ) (top somes left index 
   trying X q m n = visits limits left (X .names) (sometime index q) m n
 
   -- no part is numbered the limit or more
-  low-told : (X : Here) (i : ℕ) → limits .limit ≤ i → count i (X .tree) ≡ 0
+  low-told : (X : Here) (i : ℕ) → limits .limit ≤ i → timesIn i (X .tree) ≡ 0
   low-told X i h = X .stage .below i (omega (arith, X .stage .within))
 
   -- the turn at `outer` with the members of `rest`

@@ -4,7 +4,7 @@ use mathlib.Core.List.{List}
 use mathlib.Core.Path.{_≡_}
 use lib.ListN.{set}
 use Rattle.sets.specs.Sets.{members, but}
-use Rattle.scripts.specs.Tree.{tops, sum}
+use Rattle.scripts.specs.Tree.{tops, total}
 use Rattle.scripts.specs.Represents.{Held}
 use Rattle.closure_machine.specs.Closure.{ClosureHead, Closure}
 use Rattle.closures.specs.declared.State.{State}
@@ -16,14 +16,15 @@ withTop kids top s = record { kids = set kids 64 top; offsets = s .offsets; look
 -- c is a piece of b: the sets and heads hold it, and of whatever is counted it has no more
 pub record Piece (bodies : ℕ → List ℕ) (heads : ℕ → ClosureHead) (b c : Closure) : Type 0 where
   pub held : Held bodies heads c
-  pub less : (f : ℕ → ClosureHead → ℕ) → sum f c ≤ sum f b
+  pub less : (f : ℕ → ClosureHead → ℕ) → total f c ≤ total f b
 
 -- c is the inside of the part i of b
 pub record Room (bodies : ℕ → List ℕ) (heads : ℕ → ClosureHead) (b : Closure) (i : ℕ) (c : Closure) : Type 0 where
   pub own : bodies i ≡ tops c
   pub piece : Piece bodies heads b c
 
--- "BESIDE: .. a share, .. the rest": d divides b, whose top parts are the members of `top`, into `share` and the rest
+-- "left with the share, on yes right with the rest": d divides b, whose top parts are the members of `top`, into `share` and
+-- the rest
 pub record Divides (bodies : ℕ → List ℕ) (heads : ℕ → ClosureHead) (b : Closure) (top share : ℕ) (d : Closure × Closure) : Type 0 where
   pub taken : members share ≡ tops (d .0)
   pub others : but (members top) (members share) ≡ tops (d .1)

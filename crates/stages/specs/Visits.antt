@@ -8,9 +8,9 @@ use lib.Dec.{ltb}
 use lib.ListN.{getD, length}
 use Rattle.sets.specs.Sets.{members}
 use Rattle.messages.specs.Words.{kind, member}
-use Rattle.scripts.specs.Tree.{count}
+use Rattle.scripts.specs.Tree.{timesIn}
 use Rattle.scripts.specs.Represents.{bodyIn}
-use Rattle.rules.specs.Rule.{Later, Term, constant, chosen, Names, lookup, Rule, beside, ruleIndex}
+use Rattle.rules.specs.Rule.{Later, Term, constant, chosen, Names, chosenName, Rule, beside, ruleIndex}
 use Rattle.messages.specs.Reading.{Cursor}
 use Rattle.rule_reader.specs.Ruled.{Ruled, Tabled}
 use Rattle.rule_reader.specs.declared.RuleTable.{RuleTable}
@@ -47,7 +47,7 @@ indices (p ∷ e) = p .0 ∷ indices e
 -- `chosen` has at a SOME's index the name chosen for it; every name is one that SOME tries
 pub record Chosen (greatest : ℕ) (e : Names) (chosen : List ℕ) (somes : ℕ) : Type 0 where
   pub number : length e ≡ somes
-  pub names : (i : ℕ) → member i (indices e) ≡ true → (i < 256) × (lookup e i ≡ getD chosen i 0) × (getD chosen i 0 ≤ greatest + somes)
+  pub names : (i : ℕ) → member i (indices e) ≡ true → (i < 256) × (chosenName e i ≡ getD chosen i 0) × (getD chosen i 0 ≤ greatest + somes)
 
 -- What holds where the engine visits the rule q, at a word's index, on the state s, with `left` depths left: s stands for
 -- the closure b, all of whose numbers are below n + from, and no PLACED word in q is earlier than `from`.
@@ -56,7 +56,7 @@ pub record Stage (words : List ℕ) (table : RuleTable) (script kinds starts : L
   pub ready : Ready script kinds starts s
   pub stands : Represents script kinds starts weight spent s b
   pub slack : spent + left < 4294967295
-  pub below : (i : ℕ) → limits .parts + from ≤ i → count i b ≡ 0
+  pub below : (i : ℕ) → limits .parts + from ≤ i → timesIn i b ≡ 0
   pub light : weight ≤ limits .parts + from
   pub within : limits .parts + from ≤ limits .limit
   pub limited : limits .limit ≡ limits .parts + table .count
@@ -143,7 +143,7 @@ module _ (program script sets numbers chosen : List ℕ) (top somes left index :
 abbrev pub Walks : (words : List ℕ) (table : RuleTable) (script kinds starts : List ℕ) → State → Limits → Walked → Type 0
 Walks words table script kinds starts s limits r =
     (weight spent : ℕ) (b : Closure) (p : Rule × Cursor) → Tabled (limits .parts) words table p → Later 0 (p .0) → limits .limit ≡ limits .parts + table .count
-    → Represents script kinds starts weight spent s b → weight ≤ limits .parts → ((i : ℕ) → limits .parts ≤ i → count i b ≡ 0) → spent + 256 < 4294967295
+    → Represents script kinds starts weight spent s b → weight ≤ limits .parts → ((i : ℕ) → limits .parts ≤ i → timesIn i b ≡ 0) → spent + 256 < 4294967295
     → walkedOf r ≡ walkFrom (closureSpace (limits .limit)) (settingOf limits) (p .0) (machineOf script s b)
 
 -- To unfold this is to unfold every definition of this module: for a proof by computation.

@@ -18,7 +18,7 @@ use Rattle.scripts.specs.Tree.{ambient, action, receipt, output}
 use Rattle.scripts.specs.Represents.{bodyIn}
 use Rattle.machine.specs.Moves.{sameName, toEnter, toExit, toOpen, variableOf, messageOf, headName, firstOf}
 use Rattle.slices.proofs.Tests.{byTest}
-use Rattle.closure_machine.specs.Closure.{ClosureHead, Closure, Bindings, itemsLeft, under, closureMove}
+use Rattle.closure_machine.specs.Closure.{ClosureHead, Closure, Bindings, itemsLeft, viewUnder, closureMove}
 use Rattle.closures.specs.Represents.{heads, boundIn, Ready, Represents}
 use Rattle.closures.specs.Searches.{place, Stands, Located}
 use Rattle.closures.specs.Seen.{itemAct, itemName, isOutput, actUnder, aimUnder, Seen}
@@ -48,31 +48,31 @@ front false y z u = rw (and-false, and-false)
 
 module _ (σ : Bindings) (k : ℕ → List ℕ) (w : ℕ → ClosureHead) (p q a t : ℕ) where
   -- by the first item of an actor that is no receipt
-  by-item : (x : First) → firstOf (under σ) (w a) ≡ x → variableOf (w a) ≡ none
-      → canMoveFrom σ k w p q a t ≡ isTarget k (itemAct x) p q t (sameName (itemName x) (headName (under σ) (w t)))
+  by-item : (x : First) → firstOf (viewUnder σ) (w a) ≡ x → variableOf (w a) ≡ none
+      → canMoveFrom σ k w p q a t ≡ isTarget k (itemAct x) p q t (sameName (itemName x) (headName (viewUnder σ) (w t)))
   unfolding toOpen toEnter toExit itemAct itemName isTarget isWithin isBeside isAround canOpen canEnter canExit
   by-item Nothing e v = by-idler σ k w p q a t Nothing e v refl refl refl
   by-item (Enter n) e v =
       by-enterer σ k w p q a t n e
-      ∙ ap (λ (x : First). ltb p 64 && (ltb q 65 && (elem t (k q) && (not (eqb t p) && sameName (toEnter x) (headName (under σ) (w t)))))) e
-      ∙ ap (λ (b : Bool). ltb p 64 && b) (front (not (eqb t p)) (ltb q 65) (elem t (k q)) (sameName n (headName (under σ) (w t))))
-      ∙ ap (λ (b : Bool). ltb p 64 && (not b && (ltb q 65 && (elem t (k q) && sameName n (headName (under σ) (w t)))))) (same-number t p)
+      ∙ ap (λ (x : First). ltb p 64 && (ltb q 65 && (elem t (k q) && (not (eqb t p) && sameName (toEnter x) (headName (viewUnder σ) (w t)))))) e
+      ∙ ap (λ (b : Bool). ltb p 64 && b) (front (not (eqb t p)) (ltb q 65) (elem t (k q)) (sameName n (headName (viewUnder σ) (w t))))
+      ∙ ap (λ (b : Bool). ltb p 64 && (not b && (ltb q 65 && (elem t (k q) && sameName n (headName (viewUnder σ) (w t)))))) (same-number t p)
   by-item (Exit n) e v =
       by-leaver σ k w p q a t n e
-      ∙ ap (λ (x : First). ltb p 64 && (ltb q 64 && (eqb t q && sameName (toExit x) (headName (under σ) (w q))))) e
+      ∙ ap (λ (x : First). ltb p 64 && (ltb q 64 && (eqb t q && sameName (toExit x) (headName (viewUnder σ) (w q))))) e
       ∙ byTest (eqb t q) (λ u. rw (u, eqb-true t q u)) (λ u. rw u)
-  by-item (Open n) e v = by-opener σ k w p q a t n e ∙ ap (λ (x : First). ltb p 65 && (elem t (k p) && sameName (toOpen x) (headName (under σ) (w t)))) e
+  by-item (Open n) e v = by-opener σ k w p q a t n e ∙ ap (λ (x : First). ltb p 65 && (elem t (k p) && sameName (toOpen x) (headName (viewUnder σ) (w t)))) e
   by-item Other e v = by-idler σ k w p q a t Other e v refl refl refl
 
   by-head : (h : ClosureHead) → w a ≡ h → canMoveFrom σ k w p q a t ≡ isTarget k (actUnder σ h) p q t (aimUnder σ h (w t))
   unfolding actUnder aimUnder isTarget isWithin toOpen toEnter toExit canReceive firstOf variableOf isSome
-  by-head (ambient m) e = by-idler σ k w p q a t Nothing (ap (firstOf (under σ)) e) (ap variableOf e) refl refl refl
-  by-head (action l) e = by-item (firstItem (itemsLeft σ l)) (ap (firstOf (under σ)) e) (ap variableOf e)
+  by-head (ambient m) e = by-idler σ k w p q a t Nothing (ap (firstOf (viewUnder σ)) e) (ap variableOf e) refl refl refl
+  by-head (action l) e = by-item (firstItem (itemsLeft σ l)) (ap (firstOf (viewUnder σ)) e) (ap variableOf e)
   by-head (receipt v) e =
       by-receiver σ k w p q a t v e
       ∙ ap (λ (h : ClosureHead). ltb p 65 && (elem t (k p) && (isSome (variableOf h) && isSome (messageOf (w t))))) e
       ∙ ap (λ (b : Bool). ltb p 65 && (elem t (k p) && b)) (output-message (w t))
-  by-head (output m) e = by-idler σ k w p q a t Nothing (ap (firstOf (under σ)) e) (ap variableOf e) refl refl refl
+  by-head (output m) e = by-idler σ k w p q a t Nothing (ap (firstOf (viewUnder σ)) e) (ap variableOf e) refl refl refl
 
 -- THEOREM: the closure allows the moves of an actor to its targets, and no others.
 targets-are : (σ : Bindings) (k : ℕ → List ℕ) (w : ℕ → ClosureHead) (b : Closure) → Stands k w b → (P : ℕ → ℕ) → ((i : ℕ) → i < 64 → P i ≡ place σ i b) → (act : ℕ) (aim : List ℕ) (a t : ℕ)

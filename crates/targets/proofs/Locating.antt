@@ -1,19 +1,19 @@
 -- The places of all parts, written in one pass over the part sets. Assumes nothing.
 use Prim.Native.Nat.{ℕ, _+_, _-_, _≤_, _<_}
 use mathlib.Core.Bool.{true, false, _||_, cond}
-use mathlib.Core.List.{List, [], _∷_}
+use mathlib.Core.List.{List, [], _∷_, tail}
 use mathlib.Core.Path.{_≡_, refl, sym, ap, _∙_}
 use native.Mathlib.Omega.{arith}
 use lib.Dec.{eqb, ltb}
 use lib.ListN.{getD, set, length, replicate, getD-replicate}
 use lib.Seq.{getD-set-same, getD-set-other}
 use borrow.Author.Tests.{eqb-true, eqb-false, ltb-false, lt-ltb}
-use Rattle.sets.specs.Sets.{members, elem, headOr, tail}
-use Rattle.scripts.specs.Tree.{close, part, one, tops, sum, parts, count}
+use Rattle.sets.specs.Sets.{members, elem, headOr}
+use Rattle.scripts.specs.Tree.{close, part, oneIf, tops, total, parts, timesIn}
 use Rattle.scripts.specs.Represents.{Held}
 use Rattle.machine.specs.Moves.{isNamed, headName}
 use Rattle.slices.proofs.Tests.{byTest}
-use Rattle.closure_machine.specs.Closure.{ClosureHead, Closure, Bindings, under}
+use Rattle.closure_machine.specs.Closure.{ClosureHead, Closure, Bindings, viewUnder}
 use Rattle.closures.specs.Searches.{firstPlace, placeBelow, placeFrom, place, Stands, Locates}
 use Rattle.closures.specs.Seen.{nameIn, Names, Seen}
 use Rattle.closures.specs.declared.Looks.{Looks}
@@ -41,28 +41,28 @@ first-none x l = byTest (ltb x 65) (λ t. rw t) (λ t. rw t (omega (arith, ltb-f
 
 -- ---- the place of a part
 
-pub place-none : (σ : Bindings) (at x : ℕ) (b : Closure) → count x b ≡ 0 → placeFrom σ at x b ≡ 65
+pub place-none : (σ : Bindings) (at x : ℕ) (b : Closure) → timesIn x b ≡ 0 → placeFrom σ at x b ≡ 65
 place-none σ at x b e = rw (not-in x b e) (nowhere σ x b e)
 
 -- ---- the ways on of the pass
 
 -- the place of a part in the body of the part i, whose head is h, if that has a name
 abbrev below : Bindings → (i : ℕ) (h : ClosureHead) (x : ℕ) → Closure → ℕ
-below σ i h x s = cond (isNamed (headName (under σ) h)) (placeFrom σ i x s) 65
+below σ i h x s = cond (isNamed (headName (viewUnder σ) h)) (placeFrom σ i x s) 65
 
-below-none : (σ : Bindings) (i : ℕ) (h : ClosureHead) (x : ℕ) (s : Closure) → count x s ≡ 0 → below σ i h x s ≡ 65
-below-none σ i h x s e = byTest (isNamed (headName (under σ) h)) (λ t. rw t (place-none σ i x s e)) (λ t. rw t)
+below-none : (σ : Bindings) (i : ℕ) (h : ClosureHead) (x : ℕ) (s : Closure) → timesIn x s ≡ 0 → below σ i h x s ≡ 65
+below-none σ i h x s e = byTest (isNamed (headName (viewUnder σ) h)) (λ t. rw t (place-none σ i x s e)) (λ t. rw t)
 
 -- `after` are the places when those in the body of the part i are written, if it has a name
 abbrev pub Enters : Bindings → (k : ℕ → List ℕ) (w : ℕ → ClosureHead) (i fuel : ℕ) (before after : ℕ → ℕ) → Type 0
 Enters σ k w i fuel before after =
-    (s : Closure) → k i ≡ tops s → Held k w s → ((j : ℕ) → count j s ≤ 1) → parts s ≤ fuel → (x : ℕ) → after x ≡ firstPlace (below σ i (w i) x s) (before x)
+    (s : Closure) → k i ≡ tops s → Held k w s → ((j : ℕ) → timesIn j s ≤ 1) → parts s ≤ fuel → (x : ℕ) → after x ≡ firstPlace (below σ i (w i) x s) (before x)
 
 module _ (σ : Bindings) (k : ℕ → List ℕ) (w : ℕ → ClosureHead) where
-  pub enters-named : (i fuel : ℕ) (P P₁ : ℕ → ℕ) → isNamed (headName (under σ) (w i)) ≡ true → Locates σ k w (k i) i fuel P P₁ → Enters σ k w i fuel P P₁
+  pub enters-named : (i fuel : ℕ) (P P₁ : ℕ → ℕ) → isNamed (headName (viewUnder σ) (w i)) ≡ true → Locates σ k w (k i) i fuel P P₁ → Enters σ k w i fuel P P₁
   enters-named i fuel P P₁ n inside s e h once m x = rw n (inside s e h once m x)
 
-  pub enters-nameless : (i fuel : ℕ) (P : ℕ → ℕ) → isNamed (headName (under σ) (w i)) ≡ false → Enters σ k w i fuel P P
+  pub enters-nameless : (i fuel : ℕ) (P : ℕ → ℕ) → isNamed (headName (viewUnder σ) (w i)) ≡ false → Enters σ k w i fuel P P
   enters-nameless i fuel P n s e h once m x = rw n
 
   module _ (left : List ℕ) (at fuel : ℕ) (P : ℕ → ℕ) where
@@ -72,24 +72,24 @@ module _ (σ : Bindings) (k : ℕ → List ℕ) (w : ℕ → ClosureHead) where
     locates-none z (part j g s r) e h once m x = absurd (no-cons j (tops r) (sym e ∙ z))
 
     pub locates-no-fuel : fuel ≡ 0 → Locates σ k w left at fuel P P
-    unfolding tops elem placeBelow sum
+    unfolding tops elem placeBelow total
     locates-no-fuel d close e h once m x = refl
     locates-no-fuel d (part j g s r) e h once m x = absurd (let z : ⊥ = omega arith in z)
 
     -- what is written of a part, of those in its body and of those beside it, no number standing twice
-    together : at < 65 → (j : ℕ) (h : ClosureHead) (x : ℕ) (s r : Closure) → one (eqb x j) + (count x s + count x r) ≤ 1
+    together : at < 65 → (j : ℕ) (h : ClosureHead) (x : ℕ) (s r : Closure) → oneIf (eqb x j) + (timesIn x s + timesIn x r) ≤ 1
         → firstPlace (placeFrom σ at x r) (firstPlace (below σ j h x s) (cond (eqb x j) at (P x))) ≡ firstPlace (cond (eqb x j || elem x (tops r)) at (firstPlace (below σ j h x s) (placeBelow σ x r))) (P x)
     together own j h x s r once = byTest (eqb x j)
-        (λ t. let o : 1 + (count x s + count x r) ≤ 1 = rw t at once in rw (t, below-none σ j h x s (omega arith), place-none σ at x r (omega arith), lt-ltb at 65 own))
+        (λ t. let o : 1 + (timesIn x s + timesIn x r) ≤ 1 = rw t at once in rw (t, below-none σ j h x s (omega arith), place-none σ at x r (omega arith), lt-ltb at 65 own))
         (λ t. byTest (elem x (tops r))
         (λ u. rw (t, u, lt-ltb at 65 own))
-        (λ u. byTest (eqb (count x s) 0)
-        (λ v. rw (t, u) (first-swap (below σ j h x s) (placeBelow σ x r) (P x) (below-none σ j h x s (eqb-true (count x s) 0 v))))
-        (λ v. rw (t, u) (first-last (below σ j h x s) (placeBelow σ x r) (P x) (nowhere σ x r (omega (arith, eqb-false (count x s) 0 v)))))))
+        (λ u. byTest (eqb (timesIn x s) 0)
+        (λ v. rw (t, u) (first-swap (below σ j h x s) (placeBelow σ x r) (P x) (below-none σ j h x s (eqb-true (timesIn x s) 0 v))))
+        (λ v. rw (t, u) (first-last (below σ j h x s) (placeBelow σ x r) (P x) (nowhere σ x r (omega (arith, eqb-false (timesIn x s) 0 v)))))))
 
     pub locates-first : (i : ℕ) (l : List ℕ) (P₁ P₂ P₃ : ℕ → ℕ) → left ≡ i ∷ l → at < 65 → ((x : ℕ) → P₁ x ≡ cond (eqb x i) at (P x)) → Enters σ k w i (fuel - 1) P₁ P₂
         → Locates σ k w l at (fuel - 1) P₂ P₃ → Locates σ k w left at fuel P P₃
-    unfolding tops elem placeBelow sum
+    unfolding tops elem placeBelow total
     locates-first i l P₁ P₂ P₃ first own here inside rest close e h once m x = absurd (no-cons i l (sym first ∙ e))
     locates-first i l P₁ P₂ P₃ first own here inside rest (part j g s r) e h once m x =
         let p : i ≡ j = ap (headOr 0) (sym first ∙ e) in

@@ -10,13 +10,13 @@ use lib.Dec.{eqb}
 use lib.ListN.{getD, length}
 use borrow.Author.Tests.{eqb-true, eqb-false}
 use Rattle.messages.specs.Message.{Message}
-use Rattle.sets.specs.Sets.{remove, join}
+use Rattle.sets.specs.Sets.{remove, joined}
 use Rattle.scripts.specs.Tree.{receipt, output}
 use Rattle.scripts.specs.Represents.{bodyIn}
 use Rattle.machine.specs.Moves.{Moved, moveHere}
 use Rattle.machine.proofs.Inversion.{here-inv}
 use Rattle.slices.proofs.Tests.{byTest}
-use Rattle.closure_machine.specs.Closure.{Action, ClosureHead, Closure, Bindings, under, settleUnder, settledUnder, closureMove}
+use Rattle.closure_machine.specs.Closure.{Action, ClosureHead, Closure, Bindings, viewUnder, settleUnder, settledUnder, closureMove}
 use Rattle.closures.specs.Represents.{headOf, heads, boundIn, Represents}
 use Rattle.closures.specs.Searches.{place, Stands}
 use Rattle.closures.specs.declared.State.{State}
@@ -69,15 +69,15 @@ module _ (script kinds starts : List ℕ) (weight spent : ℕ) (s : State) (f : 
 
   -- s′ stands for what the move (a, t) makes of the closure, before it is settled
   abbrev pub Made : ℕ → Bindings → Type 0
-  Made spent′ news = After script kinds starts weight spent s f R t (moveHere (under σ) a t) (here-needs σ a t) spent′ s′ news
+  Made spent′ news = After script kinds starts weight spent s f R t (moveHere (viewUnder σ) a t) (here-needs σ a t) spent′ s′ news
 
   -- a move that is made in the body of b, whatever its kind
-  by-change : (b : ℕ) (S : Spot σ k w f a t b) (n : Moved Action) → moveHere (under σ) a t (S .here) ≡ some n
-      → (Shrinks (S .here) n → Change σ k w t (moveHere (under σ) a t) (here-needs σ a t) b (S .here) k′ w′ n) → (spent′ : ℕ) → s′ .bindings .first + length (n .news) ≡ s .bindings .first
+  by-change : (b : ℕ) (S : Spot σ k w f a t b) (n : Moved Action) → moveHere (viewUnder σ) a t (S .here) ≡ some n
+      → (Shrinks (S .here) n → Change σ k w t (moveHere (viewUnder σ) a t) (here-needs σ a t) b (S .here) k′ w′ n) → (spent′ : ℕ) → s′ .bindings .first + length (n .news) ≡ s .bindings .first
       → ((i : ℕ) → getD (s′ .offsets) i 0 ≤ spent′) → Made spent′ (n .news)
   by-change b S n e C spent′ bound most =
-      let less : Shrinks (S .here) n = shrinks σ a t (S .here) n (here-inv (under σ) a t (S .here) n e) in
-      after script kinds starts weight spent s f R t (moveHere (under σ) a t) (here-needs σ a t) b S n e less spent′ s′ (C less) bound most
+      let less : Shrinks (S .here) n = shrinks σ a t (S .here) n (here-inv (viewUnder σ) a t (S .here) n e) in
+      after script kinds starts weight spent s f R t (moveHere (viewUnder σ) a t) (here-needs σ a t) b S n e less spent′ s′ (C less) bound most
 
   module _ (raised : Raised (s .offsets) (s′ .offsets) a) (bound : s′ .bindings .first ≡ s .bindings .first) where
     abbrev spends : Spent σ w w′ a
@@ -87,14 +87,14 @@ module _ (script kinds starts : List ℕ) (weight spent : ℕ) (s : State) (f : 
     most = raised-most (s .offsets) (s′ .offsets) a spent raised (R .spends)
 
     -- THEOREM: OPEN. The target goes, its body stays where the actor stands.
-    pub open-made : (p : ℕ) → place σ a f ≡ p → canOpen σ k w p a t ≡ true → Replaced k k′ p (join (k t) (remove t (k p))) → Made (spent + 1) []
-    open-made p ep = subst (λ (x : ℕ). canOpen σ k w x a t ≡ true → Replaced k k′ x (join (k t) (remove t (k x))) → Made (spent + 1) []) ep here
+    pub open-made : (p : ℕ) → place σ a f ≡ p → canOpen σ k w p a t ≡ true → Replaced k k′ p (joined (k t) (remove t (k p))) → Made (spent + 1) []
+    open-made p ep = subst (λ (x : ℕ). canOpen σ k w x a t ≡ true → Replaced k k′ x (joined (k t) (remove t (k x))) → Made (spent + 1) []) ep here
       where
-        here : canOpen σ k w (at a) a t ≡ true → Replaced k k′ (at a) (join (k t) (remove t (k (at a)))) → Made (spent + 1) []
+        here : canOpen σ k w (at a) a t ≡ true → Replaced k k′ (at a) (joined (k t) (remove t (k (at a)))) → Made (spent + 1) []
         here e C =
             let (S, i, two, made) = open-at σ k w f holds a t e in
             by-change (at a) S _ made
-            (λ l. open-change σ k w a t (S .here) (S .held) (S .stands) i (moveHere (under σ) a t) (here-needs σ a t) (at a) (S .body) (S .apart)
+            (λ l. open-change σ k w a t (S .here) (S .held) (S .stands) i (moveHere (viewUnder σ) a t) (here-needs σ a t) (at a) (S .body) (S .apart)
             (once-here σ k w f holds a t (at a) S) k′ w′ (C .others) spends two (C .becomes))
             (spent + 1) (omega arith) most
 
@@ -109,7 +109,7 @@ module _ (script kinds starts : List ℕ) (weight spent : ℕ) (s : State) (f : 
             let (S, i, j, two, made) = enter-at σ k w f holds a t e in
             by-change (at (at a)) S _ made
             (λ l. enter-change σ k w a t (S .here) (S .held) (S .stands) (at a) i j (once-here σ k w f holds a t (at (at a)) S)
-            (moveHere (under σ) a t) (here-needs σ a t) (at (at a)) (S .body) (S .apart) k′ w′ spends (C .others) two (C .loses) (C .gains))
+            (moveHere (viewUnder σ) a t) (here-needs σ a t) (at (at a)) (S .body) (S .apart) k′ w′ spends (C .others) two (C .loses) (C .gains))
             (spent + 1) (omega arith) most
 
     -- THEOREM: EXIT. The part around the actor comes out of the target, which is around it, and stands beside it.
@@ -124,21 +124,21 @@ module _ (script kinds starts : List ℕ) (weight spent : ℕ) (s : State) (f : 
             let (S, i, j, made) = exit-at σ k w f holds a t d in
             by-change (at t) S _ made
             (λ l. exit-change σ k w a t (S .here) (S .held) (S .stands) (at a) i j (once-here σ k w f holds a t (at t) S)
-            (moveHere (under σ) a t) (here-needs σ a t) (at t) (S .body) (S .apart) k′ w′ spends (D .others) (D .loses) (D .gains))
+            (moveHere (viewUnder σ) a t) (here-needs σ a t) (at t) (S .body) (S .apart) k′ w′ spends (D .others) (D .loses) (D .gains))
             (spent + 1) (omega arith) most
 
   -- THEOREM: the receipt. Both go, the receipt's body stands there, and its variable is bound to the message.
   pub receive-made : ((i : ℕ) → getD (s .offsets) i 0 ≡ getD (s′ .offsets) i 0) → s′ .bindings .first + 1 ≡ s .bindings .first
       → (v : ℕ) (m : Message) → w a ≡ receipt v → w t ≡ output m → (p : ℕ) → place σ a f ≡ p → canReceive σ k w p a t ≡ true
-      → Replaced k k′ p (join (k a) (remove t (remove a (k p)))) → (spent′ : ℕ) → spent ≤ spent′ → Made spent′ ((v, m) ∷ [])
+      → Replaced k k′ p (joined (k a) (remove t (remove a (k p)))) → (spent′ : ℕ) → spent ≤ spent′ → Made spent′ ((v, m) ∷ [])
   receive-made alike bound v m ea et p ep e C spent′ l =
-      subst (λ (x : ℕ). canReceive σ k w x a t ≡ true → Replaced k k′ x (join (k a) (remove t (remove a (k x)))) → Made spent′ ((v, m) ∷ [])) ep here e C
+      subst (λ (x : ℕ). canReceive σ k w x a t ≡ true → Replaced k k′ x (joined (k a) (remove t (remove a (k x)))) → Made spent′ ((v, m) ∷ [])) ep here e C
     where
-      here : canReceive σ k w (at a) a t ≡ true → Replaced k k′ (at a) (join (k a) (remove t (remove a (k (at a))))) → Made spent′ ((v, m) ∷ [])
+      here : canReceive σ k w (at a) a t ≡ true → Replaced k k′ (at a) (joined (k a) (remove t (remove a (k (at a))))) → Made spent′ ((v, m) ∷ [])
       here d D =
           let (S, i, made) = receive-at σ k w f holds a t d v m ea et in
           by-change (at a) S _ made
-          (λ less. receive-change σ k w a t (S .here) (S .held) (S .stands) i (moveHere (under σ) a t) (here-needs σ a t) (at a) (S .body) (S .apart)
+          (λ less. receive-change σ k w a t (S .here) (S .held) (S .stands) i (moveHere (viewUnder σ) a t) (here-needs σ a t) (at a) (S .body) (S .apart)
           (once-here σ k w f holds a t (at a) S) k′ w′ (D .others) v m less (D .becomes) (λ j. ap (headOf script (getD kinds j 0) (getD starts j 0)) (alike j)))
           spent′ (omega arith) (λ j. omega (arith, alike j, R .spends j))
 

@@ -10,16 +10,16 @@ use lib.Dec.{eqb}
 use borrow.Author.Tests.{ne-eqb}
 use Rattle.messages.specs.Message.{Message}
 use Rattle.messages.specs.declared.Named.the-variants.{Nameless}
-use Rattle.sets.specs.Sets.{elem, remove, join}
-use Rattle.sets.proofs.Lists.{elem-remove, elem-join}
-use Rattle.scripts.specs.Tree.{receipt, output, one, tops, count, merge}
+use Rattle.sets.specs.Sets.{elem, remove, joined}
+use Rattle.sets.proofs.Lists.{elem-remove, elem-joined}
+use Rattle.scripts.specs.Tree.{receipt, output, oneIf, tops, timesIn, merge}
 use Rattle.scripts.specs.Represents.{Held}
-use Rattle.machine.specs.Bodies.{_>>=_, check, drop}
+use Rattle.machine.specs.Bodies.{_>>=_, check, removePart}
 use Rattle.machine.specs.Moves.{Moved, quiet, variableOf, messageOf, spentHead, spend, sameName, toOpen, firstOf, openMove, receiveMove}
 use Rattle.slices.proofs.Tests.{byTest}
-use Rattle.machine.proofs.Sums.{find-sum, merge-sum}
-use Rattle.closure_machine.specs.Closure.{Action, ClosureHead, Closure, Bindings, under}
-use Rattle.closures.proofs.Holding.{tops-drop, tops-merge, tops-alter, in-count, differ, frame, held-drop, held-merge, Found, found-in, not-found}
+use Rattle.machine.proofs.Sums.{find-total, merge-total}
+use Rattle.closure_machine.specs.Closure.{Action, ClosureHead, Closure, Bindings, viewUnder}
+use Rattle.closures.proofs.Holding.{tops-removePart, tops-merge, tops-alter, in-times, numbers-differ, frame, held-removePart, held-merge, Found, found-in, not-found}
 use Rattle.closures.proofs.Focus.{Change}
 use Rattle.closures.proofs.Moving.{Shrinks, fewer}
 use Rattle.closures.proofs.Spending.{Spent, held-spend}
@@ -27,87 +27,87 @@ use Rattle.targets.specs.Targets.{mayOpen}
 
 -- ---- where there is no move
 
-pub open-needs : (σ : Bindings) (a t : ℕ) (b : Closure) → elem t (tops b) ≡ false → openMove (under σ) a t b ≡ none
+pub open-needs : (σ : Bindings) (a t : ℕ) (b : Closure) → elem t (tops b) ≡ false → openMove (viewUnder σ) a t b ≡ none
 unfolding openMove _>>=_
 open-needs σ a t b e = rw (not-found t b e)
 
-pub receive-needs : (σ : Bindings) (a t : ℕ) (b : Closure) → elem t (tops b) ≡ false → receiveMove (under σ) a t b ≡ none
+pub receive-needs : (σ : Bindings) (a t : ℕ) (b : Closure) → elem t (tops b) ≡ false → receiveMove (viewUnder σ) a t b ≡ none
 unfolding receiveMove _>>=_
 receive-needs σ a t b e = rw (not-found t b e)
 
 module _ (σ : Bindings) (k : ℕ → List ℕ) (w : ℕ → ClosureHead) (a t : ℕ) (here : Closure) (held : Held k w here) (stands : elem t (tops here) ≡ true) where
-  abbrev T : Found k w t here
-  T = found-in k w t here held stands
+  abbrev There : Found k w t here
+  There = found-in k w t here held stands
 
-  pub open-alone : elem a (tops here) ≡ false → openMove (under σ) a t here ≡ none
+  pub open-alone : elem a (tops here) ≡ false → openMove (viewUnder σ) a t here ≡ none
   unfolding openMove _>>=_
-  open-alone e = rw (T .found, not-found a here e)
+  open-alone e = rw (There .found, not-found a here e)
 
-  pub receive-alone : elem a (tops here) ≡ false → receiveMove (under σ) a t here ≡ none
+  pub receive-alone : elem a (tops here) ≡ false → receiveMove (viewUnder σ) a t here ≡ none
   unfolding receiveMove _>>=_
-  receive-alone e = rw (T .found, not-found a here e)
+  receive-alone e = rw (There .found, not-found a here e)
 
   module _ (beside : elem a (tops here) ≡ true) where
     abbrev A : Found k w a here
     A = found-in k w a here held beside
 
-    pub open-not : mayOpen σ (w a) (w t) ≡ false → openMove (under σ) a t here ≡ none
+    pub open-not : mayOpen σ (w a) (w t) ≡ false → openMove (viewUnder σ) a t here ≡ none
     unfolding openMove _>>=_ check
-    open-not e = rw (T .found, A .found, e)
+    open-not e = rw (There .found, A .found, e)
 
     -- ---- OPEN
     abbrev both : Closure
-    both = merge (T .room) (drop t here)
+    both = merge (There .room) (removePart t here)
 
     abbrev pub opened : Moved Action
-    opened = quiet (spend (under σ) a both)
+    opened = quiet (spend (viewUnder σ) a both)
 
-    pub open-is : mayOpen σ (w a) (w t) ≡ true → openMove (under σ) a t here ≡ some opened
+    pub open-is : mayOpen σ (w a) (w t) ≡ true → openMove (viewUnder σ) a t here ≡ some opened
     unfolding openMove _>>=_ check
-    open-is e = rw (T .found, A .found, e)
+    open-is e = rw (There .found, A .found, e)
 
     -- ---- the receipt
     abbrev pub received : (v : ℕ) (m : Message) → Moved Action
-    received v m = record { body = merge (A .room) (drop t (drop a here)); news = (v, m) ∷ [] }
+    received v m = record { body = merge (A .room) (removePart t (removePart a here)); news = (v, m) ∷ [] }
 
-    pub receive-is : (v : ℕ) (m : Message) → w a ≡ receipt v → w t ≡ output m → receiveMove (under σ) a t here ≡ some (received v m)
+    pub receive-is : (v : ℕ) (m : Message) → w a ≡ receipt v → w t ≡ output m → receiveMove (viewUnder σ) a t here ≡ some (received v m)
     unfolding receiveMove _>>=_ variableOf messageOf
-    receive-is v m ea et = rw (T .found, A .found, ea, et)
+    receive-is v m ea et = rw (There .found, A .found, ea, et)
 
     module _ (g : Closure → Option (Moved Action)) (needs : (s : Closure) → elem t (tops s) ≡ false → g s ≡ none)
-        (b : ℕ) (own : k b ≡ tops here) (apart : count b here ≡ 0) (once : (j : ℕ) → count j here ≤ 1)
+        (b : ℕ) (own : k b ≡ tops here) (apart : timesIn b here ≡ 0) (once : (j : ℕ) → timesIn j here ≤ 1)
         (k′ : ℕ → List ℕ) (w′ : ℕ → ClosureHead) (bodies : (i : ℕ) → (i ≡ b → ⊥) → k i ≡ k′ i) where
       -- the body of a number that stands here is as it was
-      stays : (i : ℕ) → 1 ≤ count i here → k i ≡ k′ i
-      stays i l = bodies i (differ i b here l apart)
+      stays : (i : ℕ) → 1 ≤ timesIn i here → k i ≡ k′ i
+      stays i l = bodies i (numbers-differ i b here l apart)
 
       -- both go, the receipt's body comes
-      pub receive-change : (v : ℕ) (m : Message) → Shrinks here (received v m) → k′ b ≡ join (k a) (remove t (remove a (k b))) → ((i : ℕ) → w i ≡ w′ i)
+      pub receive-change : (v : ℕ) (m : Message) → Shrinks here (received v m) → k′ b ≡ joined (k a) (remove t (remove a (k b))) → ((i : ℕ) → w i ≡ w′ i)
           → Change σ k w t g needs b here k′ w′ (received v m)
       receive-change v m l joins heads = record {
-        own = joins ∙ (λ j. join (A .own j) (remove t (remove a (own j)))) ∙ (λ j. join (tops (A .room)) (remove t (sym (tops-drop a here) j)))
-            ∙ ap (join (tops (A .room))) (sym (tops-drop t (drop a here))) ∙ sym (tops-merge (A .room) (drop t (drop a here)));
-        held = frame k k′ w w′ (merge (A .room) (drop t (drop a here)))
-            (held-merge k w (A .room) (drop t (drop a here)) (A .held) (held-drop k w t (drop a here) (held-drop k w a here held)))
-            (λ i c. (stays i (omega (arith, fewer here (received v m) l (λ j. one (eqb i j)))), heads i));
+        own = joins ∙ (λ j. joined (A .own j) (remove t (remove a (own j)))) ∙ (λ j. joined (tops (A .room)) (remove t (sym (tops-removePart a here) j)))
+            ∙ ap (joined (tops (A .room))) (sym (tops-removePart t (removePart a here))) ∙ sym (tops-merge (A .room) (removePart t (removePart a here)));
+        held = frame k k′ w w′ (merge (A .room) (removePart t (removePart a here)))
+            (held-merge k w (A .room) (removePart t (removePart a here)) (A .held) (held-removePart k w t (removePart a here) (held-removePart k w a here held)))
+            (λ i c. (stays i (omega (arith, fewer here (received v m) l (λ j. oneIf (eqb i j)))), heads i));
         head = heads b;
         rest = λ i n z. (bodies i n, heads i);
       }
 
       -- the ambient goes, its body stays, and the actor's first item is spent
-      pub open-change : Spent σ w w′ a → (a ≡ t → ⊥) → k′ b ≡ join (k t) (remove t (k b)) → Change σ k w t g needs b here k′ w′ opened
+      pub open-change : Spent σ w w′ a → (a ≡ t → ⊥) → k′ b ≡ joined (k t) (remove t (k b)) → Change σ k w t g needs b here k′ w′ opened
       open-change spent two joins =
-          let held-both : Held k w both = held-merge k w (T .room) (drop t here) (T .held) (held-drop k w t here held) in
-          let less : (i : ℕ) → count i both ≤ count i here = λ i. omega (arith, merge-sum (λ j h. one (eqb i j)) (T .room) (drop t here), find-sum (λ j h. one (eqb i j)) t here (w t, T .room) (T .found)) in
+          let held-both : Held k w both = held-merge k w (There .room) (removePart t here) (There .held) (held-removePart k w t here held) in
+          let less : (i : ℕ) → timesIn i both ≤ timesIn i here = λ i. omega (arith, merge-total (λ j h. oneIf (eqb i j)) (There .room) (removePart t here), find-total (λ j h. oneIf (eqb i j)) t here (w t, There .room) (There .found)) in
           let kept : elem a (remove t (tops here)) ≡ true = elem-remove a t (tops here) ∙ rw (ne-eqb t a (λ e. two (sym e))) beside in
-          let on-top : elem a (tops both) ≡ true = ap (elem a) (tops-merge (T .room) (drop t here) ∙ ap (join (tops (T .room))) (tops-drop t here)) ∙ elem-join a (tops (T .room)) (remove t (tops here)) ∙ or-true (elem a (tops (T .room))) (elem a (remove t (tops here))) kept in
-          let at-a : 1 ≤ count a here = in-count a here beside in
+          let on-top : elem a (tops both) ≡ true = ap (elem a) (tops-merge (There .room) (removePart t here) ∙ ap (joined (tops (There .room))) (tops-removePart t here)) ∙ elem-joined a (tops (There .room)) (remove t (tops here)) ∙ or-true (elem a (tops (There .room))) (elem a (remove t (tops here))) kept in
+          let at-a : 1 ≤ timesIn a here = in-times a here beside in
           record {
-            own = joins ∙ (λ j. join (T .own j) (remove t (own j))) ∙ ap (join (tops (T .room))) (sym (tops-drop t here)) ∙ sym (tops-merge (T .room) (drop t here))
-                ∙ sym (tops-alter a (spentHead (under σ)) (λ s. s) both);
+            own = joins ∙ (λ j. joined (There .own j) (remove t (own j))) ∙ ap (joined (tops (There .room))) (sym (tops-removePart t here)) ∙ sym (tops-merge (There .room) (removePart t here))
+                ∙ sym (tops-alter a (spentHead (viewUnder σ)) (λ s. s) both);
             held = held-spend σ k k′ w w′ a both spent held-both on-top (omega (arith, less a, once a)) (λ i l. stays i (omega (arith, less i)));
-            head = spent .others b (λ e. differ a b here at-a apart (sym e));
-            rest = λ i n z. (bodies i n, spent .others i (λ e. differ a i here at-a z (sym e)));
+            head = spent .others b (λ e. numbers-differ a b here at-a apart (sym e));
+            rest = λ i n z. (bodies i n, spent .others i (λ e. numbers-differ a i here at-a z (sym e)));
           }
         where
           or-true : (x y : Bool) → y ≡ true → (x || y) ≡ true
@@ -115,10 +115,10 @@ module _ (σ : Bindings) (k : ℕ → List ℕ) (w : ℕ → ClosureHead) (a t :
           or-true false y e = e
 
   -- where the actor's first item is no OPEN of a name, and where the actor is no receipt
-  pub open-never : toOpen (firstOf (under σ) (w a)) ≡ Nameless → openMove (under σ) a t here ≡ none
+  pub open-never : toOpen (firstOf (viewUnder σ) (w a)) ≡ Nameless → openMove (viewUnder σ) a t here ≡ none
   unfolding sameName
   open-never e = byTest (elem a (tops here)) (λ i. open-not i (rw e)) (λ i. open-alone i)
 
-  pub receive-never : variableOf (w a) ≡ none → receiveMove (under σ) a t here ≡ none
+  pub receive-never : variableOf (w a) ≡ none → receiveMove (viewUnder σ) a t here ≡ none
   unfolding receiveMove _>>=_
-  receive-never e = byTest (elem a (tops here)) (λ i. rw (T .found, found-in k w a here held i .found, e)) (λ i. receive-alone i)
+  receive-never e = byTest (elem a (tops here)) (λ i. rw (There .found, found-in k w a here held i .found, e)) (λ i. receive-alone i)

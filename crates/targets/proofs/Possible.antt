@@ -15,7 +15,7 @@ use Rattle.scripts.specs.Tree.{receipt, output, tops}
 use Rattle.machine.specs.Moves.{Moved, isNamed, sameName, toEnter, toExit, toOpen, variableOf, messageOf, headName, firstOf, moveHere, anywhere}
 use Rattle.machine.proofs.Inversion.{Here, by-open, by-receive, by-enter, by-exit, here-inv}
 use Rattle.slices.proofs.Tests.{byTest}
-use Rattle.closure_machine.specs.Closure.{Action, ClosureHead, Closure, Bindings, under, settledUnder, closureMove}
+use Rattle.closure_machine.specs.Closure.{Action, ClosureHead, Closure, Bindings, viewUnder, settledUnder, closureMove}
 use Rattle.closures.specs.Searches.{place, Stands}
 use Rattle.closures.proofs.Holding.{found-inv}
 use Rattle.closures.proofs.Focus.{site}
@@ -39,20 +39,20 @@ module _ (σ : Bindings) (k : ℕ → List ℕ) (w : ℕ → ClosureHead) (f : C
   abbrev In : ℕ → Type 0
   In b = Spot σ k w f a t b
 
-  by-name : (h : ClosureHead) (n : ℕ) → headName (under σ) h ≡ Called n → isNamed (headName (under σ) h) ≡ true
+  by-name : (h : ClosureHead) (n : ℕ) → headName (viewUnder σ) h ≡ Called n → isNamed (headName (viewUnder σ) h) ≡ true
   unfolding isNamed
   by-name h n e = ap isNamed e
 
   -- a part in the body of a named ambient that has a place
-  within : (x p : ℕ) (h : ClosureHead) (n : ℕ) → at p < 65 → w p ≡ h → headName (under σ) h ≡ Called n → elem x (k p) ≡ true → at x ≡ p
+  within : (x p : ℕ) (h : ClosureHead) (n : ℕ) → at p < 65 → w p ≡ h → headName (viewUnder σ) h ≡ Called n → elem x (k p) ≡ true → at x ≡ p
   within x p h n l e named m =
-      place-of σ k w f Q p x (inr (place-low σ k w f Q p l, l, by-name (w p) n (ap (headName (under σ)) e ∙ named))) m
+      place-of σ k w f Q p x (inr (place-low σ k w f Q p l, l, by-name (w p) n (ap (headName (viewUnder σ)) e ∙ named))) m
 
   module _ (S : In (at t)) (placed : at t < 65) where
     in-body : (x : ℕ) → elem x (tops (S .here)) ≡ true → at x ≡ at t
     in-body x e = place-of σ k w f Q (at t) x (active σ k w f Q t placed) (ap (elem x) (S .body) ∙ e)
 
-    could : (c : Closure) (news : List (ℕ × Message)) → Here (under σ) a t (S .here) c news → canMove σ k w at a t ≡ true
+    could : (c : Closure) (news : List (ℕ × Message)) → Here (viewUnder σ) a t (S .here) c news → canMove σ k w at a t ≡ true
     unfolding canMove canMoveFrom canOpen canReceive canEnter canExit isSome variableOf messageOf toOpen toEnter toExit
     could c news (by-open x e) =
         let A = found-inv k w a (S .here) (x .after) (x .doer) (S .held) (x .actor) in
@@ -61,7 +61,7 @@ module _ (σ : Bindings) (k : ℕ → List ℕ) (w : ℕ → ClosureHead) (f : C
         ap (λ (u : Bool). u || (canReceive σ k w (at a) a t || (canEnter σ k w (at a) (at (at a)) a t || canExit σ k w (at a) (at (at a)) a t)))
         (both (lt-ltb (at a) 65 (omega arith))
         (both (ap (λ (b : ℕ). elem t (k b)) p ∙ stands σ k w f Q t placed)
-        (same-name (x .place) (ap (λ (h : ClosureHead). toOpen (firstOf (under σ) h)) (A .1) ∙ ap toOpen (x .asked)) (ap (headName (under σ)) (T .1) ∙ x .named))))
+        (same-name (x .place) (ap (λ (h : ClosureHead). toOpen (firstOf (viewUnder σ) h)) (A .1) ∙ ap toOpen (x .asked)) (ap (headName (viewUnder σ)) (T .1) ∙ x .named))))
     could c news (by-receive x) =
         let A = found-inv k w a (S .here) (x .after) (receipt (x .bound)) (S .held) (x .actor) in
         let T = found-inv k w t (S .here) (x .idle) (output (x .sent)) (S .held) (x .target) in
@@ -84,7 +84,7 @@ module _ (σ : Bindings) (k : ℕ → List ℕ) (w : ℕ → ClosureHead) (f : C
         (both (lt-ltb (at (at a)) 65 (omega arith))
         (both (ap (λ (b : ℕ). elem t (k b)) r ∙ stands σ k w f Q t placed)
         (both (ap not (ne-eqb t (at a) two))
-        (same-name (x .place) (ap (λ (h : ClosureHead). toEnter (firstOf (under σ) h)) (A .1) ∙ ap toEnter (x .asked)) (ap (headName (under σ)) (T .1) ∙ x .named))))))))
+        (same-name (x .place) (ap (λ (h : ClosureHead). toEnter (firstOf (viewUnder σ) h)) (A .1) ∙ ap toEnter (x .asked)) (ap (headName (viewUnder σ)) (T .1) ∙ x .named))))))))
     could c news (by-exit x e) =
         let T = found-inv k w t (S .here) (x .room) (x .goal) (S .held) (x .target) in
         let P = found-inv k w (x .mover) (x .room) (x .inside) (x .shell) (T .3) (x .around) in
@@ -98,13 +98,13 @@ module _ (σ : Bindings) (k : ℕ → List ℕ) (w : ℕ → ClosureHead) (f : C
         both (lt-ltb (at a) 64 (omega arith))
         (both (lt-ltb (at (at a)) 64 (omega arith))
         (both (eq-eqb t (at (at a)) (sym r))
-        (same-name (x .place) (ap (λ (h : ClosureHead). toExit (firstOf (under σ) h)) (A .1) ∙ ap toExit (x .asked)) (ap (λ (b : ℕ). headName (under σ) (w b)) r ∙ ap (headName (under σ)) (T .1) ∙ x .named)))))))
+        (same-name (x .place) (ap (λ (h : ClosureHead). toExit (firstOf (viewUnder σ) h)) (A .1) ∙ ap toExit (x .asked)) (ap (λ (b : ℕ). headName (viewUnder σ) (w b)) r ∙ ap (headName (viewUnder σ)) (T .1) ∙ x .named)))))))
 
-  made : (b : ℕ) (S : In b) (n : Moved Action) → moveHere (under σ) a t (S .here) ≡ some n → isSome (closureMove σ a t f) ≡ true
+  made : (b : ℕ) (S : In b) (n : Moved Action) → moveHere (viewUnder σ) a t (S .here) ≡ some n → isSome (closureMove σ a t f) ≡ true
   unfolding closureMove settledUnder isSome
   made b S n e = ap (λ (o : Option (Moved Action)). isSome (settledUnder σ o)) (S .works n e .1)
 
-  not-made : anywhere (under σ) (moveHere (under σ) a t) f ≡ none → isSome (closureMove σ a t f) ≡ false
+  not-made : anywhere (viewUnder σ) (moveHere (viewUnder σ) a t) f ≡ none → isSome (closureMove σ a t f) ≡ false
   unfolding closureMove settledUnder isSome
   not-made e = ap (λ (o : Option (Moved Action)). isSome (settledUnder σ o)) e
 
@@ -122,15 +122,15 @@ module _ (σ : Bindings) (k : ℕ → List ℕ) (w : ℕ → ClosureHead) (f : C
       (λ z. let x = exit-at σ k w f Q a t (rw (u, v, z) at e) in made (at t) (x .0) _ (x .3))))
 
   cannot : canMove σ k w at a t ≡ false → isSome (closureMove σ a t f) ≡ false
-  cannot e = not-made (pick (site σ k w t (moveHere (under σ) a t) (here-needs σ a t) f (Q .top) (Q .once) (Q .low) (Q .held)))
+  cannot e = not-made (pick (site σ k w t (moveHere (viewUnder σ) a t) (here-needs σ a t) f (Q .top) (Q .once) (Q .low) (Q .held)))
     where
-      none-here : (S : In (at t)) → at t < 65 → (o : Option (Moved Action)) → moveHere (under σ) a t (S .here) ≡ o → anywhere (under σ) (moveHere (under σ) a t) f ≡ none
+      none-here : (S : In (at t)) → at t < 65 → (o : Option (Moved Action)) → moveHere (viewUnder σ) a t (S .here) ≡ o → anywhere (viewUnder σ) (moveHere (viewUnder σ) a t) f ≡ none
       none-here S l none q = S .fails q
-      none-here S l (some n) q = absurd (true≢false (sym (could S l (n .body) (n .news) (here-inv (under σ) a t (S .here) n q)) ∙ e))
+      none-here S l (some n) q = absurd (true≢false (sym (could S l (n .body) (n .news) (here-inv (viewUnder σ) a t (S .here) n q)) ∙ e))
 
-      pick : ((at t ≡ 65) × (anywhere (under σ) (moveHere (under σ) a t) f ≡ none)) ⊎ ((at t < 65) × In (at t)) → anywhere (under σ) (moveHere (under σ) a t) f ≡ none
+      pick : ((at t ≡ 65) × (anywhere (viewUnder σ) (moveHere (viewUnder σ) a t) f ≡ none)) ⊎ ((at t < 65) × In (at t)) → anywhere (viewUnder σ) (moveHere (viewUnder σ) a t) f ≡ none
       pick (inl z) = z .1
-      pick (inr z) = none-here (z .1) (z .0) (moveHere (under σ) a t (z .1 .here)) refl
+      pick (inr z) = none-here (z .1) (z .0) (moveHere (viewUnder σ) a t (z .1 .here)) refl
 
   -- THEOREM: the closure allows the moves that the tests name, and no others.
   pub possible : isSome (closureMove σ a t f) ≡ canMove σ k w (λ i. place σ i f) a t

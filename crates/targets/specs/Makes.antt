@@ -5,7 +5,7 @@ use mathlib.Core.List.{List, _∷_, _++_}
 use mathlib.Core.Option.{some}
 use mathlib.Core.Path.{_≡_}
 use lib.ListN.{getD, set, drop}
-use Rattle.sets.specs.Sets.{members, remove, join}
+use Rattle.sets.specs.Sets.{members, remove, joined}
 use Rattle.messages.specs.Spelling.{messageAt}
 use Rattle.scripts.specs.Represents.{bodyIn}
 use Rattle.machine.specs.Moves.{Moved}
@@ -38,7 +38,7 @@ module _ (script kinds starts : List ℕ) (s r : State) where
   pub record Received (p a t : ℕ) : Type 0 where
     pub set-of : ℕ
     pub kids : r .kids ≡ set (s .kids) p set-of
-    pub members-of : members set-of ≡ join (bodyIn (s .kids) a) (remove t (remove a (bodyIn (s .kids) p)))
+    pub members-of : members set-of ≡ joined (bodyIn (s .kids) a) (remove t (remove a (bodyIn (s .kids) p)))
     pub offsets : r .offsets ≡ s .offsets
     pub first : r .bindings .first + 1 ≡ s .bindings .first
     pub news : boundIn script r ≡ (getD starts a 0, messageAt (drop (getD starts t 0) script)) ∷ boundIn script s

@@ -9,7 +9,7 @@ use mathlib.Core.Path.{_≡_}
 use lib.Dec.{eqb, ltb}
 use Rattle.sets.specs.Sets.{elem}
 use Rattle.machine.specs.Moves.{sameName, toEnter, toExit, toOpen, variableOf, messageOf, headName, firstOf}
-use Rattle.closure_machine.specs.Closure.{ClosureHead, Closure, Bindings, under, closureMove}
+use Rattle.closure_machine.specs.Closure.{ClosureHead, Closure, Bindings, viewUnder, closureMove}
 use Rattle.closures.specs.Searches.{place, Stands}
 use Rattle.closures.specs.Seen.{actUnder, aimUnder}
 
@@ -20,13 +20,13 @@ isSome (some a) = true
 
 -- "an ACT whose first item is IN, EXIT or OPEN of a name m", m being the name of the part g
 abbrev pub mayEnter : Bindings → (h g : ClosureHead) → Bool
-mayEnter σ h g = sameName (toEnter (firstOf (under σ) h)) (headName (under σ) g)
+mayEnter σ h g = sameName (toEnter (firstOf (viewUnder σ) h)) (headName (viewUnder σ) g)
 
 abbrev pub mayExit : Bindings → (h g : ClosureHead) → Bool
-mayExit σ h g = sameName (toExit (firstOf (under σ) h)) (headName (under σ) g)
+mayExit σ h g = sameName (toExit (firstOf (viewUnder σ) h)) (headName (viewUnder σ) g)
 
 abbrev pub mayOpen : Bindings → (h g : ClosureHead) → Bool
-mayOpen σ h g = sameName (toOpen (firstOf (under σ) h)) (headName (under σ) g)
+mayOpen σ h g = sameName (toOpen (firstOf (viewUnder σ) h)) (headName (viewUnder σ) g)
 
 -- `around` is the part in whose body the actor stands, `beyond` the one in whose body that part stands: below 64 they are
 -- named ambients, for only there a part has a place.

@@ -1,5 +1,5 @@
--- What the walk's small functions answer: whether a part is called so, and states that are lent and borrowed again. Assumes
--- nothing.
+-- What the walk's small functions answer: whether a part is called so, the rule's words and table loaded into one array, and
+-- states that are lent and borrowed again. Assumes nothing.
 use Prim.Native.Nat.{ℕ, _+_, _<_}
 use mathlib.Core.Bool.{true, false}
 use mathlib.Core.List.{List}
@@ -48,36 +48,36 @@ pub record Loading (words rights places program : List ℕ) (i : ℕ) : Type 0 w
   pub number : (j : ℕ) → j < i → getD program (512 + j) 0 ≡ getD places j 0
 
 module _ (words rights places program : List ℕ) (i w r n : ℕ) (L : Loading words rights places program i) (low : i < 256) (ew : i < length words → w ≡ getD words i 0) (er : r ≡ getD rights i 0) (en : n ≡ getD places i 0) where
-  abbrev one : List ℕ
-  one = set program i w
+  abbrev once : List ℕ
+  once = set program i w
 
-  abbrev two : List ℕ
-  two = set one (256 + i) r
+  abbrev twice : List ℕ
+  twice = set once (256 + i) r
 
-  abbrev three : List ℕ
-  three = set two (512 + i) n
+  abbrev thrice : List ℕ
+  thrice = set twice (512 + i) n
 
-  two-long : length two ≡ 768
-  two-long = length-set one (256 + i) r ∙ length-set program i w ∙ L .long
+  twice-long : length twice ≡ 768
+  twice-long = length-set once (256 + i) r ∙ length-set program i w ∙ L .long
 
-  past : (k : ℕ) → (k ≡ i → ⊥) → (k ≡ 256 + i → ⊥) → (k ≡ 512 + i → ⊥) → getD three k 0 ≡ getD program k 0
-  past k a b c = getD-set-other two (512 + i) k n 0 c ∙ getD-set-other one (256 + i) k r 0 b ∙ getD-set-other program i k w 0 a
+  past : (k : ℕ) → (k ≡ i → ⊥) → (k ≡ 256 + i → ⊥) → (k ≡ 512 + i → ⊥) → getD thrice k 0 ≡ getD program k 0
+  past k a b c = getD-set-other twice (512 + i) k n 0 c ∙ getD-set-other once (256 + i) k r 0 b ∙ getD-set-other program i k w 0 a
 
   -- an entry is the new one, or one of those before it
   split-last : (P : ℕ → Type 0) → P i → ((j : ℕ) → j < i → P j) → (j : ℕ) → j < i + 1 → P j
   split-last P new old j h = byTest (eqb j i) (λ t. subst P (sym (eqb-true j i t)) new) (λ t. let z : j ≡ i → ⊥ = eqb-false j i t in old j (omega arith))
 
-  pub loading-more : Loading words rights places three (i + 1)
+  pub loading-more : Loading words rights places thrice (i + 1)
   loading-more = record {
-    long = length-set two (512 + i) n ∙ two-long;
-    word = split-last (λ (j : ℕ). j < length words → getD three j 0 ≡ getD words j 0)
-        (λ h. getD-set-other two (512 + i) i n 0 (λ z. omega arith) ∙ getD-set-other one (256 + i) i r 0 (λ z. omega arith) ∙ getD-set-same program i w 0 (let l = L .long in omega (arith, l)) ∙ ew h)
+    long = length-set twice (512 + i) n ∙ twice-long;
+    word = split-last (λ (j : ℕ). j < length words → getD thrice j 0 ≡ getD words j 0)
+        (λ h. getD-set-other twice (512 + i) i n 0 (λ z. omega arith) ∙ getD-set-other once (256 + i) i r 0 (λ z. omega arith) ∙ getD-set-same program i w 0 (let l = L .long in omega (arith, l)) ∙ ew h)
         (λ j g h. past j (λ z. omega arith) (λ z. omega arith) (λ z. omega arith) ∙ L .word j g h);
-    right = split-last (λ (j : ℕ). getD three (256 + j) 0 ≡ getD rights j 0)
-        (getD-set-other two (512 + i) (256 + i) n 0 (λ z. omega arith) ∙ getD-set-same one (256 + i) r 0 (let l : length one ≡ 768 = length-set program i w ∙ L .long in omega (arith, l)) ∙ er)
+    right = split-last (λ (j : ℕ). getD thrice (256 + j) 0 ≡ getD rights j 0)
+        (getD-set-other twice (512 + i) (256 + i) n 0 (λ z. omega arith) ∙ getD-set-same once (256 + i) r 0 (let l : length once ≡ 768 = length-set program i w ∙ L .long in omega (arith, l)) ∙ er)
         (λ j g. past (256 + j) (λ z. omega arith) (λ z. omega arith) (λ z. omega arith) ∙ L .right j g);
-    number = split-last (λ (j : ℕ). getD three (512 + j) 0 ≡ getD places j 0)
-        (getD-set-same two (512 + i) n 0 (omega (arith, two-long)) ∙ en)
+    number = split-last (λ (j : ℕ). getD thrice (512 + j) 0 ≡ getD places j 0)
+        (getD-set-same twice (512 + i) n 0 (omega (arith, twice-long)) ∙ en)
         (λ j g. past (512 + j) (λ z. omega arith) (λ z. omega arith) (λ z. omega arith) ∙ L .number j g);
   }
 

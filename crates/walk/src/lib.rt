@@ -16,7 +16,7 @@ ghost use lib.ListN.{length, getD};
 ghost use Rattle.messages.specs.Message.{name as called};
 ghost use Rattle.messages.specs.declared.Named.the-variants.{Called};
 ghost use Rattle.sets.specs.Sets.{members, headOr};
-ghost use Rattle.scripts.specs.Tree.{ambient, close, part, count};
+ghost use Rattle.scripts.specs.Tree.{ambient, close, part, timesIn};
 ghost use Rattle.scripts.specs.Represents.{bodyIn};
 ghost use Rattle.machine.specs.Moves.{sameName};
 ghost use Rattle.closure_machine.specs.Closure.{Closure};
@@ -180,7 +180,7 @@ fn place_within<'a>(
     requires { ⌜ (i < 64) × (name < 536870912) × Lendable (now script) (now sets) (now numbers) top ⌝ }
     ensures lends { λ r. ⌜ Lendable (now (script .entry)) (r .sets) (r .numbers) (r .top) ⌝ }
     ensures bound { λ r. ⌜ boundIn (now (script .entry)) (stateIn (r .sets) (r .numbers) (r .top)) ≡ boundIn (now (script .entry)) (stateIn (now (sets .entry)) (now (numbers .entry)) top) ⌝ }
-    ensures placed { λ r. ⌜ ((weight spent : ℕ) (b : Closure) → Represents (now (script .entry)) (kindsIn (now (numbers .entry))) (startsIn (now (numbers .entry))) weight spent (stateIn (now (sets .entry)) (now (numbers .entry)) top) b → count i b ≡ 0 → weight < 64 → Represents (now (script .entry)) (kindsIn (r .numbers)) (startsIn (r .numbers)) (weight + 1) spent (stateIn (r .sets) (r .numbers) (r .top)) (part i (ambient (called name)) b close)) ⌝ }
+    ensures placed { λ r. ⌜ ((weight spent : ℕ) (b : Closure) → Represents (now (script .entry)) (kindsIn (now (numbers .entry))) (startsIn (now (numbers .entry))) weight spent (stateIn (now (sets .entry)) (now (numbers .entry)) top) b → timesIn i b ≡ 0 → weight < 64 → Represents (now (script .entry)) (kindsIn (r .numbers)) (startsIn (r .numbers)) (weight + 1) spent (stateIn (r .sets) (r .numbers) (r .top)) (part i (ambient (called name)) b close)) ⌝ }
 {
     let b = borrowed(sets, numbers, top);
     let kinds = b.kinds;
@@ -203,7 +203,7 @@ pub fn next_state<'a>(
     requires { ⌜ ((a t : ℕ) → step ≡ Move a t → (a < 64) × (t < 64)) × ((i n : ℕ) → step ≡ Place i n → (i < 64) × (n < 536870912)) × Lendable (now script) (now sets) (now numbers) top ⌝ }
     ensures lends { λ r. ⌜ Lendable (now (script .entry)) (r .sets) (r .numbers) (r .top) ⌝ }
     ensures made { λ r. ⌜ ((a t : ℕ) → step ≡ Move a t → (kindsIn (r .numbers) ≡ kindsIn (now (numbers .entry))) × (startsIn (r .numbers) ≡ startsIn (now (numbers .entry))) × Moves (now (script .entry)) (kindsIn (now (numbers .entry))) (startsIn (now (numbers .entry))) (stateIn (now (sets .entry)) (now (numbers .entry)) top) (stateIn (r .sets) (r .numbers) (r .top)) (λ i. getD (now (places .entry)) i 0) a t) ⌝ }
-    ensures placed { λ r. ⌜ ((i n : ℕ) → step ≡ Place i n → (boundIn (now (script .entry)) (stateIn (r .sets) (r .numbers) (r .top)) ≡ boundIn (now (script .entry)) (stateIn (now (sets .entry)) (now (numbers .entry)) top)) × ((weight spent : ℕ) (b : Closure) → Represents (now (script .entry)) (kindsIn (now (numbers .entry))) (startsIn (now (numbers .entry))) weight spent (stateIn (now (sets .entry)) (now (numbers .entry)) top) b → count i b ≡ 0 → weight < 64 → Represents (now (script .entry)) (kindsIn (r .numbers)) (startsIn (r .numbers)) (weight + 1) spent (stateIn (r .sets) (r .numbers) (r .top)) (part i (ambient (called n)) b close))) ⌝ }
+    ensures placed { λ r. ⌜ ((i n : ℕ) → step ≡ Place i n → (boundIn (now (script .entry)) (stateIn (r .sets) (r .numbers) (r .top)) ≡ boundIn (now (script .entry)) (stateIn (now (sets .entry)) (now (numbers .entry)) top)) × ((weight spent : ℕ) (b : Closure) → Represents (now (script .entry)) (kindsIn (now (numbers .entry))) (startsIn (now (numbers .entry))) weight spent (stateIn (now (sets .entry)) (now (numbers .entry)) top) b → timesIn i b ≡ 0 → weight < 64 → Represents (now (script .entry)) (kindsIn (r .numbers)) (startsIn (r .numbers)) (weight + 1) spent (stateIn (r .sets) (r .numbers) (r .top)) (part i (ambient (called n)) b close))) ⌝ }
 {
     match step {
         Step::Move(a, t) => after_move(script, sets, numbers, top, places, a, t),

@@ -1,7 +1,7 @@
 -- What a part and a body are written with, by the kind of the part and by the first part of the body. Assumes nothing.
 use Prim.Native.Nat.{ℕ, suc, _+_, _-_, _≤_, _<_}
 use mathlib.Core.Bool.{true, false, true≢false}
-use mathlib.Core.List.{List, [], _∷_, _++_, append-nil}
+use mathlib.Core.List.{List, [], _∷_, _++_, append-nil, tail}
 use mathlib.Core.Path.{_≡_, refl, sym, ap, _∙_, subst}
 use native.Mathlib.Omega.{arith}
 use lib.ListN.{length, drop, length-append}
@@ -9,8 +9,8 @@ use borrow.Author.Tests.{lt-ltb}
 use Rattle.messages.specs.Words.{word}
 use Rattle.messages.specs.Message.{items}
 use Rattle.messages.specs.Spelling.{messageAt}
-use Rattle.sets.specs.Sets.{headOr, tail}
-use Rattle.scripts.specs.Tree.{ambient, action, receipt, output, close, part, kindNumber, tops, sum, parts, mapHeads, Plain}
+use Rattle.sets.specs.Sets.{headOr}
+use Rattle.scripts.specs.Tree.{ambient, action, receipt, output, close, part, kindNumber, tops, total, parts, mapHeads, Plain}
 use Rattle.scripts.specs.Represents.{Held}
 use Rattle.bindings.specs.Resolve.{resolve}
 use Rattle.slices.specs.Sums.{capped}
@@ -110,22 +110,22 @@ no-tops left z ix i σ close e = sym (write-close ix i σ)
 no-tops left z ix i σ (part k h b r) e = absurd (no-cons k (tops r) (sym e ∙ z))
 
 pub no-parts : (fuel : ℕ) → fuel ≡ 0 → (ix : Indices) (i : ℕ) (σ : Bindings) (b : Closure) → parts b ≤ fuel → word 0 0 ∷ [] ≡ write ix i (unfolded σ b)
-unfolding sum
+unfolding total
 no-parts fuel z ix i σ close m = sym (write-close ix i σ)
 no-parts fuel z ix i σ (part k h b r) m = absurd (let y : ⊥ = omega arith in y)
 
 module _ (σ : Bindings) (k : ℕ → List ℕ) (w : ℕ → ClosureHead) (left : List ℕ) (fuel j : ℕ) (l : List ℕ) (first : left ≡ j ∷ l) where
   -- the words of the first part, and of those beside it
-  abbrev one : Indices → ℕ → Closure → List ℕ
-  one ix i b = writePart ix i (unfoldHead σ (w j)) (unfolded σ b)
+  abbrev firstWords : Indices → ℕ → Closure → List ℕ
+  firstWords ix i b = writePart ix i (unfoldHead σ (w j)) (unfolded σ b)
 
   abbrev both : Indices → ℕ → Closure → Closure → List ℕ
-  both ix i b r = one ix i b ++ write ix (i + length (one ix i b)) (unfolded σ r)
+  both ix i b r = firstWords ix i b ++ write ix (i + length (firstWords ix i b)) (unfolded σ r)
 
   pub by-first : (Q : List ℕ → Type 0) (ix : Indices) (i : ℕ)
       → ((b r : Closure) → k j ≡ tops b → Held k w b → l ≡ tops r → Held k w r → parts b + parts r < fuel → Q (both ix i b r))
       → (b : Closure) → left ≡ tops b → Held k w b → parts b ≤ fuel → Q (write ix i (unfolded σ b))
-  unfolding tops sum
+  unfolding tops total
   by-first Q ix i f close e h m = absurd (no-cons j l (sym first ∙ e))
   by-first Q ix i f (part n g b r) e h m =
       let p : j ≡ n = ap (headOr 0) (sym first ∙ e) in
@@ -141,5 +141,5 @@ module _ (σ : Bindings) (k : ℕ → List ℕ) (w : ℕ → ClosureHead) (left 
   pub counts-more : (one′ rest t : ℕ) → CountsPart σ k w (k j) (w j) (fuel - 1) one′ → Counts σ k w l (fuel - 1) rest → t ≡ capped (one′ + rest) → Counts σ k w left fuel t
   counts-more one′ rest t eo er et ix i =
       by-first (λ ws. t ≡ capped (length ws)) ix i (λ b r tb hb tr hr m.
-      let behind = write ix (i + length (one ix i b)) (unfolded σ r) in
-      capped-sum (length (one ix i b)) (length behind) (length-append (one ix i b) behind) (eo ix i b tb hb (omega arith)) (er ix _ r tr hr (omega arith)) et)
+      let behind = write ix (i + length (firstWords ix i b)) (unfolded σ r) in
+      capped-sum (length (firstWords ix i b)) (length behind) (length-append (firstWords ix i b) behind) (eo ix i b tb hb (omega arith)) (er ix _ r tr hr (omega arith)) et)

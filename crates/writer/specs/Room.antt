@@ -13,7 +13,7 @@ use Rattle.writer.specs.declared.Fitting.the-variants.{Words, Refused}
 unfoldable pub room : (buffer : List ℕ) → ℕ
 room buffer = min (length buffer) 268435456
 
--- "19. Does the tree that stands after the moves fit the output buffer ..? 19, place 0."; where it does, "words (of the
+-- "19. Does the tree that stands after the moves fit the output buffer .. 19, place 0."; where it does, "words (of the
 -- written tree)"
 unfoldable pub answered : (words buffer : List ℕ) → Fitting
 answered ws buffer = cond (leb (length ws) (room buffer)) (Words (length ws)) (Refused 19 0)

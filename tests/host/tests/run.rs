@@ -72,12 +72,29 @@ fn refused() {
     assert_eq!(printed("refused", REFUSED), "refused 16 at 1\n");
 }
 
-/// A new folder of this name for a test's files.
-fn folder(name: &str) -> PathBuf {
-    let path = Path::new(env!("CARGO_TARGET_TMPDIR")).join(name);
-    let _ = fs::remove_dir_all(&path);
-    fs::create_dir_all(&path).expect("a folder");
-    path
+/// A new folder for a test's files, gone at its end. It stands outside the tree: a source that no crate has is an error there.
+struct Folder(PathBuf);
+
+impl Folder {
+    fn new(name: &str) -> Folder {
+        let path = std::env::temp_dir().join(format!("skycorbel-{}-{name}", std::process::id()));
+        fs::create_dir(&path).expect("a new folder");
+        Folder(path)
+    }
+}
+
+impl Drop for Folder {
+    fn drop(&mut self) {
+        fs::remove_dir_all(&self.0).expect("the folder goes");
+    }
+}
+
+impl std::ops::Deref for Folder {
+    type Target = Path;
+
+    fn deref(&self) -> &Path {
+        &self.0
+    }
 }
 
 fn write(path: &Path, content: &str) {
@@ -87,7 +104,8 @@ fn write(path: &Path, content: &str) {
 
 /// A file of this content is said to be wrong, and in this way.
 fn is_wrong(name: &str, content: &str, what: &str) {
-    let file = folder(name).join("wrong.hex");
+    let folder = Folder::new(name);
+    let file = folder.join("wrong.hex");
     write(&file, content);
     let output = run(&[file.to_str().expect("text")]);
     assert_eq!(text(&output.stderr), format!("{}{what}\n", file.display()));
@@ -160,7 +178,8 @@ fn no_file_and_wrong_usage() {
 /// Headings in another order, small letters, lines that end as on other systems, and no end of the last one.
 #[test]
 fn other_layouts() {
-    let file = folder("layouts").join("name=value .hex");
+    let folder = Folder::new("layouts");
+    let file = folder.join("name=value .hex");
     let lists = "patience\r\n00000009# nine\r\nrule\r\n40000002\r\n\t40000001 30000000\r\nmoves\n10000102\n";
     let script = "script\n10000000 80000001 20000000 a0000000 80000002 00000000 00000000\n10000000 80000002 00000000 00000000";
     write(&file, &[lists, script].concat());
@@ -171,7 +190,7 @@ fn other_layouts() {
 
 /// The outline of a tree: `run`, three crates that the program rests on and one that it does not, and a stand-in for `rt`, which
 /// counts its calls, prints the file `said`, makes the program of the file `made` if there is one, and ends with a status.
-struct Outline(PathBuf);
+struct Outline(Folder);
 
 const SOURCES: &[&str] =
     &["crates.txt", "crates/low/src/lib.rt", "crates/low/must-fail/other.edit", "crates/other/proofs/Laws.antt"];
@@ -183,7 +202,7 @@ const SAYS_YES: &str = "#!/bin/sh\ncat >/dev/null\necho yes moves 0\n";
 impl Outline {
     /// All of it is two hours old, and there is no program yet.
     fn new(name: &str, said: &str, status: i32) -> Outline {
-        let outline = Outline(folder(name));
+        let outline = Outline(Folder::new(name));
         for source in SOURCES {
             write(&outline.0.join(source), "");
         }
@@ -194,7 +213,7 @@ impl Outline {
         let make = "if [ -f made ]; then mkdir -p target/bin && cp made target/bin/skycorbel; fi";
         outline.program("path/rt", &format!("#!/bin/sh\necho \"$*\" >>calls\nsleep 0.1\ncat said\n{make}\nexit {status}\n"));
         fs::copy(Path::new(ROOT).join("run"), outline.0.join("run")).expect("a copy");
-        let made = Command::new("find").args([".", "-exec", "touch", "-d", "2 hours ago", "{}", "+"]).current_dir(&outline.0).status();
+        let made = Command::new("find").args([".", "-exec", "touch", "-d", "2 hours ago", "{}", "+"]).current_dir(&*outline.0).status();
         assert!(made.expect("find runs").success());
         outline
     }
@@ -214,7 +233,7 @@ impl Outline {
     fn command(&self) -> Command {
         let path = format!("{}:{}", self.0.join("path").display(), std::env::var("PATH").expect("a path"));
         let mut command = Command::new("bash");
-        command.args(["run", "call.hex"]).current_dir(&self.0).env("PATH", path);
+        command.args(["run", "call.hex"]).current_dir(&*self.0).env("PATH", path);
         command
     }
 

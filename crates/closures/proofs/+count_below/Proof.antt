@@ -1,12 +1,12 @@
 -- `count_below` meets its contract: one law of counting for each way on. The measure is the fuel. Assumes nothing.
 use Prim.Native.Nat.{ℕ, _-_, _≤_, _<_}
-use mathlib.Core.List.{List, _∷_}
+use mathlib.Core.List.{List, _∷_, tail}
 use mathlib.Core.Path.{_≡_, ap, _∙_, subst}
 use native.Mathlib.Omega.{arith}
 use borrow.Author.Needs.{needs}
 use borrow.Fn.Kinds.{In}
 use borrow.Fn.PlainCycle.{Measures, is, falls, and}
-use Rattle.sets.specs.Sets.{members, tail}
+use Rattle.sets.specs.Sets.{members}
 use Rattle.sets.proofs.Members.{first-is, first-below, not-none, members-empty}
 use Rattle.sets.proofs.first.Reads as first-reads
 use Rattle.sets.proofs.rest.Reads as rest-reads
@@ -51,11 +51,11 @@ module _ (t : ℕ) where
   abbrev start : First → Start
   start c = c .before .before .before
 
-  split : (c : First) → left (start c) ≡ c .first .result ∷ tail (left (start c))
-  split c = first-is (start c .args .left) (c .first .result) (start c .fits .left .fits) (c .before .before .if1 .left) (c .first .ensures)
+  first-then-rest : (c : First) → left (start c) ≡ c .first .result ∷ tail (left (start c))
+  first-then-rest c = first-is (start c .args .left) (c .first .result) (start c .fits .left .fits) (c .before .before .if1 .left) (c .first .ensures)
 
-  low : (c : First) → c .first .result < 64
-  low c = first-below (start c .args .left) (c .first .result) (tail (left (start c))) (split c)
+  first-low : (c : First) → c .first .result < 64
+  first-low c = first-below (start c .args .left) (c .first .result) (tail (left (start c))) (first-then-rest c)
 
   others : (c : Counted) → c .before .before .before .before .before .before .before .args .fuel - 1 ≤ 64 → CountsParts (k (c .before .before .before .before .before .before .before)) (tail (left (c .before .before .before .before .before .before .before))) (c .before .before .before .before .before .before .before .args .fuel - 1) (c .count-below2 .result)
   others c few = subst (λ (l : List ℕ). CountsParts (k (c .before .before .before .before .before .before .before)) l (c .before .before .before .before .before .before .before .args .fuel - 1) (c .count-below2 .result)) (c .before .before .before .rest .ensures) (c .count-below2 .ensures .1 few)
@@ -73,10 +73,10 @@ module _ (t : ℕ) where
   count-below-rest-requires c κs = not-none (c .before .before .before .args .left) (c .before .before .before .fits .left .fits) (c .before .before .if1 .left)
 
   count-below-mul-inside : count-below-lts.Need-mul-inside (claims t) (count-below-at t) count-below.Post
-  count-below-mul-inside c = omega (arith, low (c .before))
+  count-below-mul-inside c = omega (arith, first-low (c .before))
 
   count-below-element-copy-out-inside : count-below-lts.Need-element-copy-out-inside (claims t) (count-below-at t) count-below.Post
-  count-below-element-copy-out-inside c = omega (arith, low (c .before))
+  count-below-element-copy-out-inside c = omega (arith, first-low (c .before))
 
   count-below-sub-count-below : count-below-lts.Need-sub-count-below (claims t) (count-below-at t) count-below.Post
   count-below-sub-count-below c = omega (arith, c .before .before .before .if2 .left)
@@ -94,7 +94,7 @@ module _ (t : ℕ) where
   count-below-add-if3 c = omega (arith, c .before .count-below .ensures .0, c .count-below2 .ensures .0)
 
   count-below-returns-3 : count-below-lts.Need-returns-3 (claims t) (count-below-at t) count-below.Post
-  count-below-returns-3 c = (omega arith, λ few. count-many (k (c .before .before .before .before .before .before .before .before)) (left (c .before .before .before .before .before .before .before .before)) (c .before .before .before .before .before .before .before .before .args .fuel) (c .before .before .before .before .before .first .result) (c .before .before .count-below .result) (c .before .count-below2 .result) (tail (left (c .before .before .before .before .before .before .before .before))) (split (c .before .before .before .before .before)) (c .before .before .count-below .ensures .1 (omega arith)) (others (c .before) (omega arith)) few (c .if3 .taken))
+  count-below-returns-3 c = (omega arith, λ few. count-many (k (c .before .before .before .before .before .before .before .before)) (left (c .before .before .before .before .before .before .before .before)) (c .before .before .before .before .before .before .before .before .args .fuel) (c .before .before .before .before .before .first .result) (c .before .before .count-below .result) (c .before .count-below2 .result) (tail (left (c .before .before .before .before .before .before .before .before))) (first-then-rest (c .before .before .before .before .before)) (c .before .before .count-below .ensures .1 (omega arith)) (others (c .before) (omega arith)) few (c .if3 .taken))
 
   count-below-add-result : count-below-lts.Need-add-result (claims t) (count-below-at t) count-below.Post
   count-below-add-result c = omega (arith, c .if3 .left)
@@ -103,7 +103,7 @@ module _ (t : ℕ) where
   count-below-add-result-2 c = omega (arith, c .if3 .left)
 
   count-below-returns-4 : count-below-lts.Need-returns-4 (claims t) (count-below-at t) count-below.Post
-  count-below-returns-4 c = (omega (arith, c .if3 .left), λ few. count-part (k (c .before .before .before .before .before .before .before .before)) (left (c .before .before .before .before .before .before .before .before)) (c .before .before .before .before .before .before .before .before .args .fuel) (c .before .before .before .before .before .first .result) (c .before .before .count-below .result) (c .before .count-below2 .result) (tail (left (c .before .before .before .before .before .before .before .before))) (split (c .before .before .before .before .before)) (c .before .before .count-below .ensures .1 (omega arith)) (others (c .before) (omega arith)))
+  count-below-returns-4 c = (omega (arith, c .if3 .left), λ few. count-part (k (c .before .before .before .before .before .before .before .before)) (left (c .before .before .before .before .before .before .before .before)) (c .before .before .before .before .before .before .before .before .args .fuel) (c .before .before .before .before .before .first .result) (c .before .before .count-below .result) (c .before .count-below2 .result) (tail (left (c .before .before .before .before .before .before .before .before))) (first-then-rest (c .before .before .before .before .before)) (c .before .before .count-below .ensures .1 (omega arith)) (others (c .before) (omega arith)))
 
 pub +count-below-spec : {M : Type 1} → statement M
 +count-below-spec =

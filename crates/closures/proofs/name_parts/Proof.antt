@@ -6,7 +6,7 @@ use lib.ListN.{getD}
 use Rattle.sets.proofs.Members.{members-empty}
 use Rattle.bindings.specs.Resolve.{bindingsIn}
 use Rattle.machine.specs.Moves.{headName}
-use Rattle.closure_machine.specs.Closure.{under}
+use Rattle.closure_machine.specs.Closure.{viewUnder}
 use Rattle.closures.specs.Represents.{heads}
 use Rattle.closures.proofs.Looking.{Filled, filled-none, filled-next, not-named}
 use borrow.Author.Needs.{needs}
@@ -14,7 +14,7 @@ use Rattle.closures.proofs.name_parts.Statement.{statement}
 use Rattle.closures.proofs.name_parts.Tie as tie
 
 abbrev Inv-loop : tie.InvT-loop
-Inv-loop script kinds starts variables places t₀ i₀ t i = (i ≤ 64) × ((offsets : List ℕ) → Filled (λ j. headName (under (bindingsIn script variables places)) (heads script kinds starts offsets j)) i (t .named) (t .names))
+Inv-loop script kinds starts variables places t₀ i₀ t i = (i ≤ 64) × ((offsets : List ℕ) → Filled (λ j. headName (viewUnder (bindingsIn script variables places)) (heads script kinds starts offsets j)) i (t .named) (t .names))
 
 abbrev μ-loop : tie.MeasureT-loop
 μ-loop script kinds starts variables places t₀ i₀ t i = 64 - i

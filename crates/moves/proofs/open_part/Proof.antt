@@ -2,7 +2,7 @@
 use mathlib.Core.Path.{refl, ap, _∙_}
 use native.Mathlib.Omega.{arith}
 use lib.ListN.{getD, set}
-use Rattle.sets.specs.Sets.{members, join}
+use Rattle.sets.specs.Sets.{members, joined}
 use Rattle.moves.proofs.LentMoves.{lends-bodies, lends-set, opened}
 use borrow.Author.Needs.{needs}
 use Rattle.moves.proofs.open_part.Statement.{statement}
@@ -25,7 +25,7 @@ returns c =
       (
         y .1 .0,
         opened (x .script .now) s n (set s (x .p) (c .before .before .before .before .before .before .union .result)) s₂ n₂ s₃ (c .before .before .before .before .before .before .before .before .before .before .before .pre .3) (y .0) (y .1 .0 .0) (y .1 .0 .1) (y .1 .1 .0 .0) (y .1 .1 .0 .1) (z .1 .1) (x .a) (c .before .before .before .before .before .before .before .before .before .before .before .pre .1) (y .1 .1 .1)
-            (x .p) (x .t) (c .before .before .before .before .before .before .union .result) (c .before .before .before .before .before .before .before .before .before .before .before .pre .0) (omega (arith, c .before .before .before .before .before .before .before .before .before .before .before .pre .2)) refl (c .before .before .before .before .before .before .union .ensures ∙ ap (join (members (getD s (x .t) 0))) (c .before .before .before .before .before .before .before .without .ensures)),
+            (x .p) (x .t) (c .before .before .before .before .before .before .union .result) (c .before .before .before .before .before .before .before .before .before .before .before .pre .0) (omega (arith, c .before .before .before .before .before .before .before .before .before .before .before .pre .2)) refl (c .before .before .before .before .before .before .union .ensures ∙ ap (joined (members (getD s (x .t) 0))) (c .before .before .before .before .before .before .before .without .ensures)),
       ),
     )
 

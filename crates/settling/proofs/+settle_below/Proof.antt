@@ -1,7 +1,7 @@
 -- `settle_below` meets its contract: one law of settling for each way on. The measure is the fuel. Assumes nothing.
 use Prim.Native.Nat.{ℕ, _-_, _<_}
 use mathlib.Core.Bool.{true, false}
-use mathlib.Core.List.{List, _∷_}
+use mathlib.Core.List.{List, _∷_, tail}
 use mathlib.Core.Path.{_≡_, refl, sym, ap, _∙_, subst}
 use lib.ListN.{set, length-set}
 use lib.Seq.{getD-set-same, getD-set-other}
@@ -10,7 +10,7 @@ use borrow.Author.Needs.{needs}
 use borrow.Author.Tests.{eq-eqb, ne-eqb}
 use borrow.Fn.Kinds.{In}
 use borrow.Fn.PlainCycle.{Measures, is, falls, and}
-use Rattle.sets.specs.Sets.{members, tail}
+use Rattle.sets.specs.Sets.{members}
 use Rattle.sets.proofs.Members.{first-is, first-below, not-none, members-rising, first-and-rest}
 use Rattle.sets.proofs.first.Reads as first-reads
 use Rattle.sets.proofs.has.Reads as has-reads
@@ -62,14 +62,14 @@ module _ (t : ℕ) where
   abbrev start : First → Start
   start c = c .before .before .before .before
 
-  some : (c : First) → start c .args .left ≡ 0 → ⊥
-  some c = some-busy (start c .args .left) (start c .args .busy) (c .before .before .before .intersection .result) (c .before .before .before .intersection .ok) (c .before .before .before .intersection .ensures) (c .before .before .if1 .left)
+  not-empty : (c : First) → start c .args .left ≡ 0 → ⊥
+  not-empty c = some-busy (start c .args .left) (start c .args .busy) (c .before .before .before .intersection .result) (c .before .before .before .intersection .ok) (c .before .before .before .intersection .ensures) (c .before .before .if1 .left)
 
-  split : (c : First) → left (start c) ≡ c .first .result ∷ tail (left (start c))
-  split c = first-is (start c .args .left) (c .first .result) (start c .fits .left .fits) (some c) (c .first .ensures)
+  first-then-rest : (c : First) → left (start c) ≡ c .first .result ∷ tail (left (start c))
+  first-then-rest c = first-is (start c .args .left) (c .first .result) (start c .fits .left .fits) (not-empty c) (c .first .ensures)
 
-  low : (c : First) → c .first .result < 64
-  low c = first-below (start c .args .left) (c .first .result) (tail (left (start c))) (split c)
+  first-low : (c : First) → c .first .result < 64
+  first-low c = first-below (start c .args .left) (c .first .result) (tail (left (start c))) (first-then-rest c)
 
   abbrev first : Beside → First
   first c = c .before .before .before
@@ -99,7 +99,7 @@ module _ (t : ℕ) where
   settle-below-first-requires c κs = search needs
 
   settle-below-rest-requires : settle-below-lts.Need-rest-requires (claims t) (settle-below-at t) settle-below.Post
-  settle-below-rest-requires c κs = not-none (c .before .before .before .before .args .left) (c .before .before .before .before .fits .left .fits) (some c)
+  settle-below-rest-requires c κs = not-none (c .before .before .before .before .args .left) (c .before .before .before .before .fits .left .fits) (not-empty c)
 
   settle-below-sub-settle-below : settle-below-lts.Need-sub-settle-below (claims t) (settle-below-at t) settle-below.Post
   settle-below-sub-settle-below c = omega (arith, c .before .before .before .if2 .left)
@@ -108,13 +108,13 @@ module _ (t : ℕ) where
   settle-below-settle-below-requires c κs = (omega (arith, c .before .before .before .before .before .before .pre .0, c .before .before .before .if2 .left), c .before .before .before .before .before .before .pre .1)
 
   settle-below-has-requires : settle-below-lts.Need-has-requires (claims t) (settle-below-at t) settle-below.Post
-  settle-below-has-requires c κs = low (c .before .before .before)
+  settle-below-has-requires c κs = first-low (c .before .before .before)
 
   settle-below-mul-inside : settle-below-lts.Need-mul-inside (claims t) (settle-below-at t) settle-below.Post
-  settle-below-mul-inside c = omega (arith, low (c .before .before .before .before .before))
+  settle-below-mul-inside c = omega (arith, first-low (c .before .before .before .before .before))
 
   settle-below-element-copy-out-inside : settle-below-lts.Need-element-copy-out-inside (claims t) (settle-below-at t) settle-below.Post
-  settle-below-element-copy-out-inside c = omega (arith, low (c .before .before .before .before .before))
+  settle-below-element-copy-out-inside c = omega (arith, first-low (c .before .before .before .before .before))
 
   settle-below-sub-settle-below-2 : settle-below-lts.Need-sub-settle-below-2 (claims t) (settle-below-at t) settle-below.Post
   settle-below-sub-settle-below-2 c = omega (arith, c .before .before .before .before .before .before .before .before .if2 .left)
@@ -123,19 +123,19 @@ module _ (t : ℕ) where
   settle-below-settle-below-requires-2 c κs = (omega (arith, c .before .before .before .before .before .before .before .before .before .before .before .pre .0, c .before .before .before .before .before .before .before .before .if2 .left), c .before .before .before .before .settle-below .ensures .0)
 
   settle-below-mul-kind : settle-below-lts.Need-mul-kind (claims t) (settle-below-at t) settle-below.Post
-  settle-below-mul-kind c = omega (arith, low (c .before .before .before .before .before .before .before .before))
+  settle-below-mul-kind c = omega (arith, first-low (c .before .before .before .before .before .before .before .before))
 
   settle-below-element-copy-out-kind : settle-below-lts.Need-element-copy-out-kind (claims t) (settle-below-at t) settle-below.Post
-  settle-below-element-copy-out-kind c = omega (arith, low (c .before .before .before .before .before .before .before .before))
+  settle-below-element-copy-out-kind c = omega (arith, first-low (c .before .before .before .before .before .before .before .before))
 
   settle-below-mul-sets : settle-below-lts.Need-mul-sets (claims t) (settle-below-at t) settle-below.Post
-  settle-below-mul-sets c = omega (arith, low (c .before .before .before .before .before .before .before .before .before .before))
+  settle-below-mul-sets c = omega (arith, first-low (c .before .before .before .before .before .before .before .before .before .before))
 
   settle-below-element-write-sets : settle-below-lts.Need-element-write-sets (claims t) (settle-below-at t) settle-below.Post
-  settle-below-element-write-sets c = omega (arith, low (c .before .before .before .before .before .before .before .before .before .before))
+  settle-below-element-write-sets c = omega (arith, first-low (c .before .before .before .before .before .before .before .before .before .before))
 
   settle-below-with-requires : settle-below-lts.Need-with-requires (claims t) (settle-below-at t) settle-below.Post
-  settle-below-with-requires c κs = low (c .before .before .before .before .before .before .before .before .before .before)
+  settle-below-with-requires c κs = first-low (c .before .before .before .before .before .before .before .before .before .before)
 
   settle-below-returns-3 : settle-below-lts.Need-returns-3 (claims t) (settle-below-at t) settle-below.Post
   settle-below-returns-3 c =
@@ -144,12 +144,12 @@ module _ (t : ℕ) where
       let i = c .before .before .before .before .before .before .before .before .before .before .before .first .result in (
         length-set (y .last .0) i (y .result) ∙ y .ensures .0,
         (
-          λ j l. getD-set-other (y .last .0) i j (y .result) 0 (λ e. let z : ⊥ = omega (arith, low (first c₁)) in z) ∙ y .ensures .1 .0 j l ∙ c₁ .settle-below .ensures .1 .0 j l,
+          λ j l. getD-set-other (y .last .0) i j (y .result) 0 (λ e. let z : ⊥ = omega (arith, first-low (first c₁)) in z) ∙ y .ensures .1 .0 j l ∙ c₁ .settle-below .ensures .1 .0 j l,
           λ σ w busy ambients.
-              let a : isAmbient (w i) ≡ true = sym (ambients i (low (c .before .before .before .before .before .before .before .before .before .before .before))) ∙ eq-eqb _ 1 (c .before .if4 .taken) in
-              settle-enters σ (k (c .before .before .before .before .before .before .before .before .before .before .before .before .before .before .before)) (k₁ (c .before .before .before .before .before .before .before .before)) w (left (c .before .before .before .before .before .before .before .before .before .before .before .before .before .before .before)) (others (c .before .before .before .before .before .before .before .before)) (c .before .before .before .before .before .before .before .before .before .before .before .before .before .before .before .args .fuel) i (tail (left (c .before .before .before .before .before .before .before .before .before .before .before .before .before .before .before))) (members (c .with .result)) (split (c .before .before .before .before .before .before .before .before .before .before .before)) (beside (c .before .before .before .before .before .before .before .before) σ w busy ambients)
+              let a : isAmbient (w i) ≡ true = sym (ambients i (first-low (c .before .before .before .before .before .before .before .before .before .before .before))) ∙ eq-eqb _ 1 (c .before .if4 .taken) in
+              settle-enters σ (k (c .before .before .before .before .before .before .before .before .before .before .before .before .before .before .before)) (k₁ (c .before .before .before .before .before .before .before .before)) w (left (c .before .before .before .before .before .before .before .before .before .before .before .before .before .before .before)) (others (c .before .before .before .before .before .before .before .before)) (c .before .before .before .before .before .before .before .before .before .before .before .before .before .before .before .args .fuel) i (tail (left (c .before .before .before .before .before .before .before .before .before .before .before .before .before .before .before))) (members (c .with .result)) (first-then-rest (c .before .before .before .before .before .before .before .before .before .before .before)) (beside (c .before .before .before .before .before .before .before .before) σ w busy ambients)
               (bodyIn (y .last .0)) (members (y .result)) (y .ensures .1 .1 σ w busy ambients) (bodyIn (set (y .last .0) i (y .result))) (busy-ambient σ (w i) a) a (c .with .ensures)
-              (ap members (getD-set-same (y .last .0) i (y .result) 0 (omega (arith, y .ensures .0, low (c .before .before .before .before .before .before .before .before .before .before .before))))) (λ j d. sym (ap members (getD-set-other (y .last .0) i j (y .result) 0 d))),
+              (ap members (getD-set-same (y .last .0) i (y .result) 0 (omega (arith, y .ensures .0, first-low (c .before .before .before .before .before .before .before .before .before .before .before))))) (λ j d. sym (ap members (getD-set-other (y .last .0) i j (y .result) 0 d))),
         ),
       )
 
@@ -165,15 +165,15 @@ module _ (t : ℕ) where
         (
           λ j l. y .ensures .1 .0 j l ∙ c₁ .settle-below .ensures .1 .0 j l,
           λ σ w busy ambients.
-              let b : busyUnder σ (w i) ≡ true = sym (busy i (low (c .before .before .before .before .before .before .before .before .before .before .before))) ∙ sym (c .before .before .before .before .before .before .before .has .ensures) ∙ c .before .before .before .before .before .before .if3 .taken in
-              let n : isAmbient (w i) ≡ false = sym (ambients i (low (c .before .before .before .before .before .before .before .before .before .before .before))) ∙ ne-eqb _ 1 (c .before .if4 .left) in
-              settle-melts σ (k (c .before .before .before .before .before .before .before .before .before .before .before .before .before .before .before)) (k₁ (c .before .before .before .before .before .before .before .before)) w (left (c .before .before .before .before .before .before .before .before .before .before .before .before .before .before .before)) (others (c .before .before .before .before .before .before .before .before)) (c .before .before .before .before .before .before .before .before .before .before .before .before .before .before .before .args .fuel) i (tail (left (c .before .before .before .before .before .before .before .before .before .before .before .before .before .before .before))) (members (c .union .result)) (split (c .before .before .before .before .before .before .before .before .before .before .before)) (beside (c .before .before .before .before .before .before .before .before) σ w busy ambients)
+              let b : busyUnder σ (w i) ≡ true = sym (busy i (first-low (c .before .before .before .before .before .before .before .before .before .before .before))) ∙ sym (c .before .before .before .before .before .before .before .has .ensures) ∙ c .before .before .before .before .before .before .if3 .taken in
+              let n : isAmbient (w i) ≡ false = sym (ambients i (first-low (c .before .before .before .before .before .before .before .before .before .before .before))) ∙ ne-eqb _ 1 (c .before .if4 .left) in
+              settle-melts σ (k (c .before .before .before .before .before .before .before .before .before .before .before .before .before .before .before)) (k₁ (c .before .before .before .before .before .before .before .before)) w (left (c .before .before .before .before .before .before .before .before .before .before .before .before .before .before .before)) (others (c .before .before .before .before .before .before .before .before)) (c .before .before .before .before .before .before .before .before .before .before .before .before .before .before .before .args .fuel) i (tail (left (c .before .before .before .before .before .before .before .before .before .before .before .before .before .before .before))) (members (c .union .result)) (first-then-rest (c .before .before .before .before .before .before .before .before .before .before .before)) (beside (c .before .before .before .before .before .before .before .before) σ w busy ambients)
               (bodyIn (y .last .0)) (members (y .result)) (y .ensures .1 .1 σ w busy ambients) (busy-spent σ (w i) b n) (c .union .ensures),
         ),
       )
 
   settle-below-with-requires-2 : settle-below-lts.Need-with-requires-2 (claims t) (settle-below-at t) settle-below.Post
-  settle-below-with-requires-2 c κs = low (c .before .before .before .before .before)
+  settle-below-with-requires-2 c κs = first-low (c .before .before .before .before .before)
 
   settle-below-returns-5 : settle-below-lts.Need-returns-5 (claims t) (settle-below-at t) settle-below.Post
   settle-below-returns-5 c =
@@ -182,8 +182,8 @@ module _ (t : ℕ) where
         (
           λ j l. c .before .before .before .settle-below .ensures .1 .0 j l,
           λ σ w busy ambients.
-              let (bare, amb) = not-busy σ (w i) (sym (busy i (low (c .before .before .before .before .before .before))) ∙ sym (c .before .before .has .ensures) ∙ c .before .if3 .left) in
-              settle-keeps σ (k (c .before .before .before .before .before .before .before .before .before .before)) (k₁ (c .before .before .before)) w (left (c .before .before .before .before .before .before .before .before .before .before)) (others (c .before .before .before)) (c .before .before .before .before .before .before .before .before .before .before .args .fuel) i (tail (left (c .before .before .before .before .before .before .before .before .before .before))) (members (c .with2 .result)) (split (c .before .before .before .before .before .before)) (beside (c .before .before .before) σ w busy ambients) bare amb (c .with2 .ensures),
+              let (bare, amb) = not-busy σ (w i) (sym (busy i (first-low (c .before .before .before .before .before .before))) ∙ sym (c .before .before .has .ensures) ∙ c .before .if3 .left) in
+              settle-keeps σ (k (c .before .before .before .before .before .before .before .before .before .before)) (k₁ (c .before .before .before)) w (left (c .before .before .before .before .before .before .before .before .before .before)) (others (c .before .before .before)) (c .before .before .before .before .before .before .before .before .before .before .args .fuel) i (tail (left (c .before .before .before .before .before .before .before .before .before .before))) (members (c .with2 .result)) (first-then-rest (c .before .before .before .before .before .before)) (beside (c .before .before .before) σ w busy ambients) bare amb (c .with2 .ensures),
         ),
       )
 

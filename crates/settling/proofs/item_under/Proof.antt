@@ -5,7 +5,7 @@ use Rattle.bindings.specs.Resolve.{bindingsIn}
 use Rattle.held_bindings.specs.Held.{bindingsOf}
 use Rattle.bindings.specs.Measures.{Kept, itemCount}
 use Rattle.machine.specs.Moves.{firstOf}
-use Rattle.closure_machine.specs.Closure.{Bindings, under}
+use Rattle.closure_machine.specs.Closure.{Bindings, viewUnder}
 use Rattle.closures.specs.Represents.{headOf}
 use Rattle.arrays.specs.Stretches.{stretch}
 use Rattle.lent_states.specs.Lent.{bindingsAt}
@@ -29,7 +29,7 @@ returns c low =
     let v : c .before .before .before .before .before .tail .result .now ≡ drop (getD n 480 0) (stretch 320 32 n) = c .before .before .before .before .before .tail .ensures ∙ (λ q. drop (c .before .before .before .before .before .before .before .wide .ensures q) (c .before .before .before .before .before .before .before .before .before .before .before .numbers-32 .ensures q)) in
     let p : c .before .before .before .tail2 .result .now ≡ drop (getD n 480 0) (stretch 352 32 n) = c .before .before .before .tail2 .ensures ∙ (λ q. drop (c .before .before .before .before .before .before .before .wide .ensures q) (c .before .before .before .before .before .before .before .before .before .before .numbers-322 .ensures q)) in
     let e : bindingsIn (x .script .now) (c .before .before .before .before .before .tail .result .now) (c .before .before .before .tail2 .result .now) ≡ bindingsOf (x .script .now) (bindingsAt n) = λ q. bindingsIn (x .script .now) (v q) (p q) in
-    subst (λ (σ : Bindings). c .part-item .result ≡ firstOf (under σ) (headOf (x .script .now) 2 (x .start) (x .offset))) e (c .part-item .ensures low)
+    subst (λ (σ : Bindings). c .part-item .result ≡ firstOf (viewUnder σ) (headOf (x .script .now) 2 (x .start) (x .offset))) e (c .part-item .ensures low)
 
 pub item-under-spec : {M : Type 1} → statement M
 item-under-spec =

@@ -1,6 +1,6 @@
 -- `locate_below` meets its contract: one law of the pass for each way on. The measure is the fuel. Assumes nothing.
 use Prim.Native.Nat.{ℕ, _-_, _<_}
-use mathlib.Core.List.{List, _∷_}
+use mathlib.Core.List.{List, _∷_, tail}
 use mathlib.Core.Logic.{inl, inr}
 use mathlib.Core.Path.{_≡_, sym, ap, _∙_, subst}
 use lib.ListN.{length, getD, set, length-set}
@@ -8,14 +8,14 @@ use native.Mathlib.Omega.{arith}
 use borrow.Author.Needs.{needs}
 use borrow.Fn.Kinds.{In}
 use borrow.Fn.PlainCycle.{Measures, is, falls, and}
-use Rattle.sets.specs.Sets.{members, tail}
+use Rattle.sets.specs.Sets.{members}
 use Rattle.sets.proofs.Members.{first-is, first-below, not-none, members-empty}
 use Rattle.sets.proofs.first.Reads as first-reads
 use Rattle.sets.proofs.has.Reads as has-reads
 use Rattle.sets.proofs.rest.Reads as rest-reads
 use Rattle.scripts.specs.Represents.{bodyIn}
 use Rattle.machine.specs.Moves.{isNamed, headName}
-use Rattle.closure_machine.specs.Closure.{ClosureHead, Bindings, under}
+use Rattle.closure_machine.specs.Closure.{ClosureHead, Bindings, viewUnder}
 use Rattle.closures.specs.Searches.{Locates}
 use Rattle.closures.specs.Seen.{Names}
 use Rattle.targets.proofs.Locating.{Enters, enters-named, enters-nameless, locates-none, locates-no-fuel, locates-first, set-place}
@@ -63,11 +63,11 @@ module _ (t : ℕ) where
   abbrev start : First → Start
   start c = c .before .before .before
 
-  split : (c : First) → left (start c) ≡ c .first .result ∷ tail (left (start c))
-  split c = first-is (start c .args .left) (c .first .result) (start c .fits .left .fits) (c .before .before .if1 .left) (c .first .ensures)
+  first-then-rest : (c : First) → left (start c) ≡ c .first .result ∷ tail (left (start c))
+  first-then-rest c = first-is (start c .args .left) (c .first .result) (start c .fits .left .fits) (c .before .before .if1 .left) (c .first .ensures)
 
-  low : (c : First) → c .first .result < 64
-  low c = first-below (start c .args .left) (c .first .result) (tail (left (start c))) (split c)
+  first-low : (c : First) → c .first .result < 64
+  first-low c = first-below (start c .args .left) (c .first .result) (tail (left (start c))) (first-then-rest c)
 
   abbrev found₁ : Rest → List ℕ
   found₁ c = set (start (c .before) .args .found .now) (c .before .first .result) (start (c .before) .args .at)
@@ -80,8 +80,8 @@ module _ (t : ℕ) where
   abbrev Tested : Type 0
   Tested = locate-below-lts.After-has (claims t) (locate-below-at t) locate-below.Post
 
-  tested : (c : Tested) (σ : Bindings) (w : ℕ → ClosureHead) → Names σ w (members (start (c .before .before) .args .named)) → isNamed (headName (under σ) (w (c .before .before .first .result))) ≡ c .has .result
-  tested c σ w names = sym (names (c .before .before .first .result) (low (c .before .before))) ∙ sym (c .has .ensures)
+  tested : (c : Tested) (σ : Bindings) (w : ℕ → ClosureHead) → Names σ w (members (start (c .before .before) .args .named)) → isNamed (headName (viewUnder σ) (w (c .before .before .first .result))) ≡ c .has .result
+  tested c σ w names = sym (names (c .before .before .first .result) (first-low (c .before .before))) ∙ sym (c .has .ensures)
 
   through : (c : Joined) → Through (c .before .before) (c .if3 .found)
   through c =
@@ -106,25 +106,25 @@ module _ (t : ℕ) where
   locate-below-rest-requires c κs = not-none (c .before .before .before .args .left) (c .before .before .before .fits .left .fits) (c .before .before .if1 .left)
 
   locate-below-mul-found : locate-below-lts.Need-mul-found (claims t) (locate-below-at t) locate-below.Post
-  locate-below-mul-found c = omega (arith, low (c .before))
+  locate-below-mul-found c = omega (arith, first-low (c .before))
 
   locate-below-element-write-found : locate-below-lts.Need-element-write-found (claims t) (locate-below-at t) locate-below.Post
-  locate-below-element-write-found c = omega (arith, low (c .before))
+  locate-below-element-write-found c = omega (arith, first-low (c .before))
 
   locate-below-has-requires : locate-below-lts.Need-has-requires (claims t) (locate-below-at t) locate-below.Post
-  locate-below-has-requires c κs = low (c .before)
+  locate-below-has-requires c κs = first-low (c .before)
 
   locate-below-mul-inside : locate-below-lts.Need-mul-inside (claims t) (locate-below-at t) locate-below.Post
-  locate-below-mul-inside c = omega (arith, low (c .before .before .before))
+  locate-below-mul-inside c = omega (arith, first-low (c .before .before .before))
 
   locate-below-element-copy-out-inside : locate-below-lts.Need-element-copy-out-inside (claims t) (locate-below-at t) locate-below.Post
-  locate-below-element-copy-out-inside c = omega (arith, low (c .before .before .before))
+  locate-below-element-copy-out-inside c = omega (arith, first-low (c .before .before .before))
 
   locate-below-sub-locate-below : locate-below-lts.Need-sub-locate-below (claims t) (locate-below-at t) locate-below.Post
   locate-below-sub-locate-below c = omega (arith, c .before .before .before .before .before .before .if2 .left)
 
   locate-below-locate-below-requires : locate-below-lts.Need-locate-below-requires (claims t) (locate-below-at t) locate-below.Post
-  locate-below-locate-below-requires c κs = (omega (arith, c .before .before .before .before .before .before .before .before .pre .0, c .before .before .before .before .before .before .if2 .left), (length-set (c .before .before .before .before .before .before .before .before .args .found .now) (c .before .before .before .before .before .first .result) (c .before .before .before .before .before .before .before .before .args .at) ∙ c .before .before .before .before .before .before .before .before .pre .1 .0, omega (arith, low (c .before .before .before .before .before))))
+  locate-below-locate-below-requires c κs = (omega (arith, c .before .before .before .before .before .before .before .before .pre .0, c .before .before .before .before .before .before .if2 .left), (length-set (c .before .before .before .before .before .before .before .before .args .found .now) (c .before .before .before .before .before .first .result) (c .before .before .before .before .before .before .before .before .args .at) ∙ c .before .before .before .before .before .before .before .before .pre .1 .0, omega (arith, first-low (c .before .before .before .before .before))))
 
   locate-below-sub-locate-below-2 : locate-below-lts.Need-sub-locate-below-2 (claims t) (locate-below-at t) locate-below.Post
   locate-below-sub-locate-below-2 c = omega (arith, c .before .before .before .before .before .if2 .left)
@@ -139,8 +139,8 @@ module _ (t : ℕ) where
       let i : ℕ = r .before .first .result in
       let after : List ℕ = c .before .before .if3 .found in (
         c .locate-below2 .ensures .0,
-        λ σ w names. locates-first σ (k s) w (left s) (s .args .at) (s .args .fuel) (placed (s .args .found .now)) i (tail (left s)) (placed (found₁ r)) (placed after) (placed (c .locate-below2 .last .0)) (split (r .before)) (s .pre .1 .1)
-            (set-place (s .args .found .now) i (s .args .at) (omega (arith, low (r .before), s .pre .1 .0)))
+        λ σ w names. locates-first σ (k s) w (left s) (s .args .at) (s .args .fuel) (placed (s .args .found .now)) i (tail (left s)) (placed (found₁ r)) (placed after) (placed (c .locate-below2 .last .0)) (first-then-rest (r .before)) (s .pre .1 .1)
+            (set-place (s .args .found .now) i (s .args .at) (omega (arith, first-low (r .before), s .pre .1 .0)))
             (through (c .before .before) .1 σ w names)
             (subst (λ (l : List ℕ). Locates σ (k s) w l (s .args .at) (s .args .fuel - 1) (placed after) (placed (c .locate-below2 .last .0))) (r .rest .ensures) (c .locate-below2 .ensures .1 σ w names)),
       )

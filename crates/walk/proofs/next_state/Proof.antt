@@ -3,7 +3,7 @@ use Prim.Native.Nat.{ℕ, _+_, _<_}
 use mathlib.Core.Path.{_≡_, sym, _∙_}
 use lib.ListN.{getD}
 use Rattle.messages.specs.Message.{name as called}
-use Rattle.scripts.specs.Tree.{ambient, close, part, count}
+use Rattle.scripts.specs.Tree.{ambient, close, part, timesIn}
 use Rattle.closure_machine.specs.Closure.{Closure}
 use Rattle.closures.specs.Represents.{boundIn, Represents}
 use Rattle.targets.specs.Makes.{Moves}
@@ -29,7 +29,7 @@ returns : tie.Need-returns
 returns c = let x = c .before .before .before .before .before .args in let r = c .after-move .result in let g = c .before .before .step .given .1 in let m = c .after-move .ensures in (m .0, (λ a t e. step-moves (λ (a : ℕ) (t : ℕ). (kindsIn (r .numbers) ≡ kindsIn (x .numbers .now)) × (startsIn (r .numbers) ≡ startsIn (x .numbers .now)) × Moves (x .script .now) (kindsIn (x .numbers .now)) (startsIn (x .numbers .now)) (stateIn (x .sets .now) (x .numbers .now) (x .top)) (stateIn (r .sets) (r .numbers) (r .top)) (λ i. getD (x .places .now) i 0) a t) _ _ a t (sym g ∙ e) (m .1 .0 .0, m .1 .0 .1, m .1 .1), λ i n e. absurd (step-apart _ _ i n (sym g ∙ e))))
 
 returns-2 : tie.Need-returns-2
-returns-2 c = let x = c .before .before .before .before .before .args in let r = c .place-within .result in let g = c .before .before .step2 .given .1 in let m = c .place-within .ensures in (m .0, (λ a t e. absurd (step-apart a t _ _ (sym e ∙ g)), λ i n e. step-places (λ (i : ℕ) (n : ℕ). (boundIn (x .script .now) (stateIn (r .sets) (r .numbers) (r .top)) ≡ boundIn (x .script .now) (stateIn (x .sets .now) (x .numbers .now) (x .top))) × ((weight spent : ℕ) (b : Closure) → Represents (x .script .now) (kindsIn (x .numbers .now)) (startsIn (x .numbers .now)) weight spent (stateIn (x .sets .now) (x .numbers .now) (x .top)) b → count i b ≡ 0 → weight < 64 → Represents (x .script .now) (kindsIn (r .numbers)) (startsIn (r .numbers)) (weight + 1) spent (stateIn (r .sets) (r .numbers) (r .top)) (part i (ambient (called n)) b close))) _ _ i n (sym g ∙ e) (m .1 .0, m .1 .1)))
+returns-2 c = let x = c .before .before .before .before .before .args in let r = c .place-within .result in let g = c .before .before .step2 .given .1 in let m = c .place-within .ensures in (m .0, (λ a t e. absurd (step-apart a t _ _ (sym e ∙ g)), λ i n e. step-places (λ (i : ℕ) (n : ℕ). (boundIn (x .script .now) (stateIn (r .sets) (r .numbers) (r .top)) ≡ boundIn (x .script .now) (stateIn (x .sets .now) (x .numbers .now) (x .top))) × ((weight spent : ℕ) (b : Closure) → Represents (x .script .now) (kindsIn (x .numbers .now)) (startsIn (x .numbers .now)) weight spent (stateIn (x .sets .now) (x .numbers .now) (x .top)) b → timesIn i b ≡ 0 → weight < 64 → Represents (x .script .now) (kindsIn (r .numbers)) (startsIn (r .numbers)) (weight + 1) spent (stateIn (r .sets) (r .numbers) (r .top)) (part i (ambient (called n)) b close))) _ _ i n (sym g ∙ e) (m .1 .0, m .1 .1)))
 
 pub next-state-spec : {M : Type 1} → statement M
 next-state-spec =

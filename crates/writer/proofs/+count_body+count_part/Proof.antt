@@ -1,12 +1,12 @@
 -- `count_body` and `count_part` meet their contracts: the first part, and those beside it; a part's head, and its body. The
 -- measure is twice the fuel, and one more for a part. Assumes nothing.
 use Prim.Native.Nat.{ℕ, suc, _*_, _<_}
-use mathlib.Core.List.{List, _∷_}
+use mathlib.Core.List.{List, _∷_, tail}
 use mathlib.Core.Path.{_≡_, sym, ap, _∙_}
 use native.Mathlib.Omega.{arith}
 use borrow.Author.Needs.{needs}
 use lib.ListN.{length}
-use Rattle.sets.specs.Sets.{members, tail}
+use Rattle.sets.specs.Sets.{members}
 use Rattle.sets.proofs.Members.{first-is, first-below, not-none, members-empty}
 use Rattle.scripts.specs.Represents.{bodyIn}
 use Rattle.bindings.specs.Resolve.{bindingsIn}
@@ -85,11 +85,11 @@ module _ (t : ℕ) where
   abbrev start : First → BodyStart
   start c = c .before .before .before .before .before .before .before .before .before
 
-  split : (c : First) → left (start c) ≡ c .first .result ∷ tail (left (start c))
-  split c = first-is (start c .args .left) (c .first .result) (start c .fits .left .fits) (c .before .before .if1 .left) (c .first .ensures)
+  first-then-rest : (c : First) → left (start c) ≡ c .first .result ∷ tail (left (start c))
+  first-then-rest c = first-is (start c .args .left) (c .first .result) (start c .fits .left .fits) (c .before .before .if1 .left) (c .first .ensures)
 
-  low : (c : First) → c .first .result < 64
-  low c = first-below (start c .args .left) (c .first .result) (tail (left (start c))) (split c)
+  first-low : (c : First) → c .first .result < 64
+  first-low c = first-below (start c .args .left) (c .first .result) (tail (left (start c))) (first-then-rest c)
 
   count-body-returns : count-body-lts.Need-returns (count-body-claims t) (count-body-at t) count-body.Post
   unfolding capped
@@ -110,7 +110,7 @@ module _ (t : ℕ) where
   count-body-count-part-requires : count-body-lts.Need-count-part-requires (count-body-claims t) (count-body-at t) count-body.Post
   count-body-count-part-requires c κs =
       let s = c .before .before .before .before .before .before .before .before .before in
-      (omega (arith, s .pre .0, c .before .if2 .left), (s .pre .1 .0, s .pre .1 .1, low (c)))
+      (omega (arith, s .pre .0, c .before .if2 .left), (s .pre .1 .0, s .pre .1 .1, first-low (c)))
 
   count-body-rest-requires : count-body-lts.Need-rest-requires (count-body-claims t) (count-body-at t) count-body.Post
   count-body-rest-requires c κs =
@@ -129,7 +129,7 @@ module _ (t : ℕ) where
   count-body-returns-3 : count-body-lts.Need-returns-3 (count-body-claims t) (count-body-at t) count-body.Post
   count-body-returns-3 c =
       let s = c .before .before .before .before .before .before .before .before .before .before .before .before .before in
-      counts-more (body-σ s) (bodyIn (s .args .kids .now)) (body-w s) (left s) (s .args .fuel) (c .before .before .before .before .first .result) (tail (left s)) (split (c .before .before .before .before)) (c .before .before .before .count-part .result) (c .before .count-body .result) (c .sum .result)
+      counts-more (body-σ s) (bodyIn (s .args .kids .now)) (body-w s) (left s) (s .args .fuel) (c .before .before .before .before .first .result) (tail (left s)) (first-then-rest (c .before .before .before .before)) (c .before .before .before .count-part .result) (c .before .count-body .result) (c .sum .result)
       (c .before .before .before .count-part .ensures) (λ ix i b e. c .before .count-body .ensures ix i b (c .before .before .rest .ensures ∙ e)) (c .sum .ensures)
 
   count-part-element-copy-out-kind : count-part-lts.Need-element-copy-out-kind (count-part-claims t) (count-part-at t) count-part.Post

@@ -1,13 +1,13 @@
 -- `write_body` and `write_part` meet their contracts: the first part, then those beside it; a part's head, then its body.
 -- The measure is twice the fuel, and one more for a part. Assumes nothing.
 use Prim.Native.Nat.{ℕ, suc, _+_, _*_, _<_}
-use mathlib.Core.List.{List, _∷_}
+use mathlib.Core.List.{List, _∷_, tail}
 use mathlib.Core.Path.{_≡_, sym, ap, _∙_}
 use native.Mathlib.Omega.{arith}
 use borrow.Author.Needs.{needs}
 use lib.ListN.{getD}
 use Rattle.messages.specs.Words.{word}
-use Rattle.sets.specs.Sets.{members, tail}
+use Rattle.sets.specs.Sets.{members}
 use Rattle.sets.proofs.Members.{first-is, first-below, not-none, members-empty}
 use Rattle.scripts.specs.Represents.{bodyIn}
 use Rattle.bindings.specs.Resolve.{bindingsIn}
@@ -100,11 +100,11 @@ module _ (t : ℕ) where
   abbrev start : First → BodyStart
   start c = c .before .before .before .before .before .before .before .before .before
 
-  split : (c : First) → left (start c) ≡ c .first .result ∷ tail (left (start c))
-  split c = first-is (start c .args .left) (c .first .result) (start c .fits .left .fits) (c .before .before .if2 .left) (c .first .ensures)
+  first-then-rest : (c : First) → left (start c) ≡ c .first .result ∷ tail (left (start c))
+  first-then-rest c = first-is (start c .args .left) (c .first .result) (start c .fits .left .fits) (c .before .before .if2 .left) (c .first .ensures)
 
-  low : (c : First) → c .first .result < 64
-  low c = first-below (start c .args .left) (c .first .result) (tail (left (start c))) (split c)
+  first-low : (c : First) → c .first .result < 64
+  first-low c = first-below (start c .args .left) (c .first .result) (tail (left (start c))) (first-then-rest c)
 
   write-body-returns : write-body-lts.Need-returns (write-body-claims t) (write-body-at t) write-body.Post
   write-body-returns c =
@@ -130,7 +130,7 @@ module _ (t : ℕ) where
   write-body-write-part-requires : write-body-lts.Need-write-part-requires (write-body-claims t) (write-body-at t) write-body.Post
   write-body-write-part-requires c κs =
       let s = c .before .before .before .before .before .before .before .before .before .before in
-      (omega (arith, s .pre .0, c .before .before .if3 .left), (s .pre .1 .0, s .pre .1 .1, s .pre .1 .2, omega (arith, s .pre .1 .3, c .before .before .if3 .left), low (c .before), omega (arith, c .before .before .before .before .if1 .left), s .pre .1 .4))
+      (omega (arith, s .pre .0, c .before .before .if3 .left), (s .pre .1 .0, s .pre .1 .1, s .pre .1 .2, omega (arith, s .pre .1 .3, c .before .before .if3 .left), first-low (c .before), omega (arith, c .before .before .before .before .if1 .left), s .pre .1 .4))
 
   write-body-rest-requires : write-body-lts.Need-rest-requires (write-body-claims t) (write-body-at t) write-body.Post
   write-body-rest-requires c κs =
@@ -179,7 +179,7 @@ module _ (t : ℕ) where
   write-body-returns-4 c =
       let s = c .before .before .before .before .before .before .before .before .before .before .before .before .before .before .before .before .before .before in (
         omega (arith, c .before .before .before .before .before .before .before .write-part .ensures .0, c .before .before .before .before .before .before .before .write-part .kept .1 .1 .1 .1 .1 .1 .1 .1 .1 .1 .1 .1 .0, lent-length (c .before .before .before .before .before .before .before .write-part .result) (c .before .before .before .before .before .before .before .write-part .last .1 .1 .1 .1 .1 .1 .1 .1 .1 .1 .1 .1 .0), c .before .before .write-body .ensures .0),
-        by-first (body-σ s) (k s) (body-w s) (left s) (s .args .fuel) (c .before .before .before .before .before .before .before .before .before .first .result) (tail (left s)) (split (c .before .before .before .before .before .before .before .before .before)) (λ ws. Wrote ws (s .args .out .now) (joined (c .before .before .before .before .before .before .before .write-part .result) (c .before .before .before .before .before .before .before .write-part .last .1 .1 .1 .1 .1 .1 .1 .1 .1 .1 .1 .1 .0) (c .before .before .write-body .last .1 .1 .1 .1 .1 .1 .1 .1 .1 .1 .1 .1 .0)) (c .before .before .write-body .result + (c .before .before .before .before .before .before .before .write-part .result))) (body-ix s) (s .args .index)
+        by-first (body-σ s) (k s) (body-w s) (left s) (s .args .fuel) (c .before .before .before .before .before .before .before .before .before .first .result) (tail (left s)) (first-then-rest (c .before .before .before .before .before .before .before .before .before)) (λ ws. Wrote ws (s .args .out .now) (joined (c .before .before .before .before .before .before .before .write-part .result) (c .before .before .before .before .before .before .before .write-part .last .1 .1 .1 .1 .1 .1 .1 .1 .1 .1 .1 .1 .0) (c .before .before .write-body .last .1 .1 .1 .1 .1 .1 .1 .1 .1 .1 .1 .1 .0)) (c .before .before .write-body .result + (c .before .before .before .before .before .before .before .write-part .result))) (body-ix s) (s .args .index)
             (λ b r tb hb tr hr f. wrote-more (c .before .before .before .before .before .before .before .write-part .ensures .1 b tb hb (omega (arith, f)))
             (λ z. wrote-as (ap (λ (n : ℕ). write (body-ix s) (s .args .index + n) (unfolded (body-σ s) r)) z) (c .before .before .write-body .ensures .1 r (c .before .before .before .before .rest .ensures ∙ tr) hr (omega (arith, f))))),
       )

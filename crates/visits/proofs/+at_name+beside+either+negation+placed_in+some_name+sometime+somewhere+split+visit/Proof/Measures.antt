@@ -129,8 +129,8 @@ somewhere-at t = and 1 somewhere-kinds.ps (is 1 somewhere-kinds.ps μ-somewhere 
 abbrev pub somewhere-below : ℕ → In 1 somewhere-kinds.ps
 somewhere-below t = and 1 somewhere-kinds.ps (falls 1 somewhere-kinds.ps _<_ μ-somewhere t) somewhere.Pre
 
-abbrev pub split-at : ℕ → In 1 split-kinds.ps
-split-at t = and 1 split-kinds.ps (is 1 split-kinds.ps μ-split t) split.Pre
+abbrev pub split-point : ℕ → In 1 split-kinds.ps
+split-point t = and 1 split-kinds.ps (is 1 split-kinds.ps μ-split t) split.Pre
 
 abbrev pub split-below : ℕ → In 1 split-kinds.ps
 split-below t = and 1 split-kinds.ps (falls 1 split-kinds.ps _<_ μ-split t) split.Pre

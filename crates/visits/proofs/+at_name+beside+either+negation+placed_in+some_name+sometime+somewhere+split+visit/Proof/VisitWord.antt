@@ -3,7 +3,7 @@ use Prim.Native.Nat.{ℕ, _-_, _^_, _<_}
 use mathlib.Core.Path.{refl}
 use native.Mathlib.Omega.{arith}
 use borrow.Author.Needs.{needs}
-use Rattle.stages.proofs.Members.{deep-visits, over-visits, outside-visits, counted-visits, always-finds, void-finds, other-kind, none-finds}
+use Rattle.stages.proofs.Members.{deep-visits, over-visits, outside-visits, counted-visits, truth-finds, void-finds, other-kind, none-finds}
 use Rattle.visits.proofs.+at_name+beside+either+negation+placed_in+some_name+sometime+somewhere+split+visit.Lts-visit as lts
 use Rattle.visits.proofs.visit.Reads as reads
 use Rattle.visits.proofs.+at_name+beside+either+negation+placed_in+some_name+sometime+somewhere+split+visit.Proof.Measures.{visit-at, visit-claims}
@@ -65,7 +65,7 @@ module _ (t : ℕ) where
   placed-in-requires c κs = (omega (arith, c .before .before .before .before .before .before .before .before .pre .0, c .before .before .before .before .before .before .if1 .left), (omega (arith, c .before .before .before .if3 .left), omega (arith, c .before .before .before .before .before .before .before .before .pre .1 .0, c .before .before .before .before .before .before .if1 .left), c .before .before .before .before .before .before .before .before .pre .1 .1))
 
   pub returns-4 : lts.Need-returns-4 (visit-claims t) (visit-at t) reads.Post
-  returns-4 c = let x = c .before .before .before .before .before .before .before .before .args in counted-visits (x .program .now) (x .script .now) (x .sets .now) (x .numbers .now) (x .chosen .now) (x .spot .top) (x .spot .somes) (x .spot .left) (x .spot .at) (x .limits) (x .c) (c .before .before .before .before .before .before .if1 .left) (c .before .before .before .before .before .before .before .before .pre .1 .0) (c .before .before .before .before .if2 .left) _ (c .before .next-count .ensures .0) (c .before .next-count .ensures .1) 0 (c .match .keys1) _ (always-finds (x .program .now) (x .script .now) (x .sets .now) (x .numbers .now) (x .chosen .now) (x .spot .top) (x .spot .somes) (x .spot .left - 1) (x .spot .at) (x .limits) _)
+  returns-4 c = let x = c .before .before .before .before .before .before .before .before .args in counted-visits (x .program .now) (x .script .now) (x .sets .now) (x .numbers .now) (x .chosen .now) (x .spot .top) (x .spot .somes) (x .spot .left) (x .spot .at) (x .limits) (x .c) (c .before .before .before .before .before .before .if1 .left) (c .before .before .before .before .before .before .before .before .pre .1 .0) (c .before .before .before .before .if2 .left) _ (c .before .next-count .ensures .0) (c .before .next-count .ensures .1) 0 (c .match .keys1) _ (truth-finds (x .program .now) (x .script .now) (x .sets .now) (x .numbers .now) (x .chosen .now) (x .spot .top) (x .spot .somes) (x .spot .left - 1) (x .spot .at) (x .limits) _)
 
   pub returns-5 : lts.Need-returns-5 (visit-claims t) (visit-at t) reads.Post
   returns-5 c = let x = c .before .before .before .before .before .before .before .before .before .args in counted-visits (x .program .now) (x .script .now) (x .sets .now) (x .numbers .now) (x .chosen .now) (x .spot .top) (x .spot .somes) (x .spot .left) (x .spot .at) (x .limits) (x .c) (c .before .before .before .before .before .before .before .if1 .left) (c .before .before .before .before .before .before .before .before .before .pre .1 .0) (c .before .before .before .before .before .if2 .left) _ (c .before .before .next-count .ensures .0) (c .before .before .next-count .ensures .1) 1 (c .before .match .keys2) _ (c .negation .ensures)
