@@ -1,7 +1,7 @@
 -- The moves as the engine makes them: the sets are changed, the actor's item is spent or its variable bound, and the state
 -- is settled. Assumes nothing.
 use Prim.Native.Nat.{ℕ, _+_, _-_, _<_}
-use mathlib.Core.Bool.{true, false, not, true≢false, and-eq-true-iff}
+use mathlib.Core.Bool.{true, not, true≢false, and-eq-true-iff}
 use mathlib.Core.List.{List, [], _∷_, _++_}
 use mathlib.Core.Path.{_≡_, refl, sym, ap, _∙_, subst}
 use native.Mathlib.Omega.{arith}

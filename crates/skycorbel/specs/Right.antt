@@ -17,8 +17,8 @@ counting ws = length ws ∷ ws
 abbrev pub inputWords : Call → List ℕ
 inputWords c = counting (c .script) ++ counting (c .moves) ++ counting (c .rule) ++ (c .patience ∷ [])
 
--- The bytes s ask the call c: "little-endian words .., filling the input exactly", at most 24,576 bytes, and "It lends 4,096
--- words".
+-- The bytes s ask the call c: they are its "little-endian words", "filling the input exactly", at most 24,576 bytes, and "It
+-- lends 4,096 words".
 pub record Asks (s : List ℕ) (c : Call) : Type 0 where
   pub short : length s ≤ 24576
   pub fills : length s ≡ 4 * length (inputWords c)

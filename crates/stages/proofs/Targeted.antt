@@ -1,16 +1,16 @@
 -- SOMETIME: what stands after each move, actor by actor and, of an actor, target by target, as a loop over the members of the
 -- set of its targets meets them. Assumes nothing.
-use Prim.Native.Nat.{ℕ, zero, suc, _+_, _-_, _^_, _≤_, _<_}
+use Prim.Native.Nat.{ℕ, zero, suc, _+_, _-_, _≤_, _<_}
 use mathlib.Core.Bool.{Bool, true, false, true≢false}
 use mathlib.Core.List.{List, [], _∷_, _++_}
 use mathlib.Core.Option.{Option, none, some}
-use mathlib.Core.Path.{_≡_, refl, sym, ap, _∙_, subst}
+use mathlib.Core.Path.{_≡_, refl, sym, ap, _∙_}
 use native.Mathlib.Omega.{arith}
 use lib.Dec.{ltb}
 use borrow.Author.Tests.{ne-eqb, ltb-true, ltb-false}
-use Rattle.sets.specs.Sets.{has, span, members, elem, headOr}
+use Rattle.sets.specs.Sets.{has, span, members, elem}
 use Rattle.sets.specs.Sets as sets
-use Rattle.sets.proofs.Members.{has-elem, members-step, members-empty, first-below}
+use Rattle.sets.proofs.Members.{has-elem}
 use Rattle.scripts.specs.Tree.{close, part, total, timesIn}
 use Rattle.machine.specs.Moves.{Moved}
 use Rattle.slices.proofs.Tests.{byTest}
@@ -19,8 +19,8 @@ use Rattle.closure_machine.specs.Closure.{Action, ClosureHead, Closure, Binding
 use Rattle.closures.proofs.Holding.{self}
 use Rattle.targets.specs.Targets.{isSome}
 use Rattle.closure_machine.proofs.Tallies.{closure-inv}
-use Rattle.decision.specs.Walk.{keep, movesTo, movesFrom, inOrder}
-use Rattle.decision.specs.ClosureWalk.{machineAfter, nexts}
+use Rattle.decision.specs.Walk.{keep, movesTo}
+use Rattle.decision.specs.ClosureWalk.{machineAfter}
 
 -- ---- any moves of one actor
 

@@ -28,7 +28,7 @@ use Rattle.targets.proofs.Aiming.{state-places, state-targets}
 use Rattle.arrays.specs.Stretches.{stretch}
 use Rattle.lent_states.specs.Lent.{kindsIn, startsIn, stateIn}
 use Rattle.arrays.proofs.Copying.{length-stretch, getD-stretch}
-use Rattle.decision.specs.Walk.{Count, onYes, onNo, firstYes, look, lastName}
+use Rattle.decision.specs.Walk.{Count, onYes, firstYes, look, lastName}
 use Rattle.decision.specs.Walk as spec
 use Rattle.decision.specs.ClosureWalk.{closureSpace, divisions, shares, insides, nexts}
 use Rattle.decision.specs.ClosureWalk as over
@@ -38,7 +38,7 @@ use Rattle.stages.specs.declared.Counts.{Counts}
 use Rattle.stages.specs.declared.Limits.{Limits}
 use Rattle.stages.specs.declared.Walked.{Walked}
 use Rattle.stages.specs.declared.Walked.the-variants.{No}
-use Rattle.stages.proofs.Loops.{NotNo, no-goes, no-stops, first-none, first-goes, first-stops, first-last, first-append, span-first, span-none}
+use Rattle.stages.proofs.Loops.{NotNo, no-goes, no-stops, first-none, first-goes, first-stops, first-last, span-first, span-none}
 use Rattle.stages.proofs.Focused.{top-told, lent-told}
 use Rattle.stages.proofs.Divided.{Shared, shared-last, shared-next, remaining, remaining-all, remaining-first, remaining-none}
 use Rattle.stages.proofs.Rooms.{Rooms, rooms-first, rooms-none, rooms-told}

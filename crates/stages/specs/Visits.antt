@@ -6,7 +6,6 @@ use mathlib.Core.List.{List, [], _∷_}
 use mathlib.Core.Path.{_≡_}
 use lib.Dec.{ltb}
 use lib.ListN.{getD, length}
-use Rattle.sets.specs.Sets.{members}
 use Rattle.messages.specs.Words.{kind, member}
 use Rattle.scripts.specs.Tree.{timesIn}
 use Rattle.scripts.specs.Represents.{bodyIn}
@@ -18,7 +17,7 @@ use Rattle.closure_machine.specs.Closure.{Closure, ClosureMachine}
 use Rattle.closures.specs.Represents.{heads, boundIn, Ready, Represents}
 use Rattle.closures.specs.declared.State.{State}
 use Rattle.lent_states.specs.Lent.{Small, kindsIn, startsIn, stateIn}
-use Rattle.decision.specs.Walk.{Count, Setting, onYes, firstYes, look, walk, walkFrom}
+use Rattle.decision.specs.Walk.{Count, Setting, onYes, look, walk, walkFrom}
 use Rattle.decision.specs.Walk as spec
 use Rattle.decision.specs.ClosureWalk.{closureSpace}
 use Rattle.stages.specs.Pieces.{Divides}

@@ -6,7 +6,6 @@ use Rattle.closures.specs.declared.State.{State}
 use Rattle.lent_states.specs.Lent.{standing}
 use Rattle.lists.specs.Running.{Runs}
 use Rattle.lists.specs.declared.Ended.{Ended}
-use Rattle.lists.specs.declared.Ended.the-variants.{Halted}
 use Rattle.plain_call.proofs.Entering.{terms-few}
 use Rattle.checker.specs.Calling.{Stands}
 use Rattle.checker.proofs.Calling.{list-halted, list-made}

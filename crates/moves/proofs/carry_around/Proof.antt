@@ -1,5 +1,5 @@
 -- `carry_around` meets its contract: the part goes with the actor. Assumes nothing.
-use mathlib.Core.Bool.{true, true≢false}
+use mathlib.Core.Bool.{true≢false}
 use mathlib.Core.Path.{refl, sym, _∙_}
 use native.Mathlib.Omega.{arith}
 use Rattle.moves.proofs.carry_around.Statement.{statement}
