@@ -1,8 +1,8 @@
 -- The call up to the moves: what the readers' answers say, and how the list ends, told by the closure machine's run.
 -- Assumes nothing.
 use Prim.Native.Nat.{ℕ, _+_, _≤_, _<_}
-use mathlib.Core.Bool.{true, _&&_, _||_}
-use mathlib.Core.List.{List, [], _∷_}
+use mathlib.Core.Bool.{true, false, _&&_, _||_}
+use mathlib.Core.List.{List, [], _∷_, _++_}
 use mathlib.Core.Path.{_≡_, refl, sym, ap, ap₂, _∙_, subst}
 use native.Mathlib.Omega.{arith}
 use lib.Dec.{leb, ltb, eqb}
@@ -10,7 +10,7 @@ use lib.ListN.{length, take}
 use lib.Seq.{take-all}
 use borrow.Author.Tests.{leb-true, le-leb, lt-leb}
 use Rattle.messages.specs.Words.{kind, operand}
-use Rattle.messages.specs.Reading.{Cursor, Reading, refuse, got, _>>=_, ask, outcome}
+use Rattle.messages.specs.Reading.{Cursor, Reading, refuse, got, _>>=_, outcome}
 use Rattle.messages.specs.declared.Outcome.{Outcome}
 use Rattle.messages.specs.declared.Outcome.the-variants.{Read, Refused}
 use Rattle.scripts.specs.Tree.{parts}
@@ -31,13 +31,14 @@ use Rattle.rule_reader.specs.declared.RuleScan.{RuleScan}
 use Rattle.closure_machine.specs.Closure.{Closure, ClosureMachine, settleUnder, closureOf, Bindings}
 use Rattle.closures.specs.Represents.{boundIn, Represents}
 use Rattle.closures.specs.declared.State.{State}
-use Rattle.plain_call.specs.Call.{Call, refusal, startOf, terms, door, answer}
+use Rattle.plain_call.specs.Call.{Call, refusal, startOf, Question, question, asking, terms, door, answer}
 use Rattle.plain_call.specs.ClosureCall.{ClosureRan, halted, moved, closureRun, begun}
 use Rattle.lists.specs.Running.{endedOf, madeOf, Left, Runs}
 use Rattle.checker.specs.Answering.{askedOf, callOf}
 use Rattle.checker.specs.Calling.{ScriptHeld, RuleHeld, Stands}
 use Rattle.lists.specs.declared.Ended.{Ended}
 use Rattle.lists.specs.declared.Ended.the-variants.{Made, Halted}
+use Rattle.plain_call.proofs.Asking.{AllYes, asking-yes, asking-no}
 use Rattle.plain_call.proofs.Entering.{terms-few, door-unread, own-unasked, own-got}
 use Rattle.plain_call.proofs.Called.{answers-door, answers-halted}
 
@@ -64,26 +65,32 @@ rule-names (w ∷ ws) = omega (arith, rule-name w, rule-names ws)
 -- ---- questions 13 and 14
 
 abbrev Asked : ℕ → ℕ → Outcome
-Asked p k = askedOf (terms p k)
+Asked p k = askedOf (asking (terms p k))
+
+-- what is answered where all before it are answered by yes and this one by no; where all are answered by yes
+refused-by : (ps : List Question) (q : Question) (qs : List Question) → AllYes ps → q .yes ≡ false → Refused (q .number) (q .place) ≡ askedOf (asking (ps ++ q ∷ qs))
+unfolding askedOf
+refused-by ps q qs h e = sym (ap askedOf (asking-no ps q qs h e))
+
+read-by : (qs : List Question) → AllYes qs → Read 0 ≡ askedOf (asking qs)
+unfolding askedOf
+read-by qs h = sym (ap askedOf (asking-yes qs h))
 
 module _ (p k : ℕ) where
-  pub calm : 1 ≤ p → p ≤ 16777216 → (leb 1 p && leb p 16777216) ≡ true
+  calm : 1 ≤ p → p ≤ 16777216 → (leb 1 p && leb p 16777216) ≡ true
   calm l h = rw (le-leb 1 p l, le-leb p 16777216 h)
 
+  not-calm : (1 ≤ p → p ≤ 16777216 → ⊥) → (leb 1 p && leb p 16777216) ≡ false
+  not-calm f = byTest (leb 1 p) (λ l. byTest (leb p 16777216) (λ h. absurd (f (leb-true 1 p l) (leb-true p 16777216 h))) (λ h. rw (l, h))) (λ l. rw l)
+
   pub restless : (1 ≤ p → p ≤ 16777216 → ⊥) → Refused 13 0 ≡ Asked p k
-  unfolding askedOf terms _>>=_ ask
-  restless f =
-      byTest (leb 1 p)
-      (λ l. byTest (leb p 16777216) (λ h. absurd (f (leb-true 1 p l) (leb-true p 16777216 h))) (λ h. rw (l, h)))
-      (λ l. rw l)
+  restless f = refused-by [] (question 13 0 (leb 1 p && leb p 16777216)) (question 14 0 (leb k 4096) ∷ []) tt (not-calm f)
 
   pub too-many : 1 ≤ p → p ≤ 16777216 → 4096 < k → Refused 14 0 ≡ Asked p k
-  unfolding askedOf terms _>>=_ ask
-  too-many l h m = rw (calm l h, lt-leb k 4096 m)
+  too-many l h m = refused-by (question 13 0 (leb 1 p && leb p 16777216) ∷ []) (question 14 0 (leb k 4096)) [] (calm l h, tt) (lt-leb k 4096 m)
 
   pub let-in : 1 ≤ p → p ≤ 16777216 → k ≤ 4096 → Read 0 ≡ Asked p k
-  unfolding askedOf terms _>>=_ ask
-  let-in l h m = rw (calm l h, le-leb k 4096 m)
+  let-in l h m = read-by (terms p k) (calm l h, (le-leb k 4096 m, tt))
 
 -- ---- what a reader's outcome says
 
@@ -180,15 +187,15 @@ module _ (script moves words : List ℕ) (patience : ℕ) (buffer : List ℕ) (t
     reads = reads-rule (got (R .read)) (R .reads)
 
     pub says-terms : (q i : ℕ) (x : Outcome) → x ≡ Asked patience (length moves) → x ≡ Refused q i → answer c ≡ refusal q i 0 0 buffer
-    says-terms q i x e d = answers-door c (H .read) (H .reads) q i (own-unasked c (H .read) (R .read) reads q i (asked-refused (terms patience (length moves)) q i (sym e ∙ d)))
+    says-terms q i x e d = answers-door c (H .read) (H .reads) q i (own-unasked c (H .read) (R .read) reads q i (asked-refused (asking (terms patience (length moves))) q i (sym e ∙ d)))
 
-    module _ (asked : terms patience (length moves) ≡ got tt)
+    module _ (asked : asking (terms patience (length moves)) ≡ got tt)
         (s : State) (first : Represents script (t .kinds) (t .starts) (parts (H .read .0)) 0 s (settleUnder [] (closureOf (H .read .0)))) (none : boundIn script s ≡ []) (r : State) where
       abbrev b : Closure
       b = settleUnder [] (closureOf (H .read .0))
 
       short : length moves ≤ 4096
-      short = terms-few patience (length moves) tt asked
+      short = terms-few patience (length moves) asked
 
       -- the list as the engine begins it is the closure machine's
       ran : (e : Ended) → Runs script (t .kinds) (t .starts) (t .count) moves s e r

@@ -81,7 +81,7 @@ module _ (script moves words : List ℕ) (patience : ℕ) (buffer : List ℕ) (t
       sym (map-total (λ k h. oneIf (eqb i k)) (unfoldHead (S .machine .bindings)) (S .machine .tree)) ∙ standing-good c standing .below i z
 
   short : length moves ≤ 4096
-  short = terms-few patience (length moves) tt (S .asked)
+  short = terms-few patience (length moves) (S .asked)
 
   pub script-fits : Scripted (t .starts) (s .offsets)
   script-fits = record { placed = λ i. omega (arith, S .held .tabled .low i); spent = λ i. omega (arith, S .stands .spends i, short) }

@@ -15,7 +15,7 @@ use Rattle.rule_reader.specs.declared.RuleTable.{RuleTable}
 use Rattle.closure_machine.specs.Closure.{ClosureMachine}
 use Rattle.closures.specs.Represents.{boundIn, Represents}
 use Rattle.closures.specs.declared.State.{State}
-use Rattle.plain_call.specs.Call.{terms}
+use Rattle.plain_call.specs.Call.{asking, terms}
 use Rattle.plain_call.specs.ClosureCall.{moved, closureRun, begun}
 
 -- the script is read, and the table holds it
@@ -34,7 +34,7 @@ pub record RuleHeld (n : ℕ) (words : List ℕ) (t : RuleTable) : Type 0 where
 pub record Stands (script moves words : List ℕ) (patience : ℕ) (parts : Table) (table : RuleTable) (s : State) : Type 0 where
   pub held : ScriptHeld script parts
   pub ruled : RuleHeld (parts .count) words table
-  pub asked : terms patience (length moves) ≡ got tt
+  pub asked : asking (terms patience (length moves)) ≡ got tt
   pub machine : ClosureMachine
   pub runs : closureRun (parts .count) 0 moves (begun (held .read .0)) ≡ moved machine
   pub stands : Represents script (parts .kinds) (parts .starts) (parts .count) (length moves) s (machine .tree)

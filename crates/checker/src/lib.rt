@@ -33,7 +33,7 @@ ghost use Rattle.stages.specs.Visits.{walkedOf};
 ghost use Rattle.message_writer.specs.Write.{write};
 ghost use Rattle.writer.specs.Bodies.{Scripted};
 ghost use Rattle.writer.specs.Room.{answered, buffered};
-ghost use Rattle.plain_call.specs.Call.{accepted, refusal, walked, terms, answer, finish as finished};
+ghost use Rattle.plain_call.specs.Call.{accepted, refusal, walked, asking, terms, answer, finish as finished};
 ghost use Rattle.checker.specs.Answering.{verdictOf, answerOf, askedOf, callOf};
 ghost use Rattle.plain_call.specs.Standing.{Decides, Reduces, Returned, Readmitted, MovesBounded, WeightHolds, WeightBounded};
 ghost use Rattle.checker.specs.Calling.{ScriptHeld, RuleHeld, Stands};
@@ -248,7 +248,7 @@ fn with_terms<'a, 'b>(
     patience: u32,
     out: &'b mut [u32],
 ) -> Answer
-    requires { ⌜ ScriptHeld (now script) parts × RuleHeld (parts .count) (now rule) table × (terms patience (length (now moves)) ≡ got tt) ⌝ }
+    requires { ⌜ ScriptHeld (now script) parts × RuleHeld (parts .count) (now rule) table × (asking (terms patience (length (now moves))) ≡ got tt) ⌝ }
     ensures { λ r. ⌜ answerOf r (now (out .exit)) ≡ answer (callOf (now (script .entry)) (now (moves .entry)) (now (rule .entry)) patience (now (out .entry))) ⌝ }
 {
     let kinds = parts.kinds;
@@ -278,7 +278,7 @@ fn with_terms<'a, 'b>(
 
 // The questions that ask nothing but numbers, in their order: 13 and 14.
 fn ask_terms(patience: u32, moves: usize) -> Outcome
-    ensures { λ r. ⌜ r ≡ askedOf (terms patience moves) ⌝ }
+    ensures { λ r. ⌜ r ≡ askedOf (asking (terms patience moves)) ⌝ }
 {
     if patience == 0 {
         return Outcome::Refused {

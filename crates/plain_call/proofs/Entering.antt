@@ -1,20 +1,21 @@
 -- The questions before the moves: what follows where all are answered by yes, and where one is answered by no. Assumes
 -- nothing.
 use Prim.Native.Nat.{ℕ, _+_, _≤_}
-use mathlib.Core.Bool.{_&&_, and-eq-true-iff}
+use mathlib.Core.Bool.{and-eq-true-iff}
 use mathlib.Core.Path.{_≡_, refl, ap, _∙_}
 use native.Mathlib.Omega.{arith}
 use lib.Dec.{leb}
 use lib.ListN.{length}
 use borrow.Author.Tests.{leb-true}
-use Rattle.messages.specs.Reading.{Cursor, Reading, refuse, got, ask}
-use Rattle.messages.proofs.Readings.{bind-inv, bind-all, got-all, bind-got, bind-refuse, ask-inv}
-use Rattle.messages.proofs.Places.{Within, bind-within, ask-within}
+use Rattle.messages.specs.Reading.{Cursor, Reading, refuse, got}
+use Rattle.messages.proofs.Readings.{bind-inv, bind-all, got-all, bind-got, bind-refuse}
+use Rattle.messages.proofs.Places.{Within, bind-within}
 use Rattle.scripts.specs.Script.{Script, readScript}
 use Rattle.rules.specs.Rule.{Rule}
 use Rattle.rules.specs.ReadRule.{readWholeRule}
 use Rattle.rule_reader.proofs.Places.{rule-within}
-use Rattle.plain_call.specs.Call.{Call, Start, partsOf, startOf, starting, terms, door}
+use Rattle.plain_call.specs.Call.{Call, Start, partsOf, startOf, starting, asking, terms, door}
+use Rattle.plain_call.proofs.Asking.{asking-inv, asking-within}
 
 -- ---- questions 1 to 6
 
@@ -38,25 +39,21 @@ module _ (c : Call) where
 
 -- ---- the questions that ask numbers
 
-pub terms-few : (p k : ℕ) (u : Unit {0}) → terms p k ≡ got u → k ≤ 4096
-unfolding terms
-terms-few p k u e = let x = bind-inv (ask 13 0 _) (λ v. ask 14 0 _) u e in omega (arith, leb-true k _ (ask-inv 14 0 _ u (x .2)))
+pub terms-few : (p k : ℕ) → asking (terms p k) ≡ got tt → k ≤ 4096
+terms-few p k e = leb-true k 4096 (asking-inv (terms p k) tt e .1 .0)
 
-pub terms-patience : (p k : ℕ) (u : Unit {0}) → terms p k ≡ got u → p ≤ 16777216
-unfolding terms
-terms-patience p k u e =
-    let x = bind-inv (ask 13 0 (leb 1 p && leb p 16777216)) (λ v. ask 14 0 _) u e in
-    leb-true p 16777216 (and-eq-true-iff (leb 1 p) (leb p 16777216) .0 (ask-inv 13 0 _ (x .0) (x .1)) .1)
+pub terms-patience : (p k : ℕ) → asking (terms p k) ≡ got tt → p ≤ 16777216
+terms-patience p k e = leb-true p 16777216 (and-eq-true-iff (leb 1 p) (leb p 16777216) .0 (asking-inv (terms p k) tt e .0) .1)
 
-terms-within : (x p k : ℕ) → Within x (terms p k)
-unfolding terms
-terms-within x p k = bind-within x (ask 13 0 _) (λ v. ask 14 0 _) (ask-within x 13 0 _ (omega arith)) (λ u e. ask-within x 14 0 _ (omega arith))
+-- all are asked at 0
+terms-within : (x p k : ℕ) → Within x (asking (terms p k))
+terms-within x p k = asking-within x (terms p k) (omega arith, (omega arith, tt))
 
 -- ---- questions 7 to 14
 
 module _ (c : Call) (s : Start) where
   abbrev asks : Reading (Unit {0})
-  asks = terms (c .patience) (s .made + length (c .moves))
+  asks = asking (terms (c .patience) (s .made + length (c .moves)))
 
   pub door-inv : (r : Rule × Cursor) → door c s ≡ got r → (readWholeRule (partsOf s) (c .rule) ≡ got r) × (asks ≡ got tt)
   unfolding door
@@ -66,10 +63,10 @@ module _ (c : Call) (s : Start) where
       (x ∙ v, z)
 
   pub door-few : (r : Rule × Cursor) → door c s ≡ got r → s .made + length (c .moves) ≤ 4096
-  door-few r e = terms-few (c .patience) (s .made + length (c .moves)) tt (door-inv r e .1)
+  door-few r e = terms-few (c .patience) (s .made + length (c .moves)) (door-inv r e .1)
 
   pub door-patience : (r : Rule × Cursor) → door c s ≡ got r → c .patience ≤ 16777216
-  door-patience r e = terms-patience (c .patience) (s .made + length (c .moves)) tt (door-inv r e .1)
+  door-patience r e = terms-patience (c .patience) (s .made + length (c .moves)) (door-inv r e .1)
 
   pub door-unread : (q i : ℕ) → readWholeRule (partsOf s) (c .rule) ≡ refuse q i → door c s ≡ refuse q i
   unfolding door
@@ -91,11 +88,11 @@ module _ (c : Call) (s : Start) where
 -- ---- from the script's own start, along whose line no move is made
 
 module _ (c : Call) (p : Script × Cursor) (r : Rule × Cursor) (e : readWholeRule (p .1 .number) (c .rule) ≡ got r) where
-  no-more : terms (c .patience) (0 + length (c .moves)) ≡ terms (c .patience) (length (c .moves))
-  no-more = let z : 0 + length (c .moves) ≡ length (c .moves) = omega arith in ap (terms (c .patience)) z
+  no-more : asking (terms (c .patience) (0 + length (c .moves))) ≡ asking (terms (c .patience) (length (c .moves)))
+  no-more = let z : 0 + length (c .moves) ≡ length (c .moves) = omega arith in ap (λ (k : ℕ). asking (terms (c .patience) k)) z
 
-  pub own-unasked : (q i : ℕ) → terms (c .patience) (length (c .moves)) ≡ refuse q i → door c (startOf (c .script) p) ≡ refuse q i
+  pub own-unasked : (q i : ℕ) → asking (terms (c .patience) (length (c .moves))) ≡ refuse q i → door c (startOf (c .script) p) ≡ refuse q i
   own-unasked q i d = door-unasked c (startOf (c .script) p) r e q i (no-more ∙ d)
 
-  pub own-got : terms (c .patience) (length (c .moves)) ≡ got tt → door c (startOf (c .script) p) ≡ got r
+  pub own-got : asking (terms (c .patience) (length (c .moves))) ≡ got tt → door c (startOf (c .script) p) ≡ got r
   own-got d = door-got c (startOf (c .script) p) r e (no-more ∙ d)

@@ -4,6 +4,7 @@
 pub mod Runs
 pub mod Door
 pub mod Begun
+pub mod Asking
 pub mod Entering
 pub mod Answers
 pub mod Verdicts

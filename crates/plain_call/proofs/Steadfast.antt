@@ -1,8 +1,8 @@
 -- What patience and the lent buffer can't change: more of them leaves every answer as it is that was not refused for want of
 -- them, and two accepted calls that are alike answer alike. Assumes nothing.
 use Prim.Native.Nat.{ℕ, _+_, _≤_, min, max}
-use mathlib.Core.Bool.{Bool, true, false}
-use mathlib.Core.List.{List, _++_}
+use mathlib.Core.Bool.{Bool, true, _&&_}
+use mathlib.Core.List.{List, [], _∷_, _++_}
 use mathlib.Core.Path.{_≡_, refl, sym, ap, _∙_, subst}
 use mathlib.Core.Logic.{_⊎_, inl, inr}
 use native.Mathlib.Omega.{arith}
@@ -10,8 +10,8 @@ use lib.Dec.{leb}
 use lib.ListN.{length, drop, length-append, length-take}
 use lib.Seq.{take-at}
 use borrow.Author.Tests.{leb-true, le-leb}
-use Rattle.messages.specs.Reading.{Cursor, Reading, refuse, got, _>>=_, ask}
-use Rattle.messages.proofs.Readings.{refuse≢got, bind-cong, bind-refuse, ask-no}
+use Rattle.messages.specs.Reading.{Cursor, Reading, refuse, got, _>>=_}
+use Rattle.messages.proofs.Readings.{refuse≢got, bind-cong}
 use Rattle.machine.specs.PlainMachine.{Machine}
 use Rattle.slices.proofs.Tests.{byTest}
 use Rattle.rules.specs.Rule.{Rule}
@@ -20,9 +20,10 @@ use Rattle.decision.specs.Walk.{Count, Walked, says}
 use Rattle.decision.specs.PlainWalk.{plainSpace}
 use Rattle.decision.proofs.Deciding.{stopped≢says}
 use Rattle.decision.proofs.Patience.{Tired, Kept, walk-patient}
-use Rattle.plain_call.specs.Call.{Call, accepted, Answer, leftBy, refusal, written, finish, walked, Start, partsOf, setting, ruleRun, starting, terms, door, answer}
+use Rattle.plain_call.specs.Call.{Call, accepted, Answer, leftBy, refusal, written, finish, walked, Start, partsOf, setting, ruleRun, starting, question, asking, terms, door, answer}
 use Rattle.plain_call.specs.Standing.{Standing}
 use Rattle.plain_call.specs.Steadfast.{Alike, onto, Steadfast, Wanting, NoLess, Lasting, withPatience, Patient}
+use Rattle.plain_call.proofs.Asking.{asking-no}
 use Rattle.plain_call.proofs.Entering.{door-patience, door-unasked, door-unread}
 use Rattle.plain_call.proofs.Answers.{walkOf, accepting, roomy, answer-ends, answer-unread, answer-shut, answer-run, answer-walked}
 use Rattle.plain_call.proofs.Verdicts.{answer-stands}
@@ -30,15 +31,14 @@ use Rattle.plain_call.proofs.Verdicts.{answer-stands}
 -- ---- the questions that ask numbers
 
 -- with more patience question 13 alone can answer otherwise
-terms-patient : (p q k : ℕ) → p ≤ q → q ≤ 16777216 → (terms p k ≡ refuse 13 0) ⊎ (terms q k ≡ terms p k)
-unfolding terms
+terms-patient : (p q k : ℕ) → p ≤ q → q ≤ 16777216 → (asking (terms p k) ≡ refuse 13 0) ⊎ (asking (terms q k) ≡ asking (terms p k))
 terms-patient p q k l m = byTest (leb 1 p)
     (λ t. let h : 1 ≤ p = leb-true 1 p t in
     let a : leb p 16777216 ≡ true = le-leb p 16777216 (omega arith) in
     let b : leb 1 q ≡ true = le-leb 1 q (omega arith) in
     let d : leb q 16777216 ≡ true = le-leb q 16777216 m in
     inr (rw (t, a, b, d)))
-    (λ t. inl (rw t (bind-refuse (ask 13 0 false) (λ u. ask 14 0 (leb k 4096)) 13 0 (ask-no 13 0 false refl))))
+    (λ t. inl (asking-no [] (question 13 0 (leb 1 p && leb p 16777216)) (question 14 0 (leb k 4096) ∷ []) tt (rw t)))
 
 -- the same script, moves and rule with another patience and another buffer
 abbrev with : Call → (patience : ℕ) (buffer : List ℕ) → Call
@@ -56,11 +56,11 @@ module _ (c : Call) (p : ℕ) (b : List ℕ) (less : c .patience ≤ p) (allowed
       k : ℕ
       k = s .made + length (c .moves)
 
-      read : (x : Reading (Rule × Cursor)) → readWholeRule (partsOf s) (c .rule) ≡ x → terms (c .patience) k ≡ refuse 13 0 → DoorSame s
+      read : (x : Reading (Rule × Cursor)) → readWholeRule (partsOf s) (c .rule) ≡ x → asking (terms (c .patience) k) ≡ refuse 13 0 → DoorSame s
       read (refuse q i) e x = inr (door-unread (with c p b) s q i e ∙ sym (door-unread c s q i e))
       read (got r) e x = inl (door-unasked c s r e 13 0 x)
 
-      asked : (terms (c .patience) k ≡ refuse 13 0) ⊎ (terms p k ≡ terms (c .patience) k) → DoorSame s
+      asked : (asking (terms (c .patience) k) ≡ refuse 13 0) ⊎ (asking (terms p k) ≡ asking (terms (c .patience) k)) → DoorSame s
       asked (inl x) = read (readWholeRule (partsOf s) (c .rule)) refl x
       asked (inr x) = inr (bind-cong (readWholeRule (partsOf s) (c .rule)) _ _ (λ r e. ap (λ (t : Reading (Unit {0})). t >>= (λ u. got r)) x))
 
@@ -83,8 +83,8 @@ module _ (c : Call) (p : ℕ) (b : List ℕ) (less : c .patience ≤ p) (allowed
   unfolding carried
   answer-same s w e = elim (walk-same s) [ inl x ↦ inl (x .0, x .1, sym e ∙ x .2) | inr x ↦ inr (answer-walked (with c p b) (carried s) ∙ ap (walked (with c p b) (s .machine)) (x ∙ e)) ]
 
-question : {A : Type 0} {q i r j : ℕ} → _≡_ {A = Reading A} (refuse q i) (refuse r j) → q ≡ r
-question e = cc
+same-question : {A : Type 0} {q i r j : ℕ} → _≡_ {A = Reading A} (refuse q i) (refuse r j) → q ≡ r
+same-question e = cc
 
 tired-says : {B : Type 0} {a : Bool} {n : Count} → Tired (says a n) → B
 tired-says x = stopped≢says (sym (x .2))
@@ -106,7 +106,7 @@ module _ (c : Call) (p : ℕ) (b : List ℕ) (less : c .patience ≤ p) (allowed
   unfolding starting refusal ruleRun walked
   lasts = answer-ends c (λ r. Wanting (r .verdict) ⊎ (answer (with c p b) ≡ onto b r)) (record {
     unread = λ q i e. inr (answer-unread (with c p b) q i e);
-    shut = λ s e q i x. elim (door-patient c p b less allowed s) [ inl y ↦ inl (inl (question (sym x ∙ y))) | inr y ↦ inr (answer-shut (with c p b) s e q i (y ∙ x)) ];
+    shut = λ s e q i x. elim (door-patient c p b less allowed s) [ inl y ↦ inl (inl (same-question (sym x ∙ y))) | inr y ↦ inr (answer-shut (with c p b) s e q i (y ∙ x)) ];
     stuck = λ s e r x q i h. inr (answer-run (with c p b) s e r (door-same c p b less allowed s r x) ∙ ap (ruleRun (with c p b) s r) h);
     tired = λ s q i v e. elim (answer-same c p b less allowed s _ e) [ inl x ↦ inl (inr (inl (let y = x .2 in cc))) | inr x ↦ inr x ];
     unfit = λ s a n e t. inl (inr (inr refl));

@@ -146,17 +146,33 @@ starting c = do
   p ← readScript (c .script)
   got (startOf (c .script) p)
 
--- The questions that ask nothing but numbers: "13. Patience 1 to 16,777,216?", "14. At most 4,096 moves?"
-unfoldable pub terms : (patience moves : ℕ) → Reading (Unit {0})
-terms p k = do
-  _ ← ask 13 0 (leb 1 p && leb p 16777216)
-  ask 14 0 (leb k 4096)
+-- A question that asks nothing but numbers: its number, its place, and whether it is answered by yes.
+pub record Question : Type 0 where
+  pub number : ℕ
+  pub place : ℕ
+  pub yes : Bool
+
+abbrev pub question : (number place : ℕ) → Bool → Question
+question q i t = record { number = q; place = i; yes = t }
+
+-- "The first no ends the call with its number and place."
+unfoldable pub asking : List Question → Reading (Unit {0})
+asking [] = got tt
+asking (q ∷ qs) = ask (q .number) (q .place) (q .yes) >>= λ u. asking qs
+
+-- Those that are asked between the rule and the first move, in their order: "13. Patience 1 to 16,777,216?" "14. At most 4,096
+-- moves?"
+abbrev pub terms : (patience moves : ℕ) → List Question
+terms p k =
+    question 13 0 (leb 1 p && leb p 16777216)
+    ∷ question 14 0 (leb k 4096)
+    ∷ []
 
 -- Questions 7 to 14 in their order.
 unfoldable pub door : Call → Start → Reading (Rule × Cursor)
 door c s = do
   r ← readWholeRule (partsOf s) (c .rule)
-  _ ← terms (c .patience) (s .made + length (c .moves))
+  _ ← asking (terms (c .patience) (s .made + length (c .moves)))
   got r
 
 -- behind the door
@@ -178,5 +194,5 @@ answer c = begins c (starting c)
 
 -- To unfold this is to unfold every definition of this module: for a proof by computation.
 unfoldable pub computing : Unit {0}
-unfolding refusal moveFits ifMade run finish walked ruleRun starting terms door opened onward begins answer
+unfolding refusal moveFits ifMade run finish walked ruleRun starting asking door opened onward begins answer
 computing = tt

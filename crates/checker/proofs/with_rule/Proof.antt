@@ -1,7 +1,7 @@
 -- `with_rule` meets its contract: questions 13 and 14 let the call in, or refuse it. Assumes nothing.
 use mathlib.Core.Path.{sym, _∙_}
 use lib.ListN.{length}
-use Rattle.plain_call.specs.Call.{terms}
+use Rattle.plain_call.specs.Call.{asking, terms}
 use Rattle.checker.proofs.Calling.{asked-read, says-terms}
 use borrow.Author.Needs.{needs}
 use Rattle.checker.proofs.with_rule.Statement.{statement}
@@ -16,7 +16,7 @@ with-terms-requires c κs =
     let yes = c .before .enum-told .given in
     let a = c .before .before .before in
     let s = asked-start a in
-    (s .pre .0, s .pre .1, asked-read (terms (s .args .patience) (length (s .args .moves .now))) (yes .0 .0) (sym (a .ask-terms .ensures) ∙ yes .1))
+    (s .pre .0, s .pre .1, asked-read (asking (terms (s .args .patience) (length (s .args .moves .now)))) (yes .0 .0) (sym (a .ask-terms .ensures) ∙ yes .1))
 
 returns : tie.Need-returns
 returns c =

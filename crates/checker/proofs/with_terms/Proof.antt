@@ -84,7 +84,7 @@ run-list-requires c κs =
     let s = first-start (l .before) in
     let z = l .lend .ensures in (
       s .pre .0 .tabled .few,
-      terms-few (s .args .patience) (length (s .args .moves .now)) tt (s .pre .2),
+      terms-few (s .args .patience) (length (s .args .moves .now)) (s .pre .2),
       record {
         sets-long = long-sets l;
         numbers-long = long-numbers l;
