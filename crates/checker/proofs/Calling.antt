@@ -84,10 +84,10 @@ module _ (p k : ℕ) where
   not-calm f = byTest (leb 1 p) (λ l. byTest (leb p 16777216) (λ h. absurd (f (leb-true 1 p l) (leb-true p 16777216 h))) (λ h. rw (l, h))) (λ l. rw l)
 
   pub restless : (1 ≤ p → p ≤ 16777216 → ⊥) → Refused 13 0 ≡ Asked p k
-  restless f = refused-by [] (question 13 0 (leb 1 p && leb p 16777216)) (question 14 0 (leb k 4096) ∷ []) tt (not-calm f)
+  restless f = refused-by [] (question 13 0 (leb 1 p && leb p 16777216)) _ tt (not-calm f)
 
   pub too-many : 1 ≤ p → p ≤ 16777216 → 4096 < k → Refused 14 0 ≡ Asked p k
-  too-many l h m = refused-by (question 13 0 (leb 1 p && leb p 16777216) ∷ []) (question 14 0 (leb k 4096)) [] (calm l h, tt) (lt-leb k 4096 m)
+  too-many l h m = refused-by (question 13 0 (leb 1 p && leb p 16777216) ∷ []) (question 14 0 (leb k 4096)) _ (calm l h, tt) (lt-leb k 4096 m)
 
   pub let-in : 1 ≤ p → p ≤ 16777216 → k ≤ 4096 → Read 0 ≡ Asked p k
   let-in l h m = read-by (terms p k) (calm l h, (le-leb k 4096 m, tt))

@@ -38,7 +38,7 @@ terms-patient p q k l m = byTest (leb 1 p)
     let b : leb 1 q ≡ true = le-leb 1 q (omega arith) in
     let d : leb q 16777216 ≡ true = le-leb q 16777216 m in
     inr (rw (t, a, b, d)))
-    (λ t. inl (asking-no [] (question 13 0 (leb 1 p && leb p 16777216)) (question 14 0 (leb k 4096) ∷ []) tt (rw t)))
+    (λ t. inl (asking-no [] (question 13 0 (leb 1 p && leb p 16777216)) _ tt (rw t)))
 
 -- the same script, moves and rule with another patience and another buffer
 abbrev with : Call → (patience : ℕ) (buffer : List ℕ) → Call
