@@ -1,6 +1,7 @@
 //! Holds docs/notes to the sources: in the sections "What the contracts rule out" of the notes each public function has its
 //! row, with two wrong answers and an edit that tries one, and each edit that is named is there. A function may have rows in
-//! several notes. The table of lines and edits is the one that tests/figures makes.
+//! several notes. The table of lines and edits is the one that tests/figures makes. Holds docs/TRACE.md to them too: what it
+//! names is there.
 
 #[cfg(test)]
 mod tests {
@@ -149,5 +150,71 @@ mod tests {
                 assert!(place(edit.split('/').next().expect("a crate")) <= own, "{}: {edit}", row.function);
             }
         }
+    }
+
+    /// The names of the crates.
+    fn crates() -> BTreeSet<String> {
+        entries(&root().join("crates")).iter().map(|folder| name(folder)).collect()
+    }
+
+    /// Whether a text has a name, not as a piece of another.
+    fn has(text: &str, name: &str) -> bool {
+        let piece = |c: char| c.is_alphanumeric() || "-_'′".contains(c);
+        text.match_indices(name).any(|(at, _)| {
+            !text[..at].chars().next_back().is_some_and(piece) && !text[at + name.len()..].chars().next().is_some_and(piece)
+        })
+    }
+
+    /// The references of a cell, as (crate, module, names): "crate, Module: `a`, `b`; Other: `c`" has two, both of that crate.
+    fn references(cell: &str) -> Vec<(String, String, Vec<String>)> {
+        let all = crates();
+        let mut found = Vec::new();
+        let mut own: Option<String> = None;
+        for piece in cell.split([';', '(']) {
+            let Some((head, names)) = piece.split_once(": `") else { continue };
+            let module = head.rsplit([' ', ',']).next().expect("a word");
+            if !module.starts_with(|c: char| c.is_ascii_uppercase()) {
+                continue;
+            }
+            let before = head[..head.len() - module.len()].trim_end_matches([' ', ',']);
+            let word = before.rsplit(' ').next().expect("a word");
+            if all.contains(word) {
+                own = Some(word.to_string());
+            }
+            // what has a crate before it is a function, and not of this module
+            let names: Vec<String> = quoted(&format!("`{names}")).into_iter().filter(|name| !name.contains("::")).collect();
+            if let Some(own) = own.as_ref().filter(|_| !names.is_empty()) {
+                found.push((own.clone(), module.to_string(), names));
+            }
+        }
+        found
+    }
+
+    #[test]
+    fn the_trace_names_what_is_there() {
+        let text = read(&root().join("docs/TRACE.md"));
+        let (edits, mut seen) = (edits(), 0);
+        for cell in text.lines().filter(|line| line.starts_with('|')).flat_map(|line| line.split('|')) {
+            for (own, module, names) in references(cell) {
+                let folder = root().join("crates").join(&own);
+                let files = ["specs", "proofs"].map(|kind| folder.join(kind).join(format!("{module}.antt")));
+                let sources: String = files.iter().filter(|file| file.exists()).map(|file| read(file)).collect();
+                assert!(!sources.is_empty(), "{own} has no module {module}: {cell}");
+                for name in names {
+                    assert!(has(&sources, &name), "{own}, {module} has no {name}: {cell}");
+                    seen += 1;
+                }
+            }
+            for quote in quoted(cell) {
+                if let Some((own, function)) = quote.split_once("::") {
+                    let files = entries(&root().join("crates").join(own).join("src"));
+                    let there = files.iter().any(|file| has(&read(file), &format!("fn {function}")));
+                    assert!(there, "no function {quote}: {cell}");
+                } else if quote.split_once('/').is_some_and(|(own, _)| crates().contains(own)) {
+                    assert!(edits.contains(&quote), "no edit {quote}: {cell}");
+                }
+            }
+        }
+        assert!(seen > 150, "only {seen} names were found to look for");
     }
 }
