@@ -14,7 +14,7 @@ use Rattle.slices.specs.Sums.{capped}
 use Rattle.bindings.specs.Passes.{firsts}
 use Rattle.slices.proofs.Capping.{whole-count, below-count}
 use Rattle.bindings.proofs.Counting.{drop-within}
-use Rattle.message_writer.specs.Write.{Indices, writeMessage, whole}
+use Rattle.written_trees.specs.Write.{Indices, writeMessage, whole}
 use Rattle.message_writer.specs.Passes.{allWritten, link, strung}
 use Rattle.message_writer.proofs.Words.{some-words, one-written}
 

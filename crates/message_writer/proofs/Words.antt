@@ -23,7 +23,7 @@ use Rattle.slices.proofs.Tests.{byTest}
 use Rattle.bindings.proofs.Resolving.{resolve-name, resolve-enter, resolve-exit, resolve-opens, resolve-empty, resolve-path}
 use Rattle.message_words.proofs.FirstWords.{bound, bound-variable}
 use Rattle.bindings.proofs.Passing.{firsts-first, Free, given-place}
-use Rattle.message_writer.specs.Write.{Indices, writeMessage, whole}
+use Rattle.written_trees.specs.Write.{Indices, writeMessage, whole}
 use Rattle.message_writer.specs.Passes.{allWritten, plainWord}
 
 -- how many words a message is written with, and an action's items

@@ -22,7 +22,7 @@ ghost use Rattle.messages.specs.declared.MessageWord.the-variants.{Name};
 ghost use Rattle.bindings.specs.Resolve.{resolve, bindingsIn};
 ghost use Rattle.bindings.specs.Measures.{Kept, itemCount};
 ghost use Rattle.bindings.specs.Passes.{firsts, allItems, ownItems};
-ghost use Rattle.message_writer.specs.Write.{newIndex, writeMessage, whole};
+ghost use Rattle.written_trees.specs.Write.{newIndex, writeMessage, whole};
 ghost use Rattle.message_writer.specs.Buffer.{Wrote};
 ghost use Rattle.message_writer.specs.Indices.{indicesIn, Indexed};
 ghost use Rattle.message_writer.specs.Passes.{allWritten, plainWord, link, strung};

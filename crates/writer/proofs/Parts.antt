@@ -21,8 +21,8 @@ use Rattle.closure_machine.specs.Closure.{ClosureHead, Closure, Bindings, items
 use Rattle.closures.specs.Represents.{headOf}
 use Rattle.closures.proofs.Heads.{by-kind, head-action, head-receipt}
 use Rattle.closures.proofs.Holding.{no-cons}
-use Rattle.message_writer.specs.Write.{Indices, writeMessage, whole, writeHead, within, writeInside, write, writePart}
-use Rattle.message_writer.proofs.Trees.{write-part}
+use Rattle.written_trees.specs.Write.{Indices, writeMessage, whole, writeHead, within, writeInside, write, writePart}
+use Rattle.written_trees.proofs.Trees.{write-part}
 use Rattle.writer.specs.Bodies.{hasBody, writeLabel, CountsPart, Counts}
 
 -- ---- a part, by its kind

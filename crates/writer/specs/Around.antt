@@ -2,7 +2,7 @@
 -- on are innermost first. Assumes nothing: these are definitions.
 use Prim.Native.Nat.{_≤_}
 use lib.ListN.{drop}
-use Rattle.message_writer.specs.Write.{Indices}
+use Rattle.written_trees.specs.Write.{Indices}
 use Rattle.message_writer.specs.Indices.{indicesIn, Indexed}
 use Rattle.writer.specs.declared.Around.{Around}
 

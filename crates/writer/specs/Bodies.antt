@@ -9,7 +9,7 @@ use Rattle.scripts.specs.Tree.{Head, ambient, action, receipt, output, tops, pa
 use Rattle.scripts.specs.Represents.{Held}
 use Rattle.slices.specs.Sums.{capped}
 use Rattle.closure_machine.specs.Closure.{ClosureHead, Closure, Bindings, unfolded, unfoldHead}
-use Rattle.message_writer.specs.Write.{Indices, writeMessage, whole, write, writePart}
+use Rattle.written_trees.specs.Write.{Indices, writeMessage, whole, write, writePart}
 use Rattle.message_writer.specs.Buffer.{Wrote}
 
 -- "0 CLOSE. 1 AMB: message, body. 2 ACT (action): message, body. 3 REC (receipt): body .. 4 OUT (output): message.": who has a body

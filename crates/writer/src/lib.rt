@@ -23,7 +23,7 @@ ghost use Rattle.bindings.specs.Measures.{Kept, itemCount};
 ghost use Rattle.held_bindings.specs.Sizes.{Cached};
 ghost use Rattle.closure_machine.specs.Closure.{Closure, Bindings, unfoldHead, unfolded};
 ghost use Rattle.closures.specs.Represents.{headOf, heads};
-ghost use Rattle.message_writer.specs.Write.{Indices, writeHead, within, write};
+ghost use Rattle.written_trees.specs.Write.{Indices, writeHead, within, write};
 ghost use Rattle.message_writer.specs.Buffer.{Wrote};
 ghost use Rattle.message_writer.specs.Indices.{indicesIn, Indexed};
 ghost use Rattle.writer.specs.Room.{answered, buffered};

@@ -13,11 +13,11 @@ use Rattle.scripts.specs.Represents.{bodyIn}
 use Rattle.bindings.specs.Resolve.{bindingsIn}
 use Rattle.closure_machine.specs.Closure.{ClosureHead, Bindings, unfoldHead, unfolded}
 use Rattle.closures.specs.Represents.{heads}
-use Rattle.message_writer.specs.Write.{Indices, within, write}
+use Rattle.written_trees.specs.Write.{Indices, within, write}
 use Rattle.message_writer.specs.Buffer.{Wrote}
 use Rattle.writer.specs.Around.{indicesOf}
 use Rattle.message_writer.proofs.Lending.{joined, lent-length, joined-length, wrote-as, wrote-more, wrote-full}
-use Rattle.message_writer.proofs.Trees.{some-written}
+use Rattle.written_trees.proofs.Trees.{some-written}
 use Rattle.writer.proofs.Parts.{no-tops, no-parts, part-body, part-only, by-first}
 use Prim.Native.Nat.{ℕ, _<_}
 use borrow.Fn.Kinds.{In}

@@ -5,7 +5,7 @@ use native.Mathlib.Omega.{arith}
 use lib.Seq.{length-take-le}
 use Rattle.bindings.specs.Resolve.{bindingsIn}
 use Rattle.closure_machine.specs.Closure.{unfolded}
-use Rattle.message_writer.specs.Write.{write}
+use Rattle.written_trees.specs.Write.{write}
 use Rattle.writer.proofs.Answers.{over-limit, over-buffer, fitted}
 use borrow.Author.Needs.{needs}
 use Rattle.writer.proofs.write_tree.Statement.{statement}
