@@ -6,9 +6,11 @@ use borrow.Author.Needs.{needs}
 use Rattle.message_writer.proofs.plain_word.Statement.{statement}
 use Rattle.message_writer.proofs.plain_word.Tie as tie
 
+abbrev name-start : tie.After-m → tie.Start
+name-start c = c .before .before .before .before
+
 add-result : tie.Need-add-result
-add-result c =
-    omega (arith, c .before .before .before .before .before .pre .1 _ (c .before .m .given .1))
+add-result c = let n = c .before in omega (arith, name-start n .pre .1 _ (n .m .given .1))
 
 pub plain-word-spec : {M : Type 1} → statement M
 unfolding plainWord word
