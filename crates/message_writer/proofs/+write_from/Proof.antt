@@ -89,23 +89,38 @@ module _ (t : ℕ) where
   abbrev then-start : Then → Start
   then-start c = c .before .before .before .before .before .before .before .before
 
+  abbrev found-first : Found → write-from-lts.After-first-word (write-from-claims t) (write-from-at t) write-from.Post
+  found-first c = c .before
+
   abbrev found-else : Found → write-from-lts.Else1 (write-from-claims t) (write-from-at t) write-from.Post
-  found-else c = c .before .before
+  found-else c = found-first c .before
 
   abbrev found-start : Found → Start
   found-start c = found-else c .before .before .before .before .before .before .before .before
 
+  abbrev then-found : write-from-lts.Then2 (write-from-claims t) (write-from-at t) write-from.Post → Found
+  then-found c = c .before
+
+  abbrev else-found : write-from-lts.Else2 (write-from-claims t) (write-from-at t) write-from.Post → Found
+  else-found c = c .before
+
+  abbrev older-variables : Older → write-from-lts.After-tail (write-from-claims t) (write-from-at t) write-from.Post
+  older-variables c = c .before
+
   abbrev older-given : Older → write-from-lts.After-given (write-from-claims t) (write-from-at t) write-from.Post
-  older-given c = c .before .before
+  older-given c = older-variables c .before
 
   abbrev older-then : Older → write-from-lts.Then2 (write-from-claims t) (write-from-at t) write-from.Post
   older-then c = older-given c .before
 
   abbrev older-found : Older → Found
-  older-found c = older-then c .before
+  older-found c = then-found (older-then c)
+
+  abbrev asked-older : write-from-lts.After-write-from-arg (write-from-claims t) (write-from-at t) write-from.Post → Older
+  asked-older c = c .before
 
   abbrev given-older : Given → Older
-  given-older c = c .before .before
+  given-older c = asked-older (c .before)
 
   abbrev given-start : Given → Start
   given-start c = found-start (older-found (given-older c))
@@ -113,8 +128,11 @@ module _ (t : ℕ) where
   abbrev tail-given : GivenTail → Given
   tail-given c = c .before .before .before
 
+  abbrev asked-tail : write-from-lts.After-write-from-arg2 (write-from-claims t) (write-from-at t) write-from.Post → GivenTail
+  asked-tail c = c .before
+
   abbrev more-tail : GivenMore → GivenTail
-  more-tail c = c .before .before
+  more-tail c = asked-tail (c .before)
 
   abbrev end-more : write-from-lts.After-slice-known3 (write-from-claims t) (write-from-at t) write-from.Post → GivenMore
   end-more c = c .before .before
@@ -129,7 +147,7 @@ module _ (t : ℕ) where
   word-else c = word-plain c .before
 
   abbrev word-found : Word → Found
-  word-found c = word-else c .before
+  word-found c = else-found (word-else c)
 
   abbrev word-start : Word → Start
   word-start c = found-start (word-found c)
@@ -143,8 +161,11 @@ module _ (t : ℕ) where
   abbrev tail-word : WordTail → Word
   tail-word c = arity-word (tail-arity c)
 
+  abbrev asked-word : write-from-lts.After-write-from-arg3 (write-from-claims t) (write-from-at t) write-from.Post → WordTail
+  asked-word c = c .before
+
   abbrev word-tail : WordMore → WordTail
-  word-tail c = c .before .before
+  word-tail c = asked-word (c .before)
 
   abbrev end-word-more : write-from-lts.After-slice-known5 (write-from-claims t) (write-from-at t) write-from.Post → WordMore
   end-word-more c = c .before .before
@@ -166,8 +187,11 @@ module _ (t : ℕ) where
   some : (c : Found) → 0 < found-start c .args .pending
   some c = omega (arith, found-else c .if1 .left)
 
+  first : (c : Found) → found-first c .first-word .result ≡ firstWord (found-start c .args .words .now)
+  first c = found-first c .first-word .ensures
+
   found : (c : Found) → c .bound .result ≡ boundAt (firstWord (found-start c .args .words .now)) (found-start c .args .variables .now)
-  found c = let s = found-start c in c .bound .ensures ∙ ap (λ (w : MessageWord). boundAt w (s .args .variables .now)) (c .before .first-word .ensures)
+  found c = let s = found-start c in c .bound .ensures ∙ ap (λ (w : MessageWord). boundAt w (s .args .variables .now)) (first c)
 
   -- the buffer behind the message of the binding, and behind the word
   partly-given : (c : Given) → Partly (given-start c .args .out .now) (c .write-from .last .1 .1 .1 .1 .1 .1 .1 .0) (c .write-from .result)
@@ -178,7 +202,7 @@ module _ (t : ℕ) where
 
   -- what stands in the word comes behind it
   opened : (c : WordArity) → let s = word-start (arity-word c) in c .arity .result ≡ arityOf (firstWord (s .args .words .now))
-  opened c = c .arity .ensures ∙ ap arityOf (word-found (arity-word c) .before .first-word .ensures)
+  opened c = c .arity .ensures ∙ ap arityOf (first (word-found (arity-word c)))
 
   less-word : (c : WordTail) → let s = word-start (tail-word c) in let p = s .args .pending - 1 + tail-arity c .arity .result in
       (p + length (c .tail4 .result .now) ≤ s .args .pending + length (s .args .words .now)) × (3 * length (c .tail4 .result .now) + p < 3 * length (s .args .words .now) + s .args .pending)
@@ -192,27 +216,27 @@ module _ (t : ℕ) where
   write-from-returns c = let s = then-start c in wrote-none (none-written (ix s) (σ s) (s .args .pending) (spelled (s .args .words .now)) (c .if1 .taken))
 
   write-from-add-older : write-from-lts.Need-add-older (write-from-claims t) (write-from-at t) write-from.Post
-  write-from-add-older c = let s = found-start (c .before) in omega (arith, c .if2 .taken, s .good .1 .1 .1 .0)
+  write-from-add-older c = let s = found-start (then-found c) in omega (arith, c .if2 .taken, s .good .1 .1 .1 .0)
 
   write-from-given-requires : write-from-lts.Need-given-requires (write-from-claims t) (write-from-at t) write-from.Post
-  write-from-given-requires c κs = omega (arith, found-start (c .before) .pre .1 .1, c .if2 .taken)
+  write-from-given-requires c κs = omega (arith, found-start (then-found c) .pre .1 .1, c .if2 .taken)
 
   write-from-write-from-requires : write-from-lts.Need-write-from-requires (write-from-claims t) (write-from-at t) write-from.Post
   write-from-write-from-requires c κs =
-      let o = c .before in
+      let o = asked-older c in
       let f = older-found o in
       let s = found-start f in
       let a = s .args in
       let few = few-words (a .script .now) (getD (a .places .now) (f .bound .result) 0) (older-given o .given .ensures) (s .good .0 .1) in
-      let fewer = fewer-older (a .variables .now) (f .bound .result) (o .before .tail .ensures) (older-then o .if2 .taken) in
-      (rank-older _ _ _ _ _ (s .pre .0) fewer (omega (arith, few)), (few, older-aligned (a .variables .now) (a .places .now) (f .bound .result + 1) (o .before .tail .ensures) (o .tail2 .ensures) (s .pre .1 .1), s .pre .1 .2))
+      let fewer = fewer-older (a .variables .now) (f .bound .result) (older-variables o .tail .ensures) (older-then o .if2 .taken) in
+      (rank-older _ _ _ _ _ (s .pre .0) fewer (omega (arith, few)), (few, older-aligned (a .variables .now) (a .places .now) (f .bound .result + 1) (older-variables o .tail .ensures) (o .tail2 .ensures) (s .pre .1 .1), s .pre .1 .2))
 
   write-from-sub-write-from : write-from-lts.Need-sub-write-from (write-from-claims t) (write-from-at t) write-from.Post
   write-from-sub-write-from c = omega (arith, some (older-found (given-older (tail-given c))))
 
   write-from-write-from-requires-2 : write-from-lts.Need-write-from-requires-2 (write-from-claims t) (write-from-at t) write-from.Post
   write-from-write-from-requires-2 c κs =
-      let l = c .before in
+      let l = asked-tail c in
       let o = given-older (tail-given l) in
       let s = found-start (older-found o) in
       let e = ap length (l .tail3 .ensures) in
@@ -235,13 +259,13 @@ module _ (t : ℕ) where
       let s = found-start f in
       let a = s .args in
       wrote-as (written-bound (ix s) (a .script .now) (a .variables .now) (a .places .now) (a .words .now) (a .pending) (f .bound .result) (some f) (s .pre .1 .1) (found f) (older-then o .if2 .taken)
-      (o .before .tail .ensures) (o .tail2 .ensures) (older-given o .given .ensures) (more-tail m .tail3 .ensures))
+      (older-variables o .tail .ensures) (o .tail2 .ensures) (older-given o .given .ensures) (more-tail m .tail3 .ensures))
       (wrote-more (partly-given g) (g .write-from .ensures) (m .write-from2 .ensures))
 
   write-from-plain-word-requires : write-from-lts.Need-plain-word-requires (write-from-claims t) (write-from-at t) write-from.Post
   write-from-plain-word-requires c κs =
-      let s = found-start (c .before) in
-      (s .pre .1 .2, λ n e. first-name (s .args .words .now) n (sym (c .before .before .first-word .ensures) ∙ e))
+      let s = found-start (else-found c) in
+      (s .pre .1 .2, λ n e. first-name (s .args .words .now) n (sym (first (else-found c)) ∙ e))
 
   write-from-sub-write-from-3 : write-from-lts.Need-sub-write-from-3 (write-from-claims t) (write-from-at t) write-from.Post
   write-from-sub-write-from-3 c = omega (arith, some (word-found (tail-word c)))
@@ -251,7 +275,7 @@ module _ (t : ℕ) where
 
   write-from-write-from-requires-3 : write-from-lts.Need-write-from-requires-3 (write-from-claims t) (write-from-at t) write-from.Post
   write-from-write-from-requires-3 c κs =
-      let l = c .before in
+      let l = asked-word c in
       let s = word-start (tail-word l) in
       (rank-less _ _ _ _ (s .pre .0) (less-word l .1), (omega (arith, less-word l .0, s .pre .1 .0), s .pre .1 .1, s .pre .1 .2))
 
@@ -271,7 +295,7 @@ module _ (t : ℕ) where
       let a = s .args in
       let free = unbound-free (a .script .now) (a .variables .now) (a .places .now) (firstWord (a .words .now)) (omega (arith, found f, word-else w .if2 .left)) in
       wrote-as (written-first (ix s) (σ s) (a .words .now) (a .pending) (some f) free
-      (word-plain w .plain-word .ensures ∙ ap (plainWord (ix s)) (f .before .first-word .ensures)) (opened (tail-arity l)) (l .tail4 .ensures))
+      (word-plain w .plain-word .ensures ∙ ap (plainWord (ix s)) (first f)) (opened (tail-arity l)) (l .tail4 .ensures))
       (wrote-more (partly-word w) (w .write-word .ensures) (m .write-from3 .ensures))
 
 pub +write-from-spec : {M : Type 1} → statement M

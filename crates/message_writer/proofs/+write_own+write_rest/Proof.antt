@@ -94,11 +94,20 @@ module _ (t : ℕ) where
   abbrev OwnMore : Type 0
   OwnMore = write-own-lts.After-write-from (write-own-claims t) (write-own-at t) write-own.Post
 
+  abbrev own-first : OwnFound → write-own-lts.After-first-word (write-own-claims t) (write-own-at t) write-own.Post
+  own-first c = c .before
+
   abbrev own-start : OwnFound → OwnStart
-  own-start c = c .before .before .before .before .before .before .before .before .before .before
+  own-start c = own-first c .before .before .before .before .before .before .before .before .before
+
+  abbrev own-then : write-own-lts.Then1 (write-own-claims t) (write-own-at t) write-own.Post → OwnFound
+  own-then c = c .before
+
+  abbrev older-places : OwnOlder → write-own-lts.After-tail2 (write-own-claims t) (write-own-at t) write-own.Post
+  older-places c = c .before
 
   abbrev older-first : OwnOlder → write-own-lts.After-tail (write-own-claims t) (write-own-at t) write-own.Post
-  older-first c = c .before .before
+  older-first c = older-places c .before
 
   abbrev older-given : OwnOlder → write-own-lts.After-given (write-own-claims t) (write-own-at t) write-own.Post
   older-given c = older-first c .before
@@ -107,10 +116,13 @@ module _ (t : ℕ) where
   older-then c = older-given c .before
 
   abbrev older-found : OwnOlder → OwnFound
-  older-found c = older-then c .before
+  older-found c = own-then (older-then c)
+
+  abbrev asked-older : write-own-lts.After-write-rest-arg (write-own-claims t) (write-own-at t) write-own.Post → OwnOlder
+  asked-older c = c .before
 
   abbrev given-older : OwnGiven → OwnOlder
-  given-older c = c .before .before
+  given-older c = asked-older (c .before)
 
   abbrev end-given : write-own-lts.After-slice-known2 (write-own-claims t) (write-own-at t) write-own.Post → OwnGiven
   end-given c = c .before .before
@@ -127,8 +139,11 @@ module _ (t : ℕ) where
   abbrev behind-link : OwnBehind → OwnLink
   behind-link c = c .before .before
 
+  abbrev asked-link : write-own-lts.After-write-from-arg (write-own-claims t) (write-own-at t) write-own.Post → OwnLink
+  asked-link c = behind-link (c .before)
+
   abbrev more-link : OwnMore → OwnLink
-  more-link c = behind-link (c .before .before)
+  more-link c = asked-link (c .before)
 
   abbrev end-more : write-own-lts.After-slice-known4 (write-own-claims t) (write-own-at t) write-own.Post → OwnMore
   end-more c = c .before .before
@@ -145,7 +160,7 @@ module _ (t : ℕ) where
   own-long s = omega arith
 
   found : (c : OwnFound) → c .bound .result ≡ boundAt (firstWord (own-start c .args .words .now)) (own-start c .args .variables .now)
-  found c = let s = own-start c in c .bound .ensures ∙ ap (λ (w : MessageWord). boundAt w (s .args .variables .now)) (c .before .first-word .ensures)
+  found c = let s = own-start c in c .bound .ensures ∙ ap (λ (w : MessageWord). boundAt w (s .args .variables .now)) (own-first c .first-word .ensures)
 
   partly-link : (c : OwnLink) → Partly (link-start c .args .out .now) (c .write-link .last .1 .0) (c .write-link .result)
   partly-link c = record { within = c .write-link .ensures .within; kept = c .write-link .kept .1 .0 }
@@ -153,20 +168,20 @@ module _ (t : ℕ) where
   -- ---- write_own: the needs
 
   write-own-add-older : write-own-lts.Need-add-older (write-own-claims t) (write-own-at t) write-own.Post
-  write-own-add-older c = let s = own-start (c .before) in omega (arith, c .if1 .taken, s .good .1 .1 .1 .1 .0)
+  write-own-add-older c = let s = own-start (own-then c) in omega (arith, c .if1 .taken, s .good .1 .1 .1 .1 .0)
 
   write-own-given-requires : write-own-lts.Need-given-requires (write-own-claims t) (write-own-at t) write-own.Post
-  write-own-given-requires c κs = omega (arith, own-start (c .before) .pre .1 .0 .aligned, c .if1 .taken)
+  write-own-given-requires c κs = omega (arith, own-start (own-then c) .pre .1 .0 .aligned, c .if1 .taken)
 
   write-own-write-rest-requires : write-own-lts.Need-write-rest-requires (write-own-claims t) (write-own-at t) write-own.Post
   write-own-write-rest-requires c κs =
-      let o = c .before in
+      let o = asked-older c in
       let f = older-found o in
       let s = own-start f in
       let a = s .args in
       let few = few-words (a .script .now) (getD (a .places .now) (f .bound .result) 0) (older-given o .given .ensures) (s .good .0 .1) in
       let fewer = fewer-older (a .variables .now) (f .bound .result) (older-first o .tail .ensures) (older-then o .if1 .taken) in
-      (rank-older _ _ _ _ _ (s .pre .0) fewer (omega (arith, few)), (few, older-kept (s .pre .1 .0) (f .bound .result + 1) (older-first o .tail .ensures) (o .before .tail2 .ensures) (o .tail3 .ensures), s .pre .1 .1, s .pre .1 .2))
+      (rank-older _ _ _ _ _ (s .pre .0) fewer (omega (arith, few)), (few, older-kept (s .pre .1 .0) (f .bound .result + 1) (older-first o .tail .ensures) (older-places o .tail2 .ensures) (o .tail3 .ensures), s .pre .1 .1, s .pre .1 .2))
 
   write-own-returns : write-own-lts.Need-returns (write-own-claims t) (write-own-at t) write-own.Post
   write-own-returns c =
@@ -175,11 +190,11 @@ module _ (t : ℕ) where
       let f = older-found o in
       let s = own-start f in
       let a = s .args in
-      let own = given-own (a .script .now) (a .variables .now) (a .places .now) (a .words .now) (f .bound .result) (s .pre .1 .0 .aligned) (older-then o .if1 .taken) (found f) (older-first o .tail .ensures) (o .before .tail2 .ensures) (older-given o .given .ensures) in
+      let own = given-own (a .script .now) (a .variables .now) (a .places .now) (a .words .now) (f .bound .result) (s .pre .1 .0 .aligned) (older-then o .if1 .taken) (found f) (older-first o .tail .ensures) (older-places o .tail2 .ensures) (older-given o .given .ensures) in
       wrote-as (ap (λ (l : List Message). strung (own-ix s) (a .left) (drop (a .offset) l)) own) (g .write-rest .ensures)
 
   write-own-write-from-requires : write-own-lts.Need-write-from-requires (write-own-claims t) (write-own-at t) write-own.Post
-  write-own-write-from-requires c κs = let s = link-start (behind-link (c .before)) in (omega (arith, s .good .1 .0), s .pre .1 .0 .aligned, s .pre .1 .1)
+  write-own-write-from-requires c κs = let s = link-start (asked-link c) in (omega (arith, s .good .1 .0), s .pre .1 .0 .aligned, s .pre .1 .1)
 
   write-own-add-result : write-own-lts.Need-add-result (write-own-claims t) (write-own-at t) write-own.Post
   write-own-add-result c = let m = end-more c in omega (arith, partly-within (partly-link (more-link m)) (m .write-from .ensures .within), own-long (link-start (more-link m)))
@@ -232,26 +247,44 @@ module _ (t : ℕ) where
   abbrev else-start : RestElse → RestStart
   else-start c = c .before .before .before .before .before .before .before .before .before
 
+  abbrev counted-else : write-rest-lts.After-own (write-rest-claims t) (write-rest-at t) write-rest.Post → RestElse
+  counted-else c = c .before
+
+  abbrev after-counted : RestAfter → write-rest-lts.After-own (write-rest-claims t) (write-rest-at t) write-rest.Post
+  after-counted c = c .before
+
   abbrev after-else : RestAfter → RestElse
-  after-else c = c .before .before
+  after-else c = counted-else (after-counted c)
 
   abbrev rest-start : RestAfter → RestStart
   rest-start c = else-start (after-else c)
 
+  abbrev passed-then : RestPassed → write-rest-lts.Then2 (write-rest-claims t) (write-rest-at t) write-rest.Post
+  passed-then c = c .before
+
   abbrev passed-after : RestPassed → RestAfter
-  passed-after c = c .before .before
+  passed-after c = passed-then c .before
+
+  abbrev asked-passed : write-rest-lts.After-write-rest-arg (write-rest-claims t) (write-rest-at t) write-rest.Post → RestPassed
+  asked-passed c = c .before
 
   abbrev past-passed : RestPast → RestPassed
-  past-passed c = c .before .before
+  past-passed c = asked-passed (c .before)
 
   abbrev end-past : write-rest-lts.After-slice-known2 (write-rest-claims t) (write-rest-at t) write-rest.Post → RestPast
   end-past c = c .before .before
 
+  abbrev asked-else : write-rest-lts.After-write-own-arg (write-rest-claims t) (write-rest-at t) write-rest.Post → write-rest-lts.Else2 (write-rest-claims t) (write-rest-at t) write-rest.Post
+  asked-else c = c .before
+
+  abbrev else-after : write-rest-lts.Else2 (write-rest-claims t) (write-rest-at t) write-rest.Post → RestAfter
+  else-after c = c .before
+
   abbrev own-else : RestOwn → write-rest-lts.Else2 (write-rest-claims t) (write-rest-at t) write-rest.Post
-  own-else c = c .before .before
+  own-else c = asked-else (c .before)
 
   abbrev own-after : RestOwn → RestAfter
-  own-after c = own-else c .before
+  own-after c = else-after (own-else c)
 
   abbrev own-rest : RestOwn → RestStart
   own-rest c = rest-start (own-after c)
@@ -259,11 +292,17 @@ module _ (t : ℕ) where
   abbrev known-own : write-rest-lts.After-slice-known3 (write-rest-claims t) (write-rest-at t) write-rest.Post → RestOwn
   known-own c = c .before .before
 
+  abbrev behind-less : RestBehind → write-rest-lts.After-less (write-rest-claims t) (write-rest-at t) write-rest.Post
+  behind-less c = c .before
+
   abbrev behind-own : RestBehind → RestOwn
-  behind-own c = known-own (c .before .before)
+  behind-own c = known-own (behind-less c .before)
+
+  abbrev asked-behind : write-rest-lts.After-write-rest-arg2 (write-rest-claims t) (write-rest-at t) write-rest.Post → RestBehind
+  asked-behind c = c .before
 
   abbrev more-behind : RestMore → RestBehind
-  more-behind c = c .before .before
+  more-behind c = asked-behind (c .before)
 
   abbrev end-rest : write-rest-lts.After-slice-known4 (write-rest-claims t) (write-rest-at t) write-rest.Post → RestMore
   end-rest c = c .before .before
@@ -285,8 +324,8 @@ module _ (t : ℕ) where
   abbrev own-items : RestAfter → List Message
   own-items c = let s = rest-start c in ownItems (rest-σ s) (s .args .words .now)
 
-  counted : (c : RestAfter) → c .before .own .result ≡ capped (length (own-items c))
-  counted c = let s = rest-start c in c .before .own .ensures (s .args .script .now) (s .args .places .now) (s .pre .1 .1)
+  counted : (c : RestAfter) → after-counted c .own .result ≡ capped (length (own-items c))
+  counted c = let s = rest-start c in after-counted c .own .ensures (s .args .script .now) (s .args .places .now) (s .pre .1 .1)
 
   -- the words behind are less, and what is pending is the word's own items and those behind them
   module _ (c : RestAfter) {ws : List ℕ} (e : ws ≡ drop (c .after-own .result .used) (rest-start c .args .words .now)) where
@@ -310,11 +349,11 @@ module _ (t : ℕ) where
   write-rest-own-requires c κs = kept-length (else-start c .pre .1 .1)
 
   write-rest-after-own-requires : write-rest-lts.Need-after-own-requires (write-rest-claims t) (write-rest-at t) write-rest.Post
-  write-rest-after-own-requires c κs = (omega (arith, c .before .if1 .left), else-start (c .before) .pre .1 .0)
+  write-rest-after-own-requires c κs = (omega (arith, counted-else c .if1 .left), else-start (counted-else c) .pre .1 .0)
 
   write-rest-write-rest-requires : write-rest-lts.Need-write-rest-requires (write-rest-claims t) (write-rest-at t) write-rest.Post
   write-rest-write-rest-requires c κs =
-      let l = c .before in
+      let l = asked-passed c in
       let s = rest-start (passed-after l) in
       let less = less-after (passed-after l) (l .tail .ensures) in
       (rank-less _ _ _ _ (s .pre .0) (omega (arith, less .1)), (omega (arith, less .0, s .pre .1 .0), s .pre .1 .1, s .pre .1 .2, omega (arith, s .pre .1 .3)))
@@ -325,20 +364,21 @@ module _ (t : ℕ) where
       let l = past-passed w in
       let n = passed-after l in
       let s = rest-start n in
-      wrote-as (ap (strung (rest-ix s) (s .args .left)) (drop-past _ (own-items n) _ (s .args .offset) (n .before .own .result) (pending-after n (l .tail .ensures)) (counted n) (l .before .if2 .taken) (omega (arith, s .pre .1 .3)))) (w .write-rest .ensures)
+      wrote-as (ap (strung (rest-ix s) (s .args .left)) (drop-past _ (own-items n) _ (s .args .offset) (after-counted n .own .result) (pending-after n (l .tail .ensures)) (counted n) (passed-then l .if2 .taken) (omega (arith, s .pre .1 .3)))) (w .write-rest .ensures)
 
   write-rest-write-own-requires : write-rest-lts.Need-write-own-requires (write-rest-claims t) (write-rest-at t) write-rest.Post
   write-rest-write-own-requires c κs =
-      let n = c .before .before in
+      let e = asked-else c in
+      let n = else-after e in
       let s = rest-start n in
-      (rank-less _ _ _ _ (s .pre .0) (omega arith), (s .pre .1 .1, s .pre .1 .2, s .pre .1 .3, below-count _ _ _ (counted n) (c .before .if2 .left)))
+      (rank-less _ _ _ _ (s .pre .0) (omega arith), (s .pre .1 .1, s .pre .1 .2, s .pre .1 .3, below-count _ _ _ (counted n) (e .if2 .left)))
 
   write-rest-sub-less : write-rest-lts.Need-sub-less (write-rest-claims t) (write-rest-at t) write-rest.Post
   write-rest-sub-less c = omega (arith, own-else (known-own c) .if2 .left)
 
   write-rest-write-rest-requires-2 : write-rest-lts.Need-write-rest-requires-2 (write-rest-claims t) (write-rest-at t) write-rest.Post
   write-rest-write-rest-requires-2 c κs =
-      let l = c .before in
+      let l = asked-behind c in
       let w = behind-own l in
       let s = own-rest w in
       let less = less-after (own-after w) (l .tail2 .ensures) in
@@ -357,7 +397,7 @@ module _ (t : ℕ) where
       let w = behind-own l in
       let n = own-after w in
       let s = rest-start n in
-      wrote-if (λ h. strung-split (rest-ix s) (s .args .left) (s .args .offset) (n .before .own .result) (l .before .less .result) _ (own-items n) _ (pending-after n (l .tail2 .ensures)) (counted n) (own-else w .if2 .left) (l .before .less .ensures) (omega (arith, h, s .pre .1 .3)))
+      wrote-if (λ h. strung-split (rest-ix s) (s .args .left) (s .args .offset) (after-counted n .own .result) (behind-less l .less .result) _ (own-items n) _ (pending-after n (l .tail2 .ensures)) (counted n) (own-else w .if2 .left) (behind-less l .less .ensures) (omega (arith, h, s .pre .1 .3)))
       (wrote-more (partly-own w) (w .write-own .ensures) (m .write-rest2 .ensures))
 
 pub +write-own+write-rest-spec : {M : Type 1} → statement M

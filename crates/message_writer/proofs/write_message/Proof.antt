@@ -12,8 +12,11 @@ use Rattle.message_writer.proofs.write_message.Tie as tie
 abbrev tail-start : tie.After-tail → tie.Start
 tail-start c = c .before .before .before .before .before .before .before
 
+abbrev asked-tail : tie.After-write-from-arg → tie.After-tail
+asked-tail c = c .before
+
 abbrev written-tail : tie.After-write-from → tie.After-tail
-written-tail c = c .before .before
+written-tail c = asked-tail (c .before)
 
 abbrev end-written : tie.After-slice-known2 → tie.After-write-from
 end-written c = c .before .before
@@ -23,7 +26,7 @@ few : (c : tie.After-tail) → 1 + length (c .tail .result .now) < 2 ^ 64
 few c = let s = tail-start c in few-words (s .args .script .now) (s .args .at) (c .tail .ensures) (s .good .0 .1)
 
 write-from-requires : tie.Need-write-from-requires
-write-from-requires c κs = let l = c .before in (few l, tail-start l .pre .0, tail-start l .pre .1)
+write-from-requires c κs = let l = asked-tail c in (few l, tail-start l .pre .0, tail-start l .pre .1)
 
 returns : tie.Need-returns
 returns c =

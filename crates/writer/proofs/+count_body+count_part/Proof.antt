@@ -76,17 +76,32 @@ module _ (t : ℕ) where
   abbrev else-start : BodyElse → BodyStart
   else-start c = c .before .before .before .before .before .before .before
 
+  abbrev fuel-else : count-body-lts.Then2 (count-body-claims t) (count-body-at t) count-body.Post → BodyElse
+  fuel-else c = c .before
+
+  abbrev first-some : First → count-body-lts.Else2 (count-body-claims t) (count-body-at t) count-body.Post
+  first-some c = c .before
+
   abbrev first-else : First → BodyElse
-  first-else c = c .before .before
+  first-else c = first-some c .before
 
   abbrev first-start : First → BodyStart
   first-start c = else-start (first-else c)
 
+  abbrev counted-first : count-body-lts.After-count-part (count-body-claims t) (count-body-at t) count-body.Post → First
+  counted-first c = c .before
+
+  abbrev rest-counted : Rest → count-body-lts.After-count-part (count-body-claims t) (count-body-at t) count-body.Post
+  rest-counted c = c .before
+
   abbrev rest-first : Rest → First
-  rest-first c = c .before .before
+  rest-first c = counted-first (rest-counted c)
+
+  abbrev sum-others : count-body-lts.After-sum (count-body-claims t) (count-body-at t) count-body.Post → count-body-lts.After-count-body (count-body-claims t) (count-body-at t) count-body.Post
+  sum-others c = c .before
 
   abbrev sum-rest : count-body-lts.After-sum (count-body-claims t) (count-body-at t) count-body.Post → Rest
-  sum-rest c = c .before .before
+  sum-rest c = sum-others c .before
 
   -- ---- count_body: what is known at each
 
@@ -97,7 +112,7 @@ module _ (t : ℕ) where
   body-w s = heads (s .args .script .now) (s .args .kinds .now) (s .args .starts .now) (s .args .offsets .now)
 
   some : (c : First) → 0 < first-start c .args .fuel
-  some c = omega (arith, c .before .if2 .left)
+  some c = omega (arith, first-some c .if2 .left)
 
   first-then : (c : First) → let m = members (first-start c .args .left) in m ≡ c .first .result ∷ tail m
   first-then c = let s = first-start c in first-is (s .args .left) (c .first .result) (s .fits .left .fits) (first-else c .if1 .left) (c .first .ensures)
@@ -111,7 +126,7 @@ module _ (t : ℕ) where
   count-body-returns c = let s = then-start c in counts-none (body-σ s) (bodyIn (s .args .kids .now)) (body-w s) (members (s .args .left)) (s .args .fuel) (ap members (c .if1 .taken) ∙ members-empty)
 
   count-body-returns-2 : count-body-lts.Need-returns-2 (count-body-claims t) (count-body-at t) count-body.Post
-  count-body-returns-2 c = let s = else-start (c .before) in counts-end (body-σ s) (bodyIn (s .args .kids .now)) (body-w s) (members (s .args .left)) (s .args .fuel) (c .if2 .taken)
+  count-body-returns-2 c = let s = else-start (fuel-else c) in counts-end (body-σ s) (bodyIn (s .args .kids .now)) (body-w s) (members (s .args .left)) (s .args .fuel) (c .if2 .taken)
 
   count-body-count-part-requires : count-body-lts.Need-count-part-requires (count-body-claims t) (count-body-at t) count-body.Post
   count-body-count-part-requires c κs =
@@ -119,7 +134,7 @@ module _ (t : ℕ) where
       (omega (arith, s .pre .0, some c), (s .pre .1 .0, s .pre .1 .1, first-below (s .args .left) (c .first .result) (tail (members (s .args .left))) (first-then c)))
 
   count-body-rest-requires : count-body-lts.Need-rest-requires (count-body-claims t) (count-body-at t) count-body.Post
-  count-body-rest-requires c κs = let s = first-start (c .before) in not-none (s .args .left) (s .fits .left .fits) (first-else (c .before) .if1 .left)
+  count-body-rest-requires c κs = let f = counted-first c in let s = first-start f in not-none (s .args .left) (s .fits .left .fits) (first-else f .if1 .left)
 
   count-body-count-body-requires : count-body-lts.Need-count-body-requires (count-body-claims t) (count-body-at t) count-body.Post
   count-body-count-body-requires c κs = let f = rest-first c in let s = first-start f in (omega (arith, s .pre .0, some f), s .pre .1)
@@ -129,7 +144,7 @@ module _ (t : ℕ) where
       let r = sum-rest c in
       let f = rest-first r in
       let s = first-start f in
-      counts-more (body-σ s) (bodyIn (s .args .kids .now)) (body-w s) (members (s .args .left)) (s .args .fuel) (f .first .result) (members (r .rest .result)) (first-rest r) (r .before .count-part .ensures) (c .before .count-body .ensures) (c .sum .ensures)
+      counts-more (body-σ s) (bodyIn (s .args .kids .now)) (body-w s) (members (s .args .left)) (s .args .fuel) (f .first .result) (members (r .rest .result)) (first-rest r) (rest-counted r .count-part .ensures) (sum-others c .count-body .ensures) (c .sum .ensures)
 
   -- ---- count_part: the places, and the way from each to those before it
 
@@ -138,6 +153,9 @@ module _ (t : ℕ) where
 
   abbrev Head : Type 0
   Head = count-part-lts.After-count-head (count-part-claims t) (count-part-at t) count-part.Post
+
+  abbrev Has : Type 0
+  Has = count-part-lts.After-has-body (count-part-claims t) (count-part-at t) count-part.Post
 
   abbrev Then : Type 0
   Then = count-part-lts.Then1 (count-part-claims t) (count-part-at t) count-part.Post
@@ -148,20 +166,38 @@ module _ (t : ℕ) where
   abbrev kind-start : count-part-lts.After-kind (count-part-claims t) (count-part-at t) count-part.Post → PartStart
   kind-start c = known-start (c .before)
 
+  abbrev start-start : count-part-lts.After-start (count-part-claims t) (count-part-at t) count-part.Post → PartStart
+  start-start c = kind-start (c .before)
+
   abbrev offset-start : count-part-lts.After-offset (count-part-claims t) (count-part-at t) count-part.Post → PartStart
-  offset-start c = kind-start (c .before .before)
+  offset-start c = start-start (c .before)
 
   abbrev head-start : Head → PartStart
   head-start c = offset-start (c .before)
 
+  abbrev has-head : Has → Head
+  has-head c = c .before
+
+  abbrev then-has : Then → Has
+  then-has c = c .before
+
   abbrev then-head : Then → Head
-  then-head c = c .before .before
+  then-head c = has-head (then-has c)
+
+  abbrev else-has : count-part-lts.Else1 (count-part-claims t) (count-part-at t) count-part.Post → Has
+  else-has c = c .before
 
   abbrev else-head : count-part-lts.Else1 (count-part-claims t) (count-part-at t) count-part.Post → Head
-  else-head c = c .before .before
+  else-head c = has-head (else-has c)
+
+  abbrev inside-then : count-part-lts.After-inside (count-part-claims t) (count-part-at t) count-part.Post → Then
+  inside-then c = c .before
+
+  abbrev sum-body : count-part-lts.After-sum (count-part-claims t) (count-part-at t) count-part.Post → count-part-lts.After-count-body (count-part-claims t) (count-part-at t) count-part.Post
+  sum-body c = c .before
 
   abbrev sum-then : count-part-lts.After-sum (count-part-claims t) (count-part-at t) count-part.Post → Then
-  sum-then c = c .before .before .before
+  sum-then c = inside-then (sum-body c .before)
 
   -- ---- count_part: what is known at each
 
@@ -172,10 +208,10 @@ module _ (t : ℕ) where
   part-w s = heads (s .args .script .now) (s .args .kinds .now) (s .args .starts .now) (s .args .offsets .now)
 
   body : (c : Then) → let s = head-start (then-head c) in hasBody (part-w s (s .args .i)) ≡ true
-  body c = sym (c .before .has-body .ensures (head-start (then-head c) .args .script .now) _ _) ∙ c .if1 .taken
+  body c = sym (then-has c .has-body .ensures (head-start (then-head c) .args .script .now) _ _) ∙ c .if1 .taken
 
   no-body : (c : count-part-lts.Else1 (count-part-claims t) (count-part-at t) count-part.Post) → let s = head-start (else-head c) in hasBody (part-w s (s .args .i)) ≡ false
-  no-body c = sym (c .before .has-body .ensures (head-start (else-head c) .args .script .now) _ _) ∙ c .if1 .left
+  no-body c = sym (else-has c .has-body .ensures (head-start (else-head c) .args .script .now) _ _) ∙ c .if1 .left
 
   -- ---- count_part: the needs
 
@@ -183,14 +219,14 @@ module _ (t : ℕ) where
   count-part-count-head-requires c κs = let s = offset-start c in (s .pre .1 .0, s .pre .1 .1 .placed (s .args .i), omega (arith, s .pre .1 .1 .spent (s .args .i)))
 
   count-part-count-body-requires : count-part-lts.Need-count-body-requires (count-part-claims t) (count-part-at t) count-part.Post
-  count-part-count-body-requires c κs = let s = head-start (then-head (c .before)) in (omega (arith, s .pre .0), (s .pre .1 .0, s .pre .1 .1))
+  count-part-count-body-requires c κs = let s = head-start (then-head (inside-then c)) in (omega (arith, s .pre .0), (s .pre .1 .0, s .pre .1 .1))
 
   count-part-returns : count-part-lts.Need-returns (count-part-claims t) (count-part-at t) count-part.Post
   count-part-returns c =
       let e = sum-then c in
       let h = then-head e in
       let s = head-start h in
-      counts-inside (part-σ s) (bodyIn (s .args .kids .now)) (part-w s) (bodyIn (s .args .kids .now) (s .args .i)) (s .args .fuel) (part-w s (s .args .i)) (h .count-head .ensures) (body e) (c .before .count-body .ensures) (c .sum .ensures)
+      counts-inside (part-σ s) (bodyIn (s .args .kids .now)) (part-w s) (bodyIn (s .args .kids .now) (s .args .i)) (s .args .fuel) (part-w s (s .args .i)) (h .count-head .ensures) (body e) (sum-body c .count-body .ensures) (c .sum .ensures)
 
   count-part-returns-2 : count-part-lts.Need-returns-2 (count-part-claims t) (count-part-at t) count-part.Post
   count-part-returns-2 c =
@@ -218,8 +254,8 @@ pub +count-body+count-part-spec : {M : Type 1} → statement M
     (λ c. known-start t c .pre .1 .2)
     (λ c. omega (arith, kind-start t c .pre .1 .2))
     (λ c. kind-start t c .pre .1 .2)
-    (λ c. omega (arith, kind-start t (c .before) .pre .1 .2))
-    (λ c. kind-start t (c .before) .pre .1 .2)
+    (λ c. omega (arith, start-start t c .pre .1 .2))
+    (λ c. start-start t c .pre .1 .2)
     (count-part-count-head-requires t)
     (λ c κs. search needs)
     (λ c. omega (arith, head-start t (then-head t c) .pre .1 .2))

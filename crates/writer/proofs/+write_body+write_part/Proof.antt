@@ -88,6 +88,12 @@ module _ (t : ℕ) where
   abbrev else-start : BodyElse → BodyStart
   else-start c = c .before .before .before .before .before .before
 
+  abbrev none-start : write-body-lts.Then2 (write-body-claims t) (write-body-at t) write-body.Post → BodyStart
+  none-start c = else-start (c .before)
+
+  abbrev fuel-start : write-body-lts.Then3 (write-body-claims t) (write-body-at t) write-body.Post → BodyStart
+  fuel-start c = else-start (c .before .before)
+
   abbrev close-then : write-body-lts.After-write-word (write-body-claims t) (write-body-at t) write-body.Post → write-body-lts.Then2 (write-body-claims t) (write-body-at t) write-body.Post
   close-then c = c .before .before
 
@@ -100,8 +106,11 @@ module _ (t : ℕ) where
   abbrev end-close-2 : write-body-lts.After-slice-known3 (write-body-claims t) (write-body-at t) write-body.Post → write-body-lts.After-write-word2 (write-body-claims t) (write-body-at t) write-body.Post
   end-close-2 c = c .before .before
 
+  abbrev first-fuel : First → write-body-lts.Else3 (write-body-claims t) (write-body-at t) write-body.Post
+  first-fuel c = c .before
+
   abbrev first-some : First → write-body-lts.Else2 (write-body-claims t) (write-body-at t) write-body.Post
-  first-some c = c .before .before
+  first-some c = first-fuel c .before
 
   abbrev first-else : First → BodyElse
   first-else c = first-some c .before
@@ -109,8 +118,11 @@ module _ (t : ℕ) where
   abbrev first-start : First → BodyStart
   first-start c = else-start (first-else c)
 
+  abbrev asked-first : write-body-lts.After-write-part-arg (write-body-claims t) (write-body-at t) write-body.Post → First
+  asked-first c = c .before
+
   abbrev part-first : Part → First
-  part-first c = c .before .before
+  part-first c = asked-first (c .before)
 
   abbrev body-start : Part → BodyStart
   body-start c = first-start (part-first c)
@@ -121,8 +133,11 @@ module _ (t : ℕ) where
   abbrev rest-part : Rest → Part
   rest-part c = known-part (c .before)
 
+  abbrev asked-rest : write-body-lts.After-write-body-arg (write-body-claims t) (write-body-at t) write-body.Post → Rest
+  asked-rest c = c .before
+
   abbrev more-rest : More → Rest
-  more-rest c = c .before .before
+  more-rest c = asked-rest (c .before)
 
   abbrev end-more : write-body-lts.After-slice-known5 (write-body-claims t) (write-body-at t) write-body.Post → More
   end-more c = c .before .before
@@ -145,7 +160,7 @@ module _ (t : ℕ) where
   body-long s = omega arith
 
   some : (c : First) → 0 < first-start c .args .fuel
-  some c = omega (arith, c .before .if3 .left)
+  some c = omega (arith, first-fuel c .if3 .left)
 
   first-then : (c : First) → let m = members (first-start c .args .left) in m ≡ c .first .result ∷ tail m
   first-then c = let s = first-start c in first-is (s .args .left) (c .first .result) (s .fits .left .fits) (first-some c .if2 .left) (c .first .ensures)
@@ -166,7 +181,7 @@ module _ (t : ℕ) where
   write-body-returns-2 c =
       let w = end-close c in
       let e = close-then w in
-      let s = else-start (e .before) in
+      let s = none-start e in
       writes-none (body-ix s) (body-σ s) (bodyIn (s .args .kids .now)) (body-w s) (members (s .args .left)) (s .args .index) (s .args .fuel) (ap members (e .if2 .taken) ∙ members-empty) (w .write-word .ensures)
 
   write-body-returns-3 : write-body-lts.Need-returns-3 (write-body-claims t) (write-body-at t) write-body.Post
@@ -174,12 +189,12 @@ module _ (t : ℕ) where
   write-body-returns-3 c =
       let w = end-close-2 c in
       let e = close-then-2 w in
-      let s = else-start (e .before .before) in
+      let s = fuel-start e in
       writes-end (body-ix s) (body-σ s) (bodyIn (s .args .kids .now)) (body-w s) (members (s .args .left)) (s .args .index) (s .args .fuel) (e .if3 .taken) (w .write-word2 .ensures)
 
   write-body-write-part-requires : write-body-lts.Need-write-part-requires (write-body-claims t) (write-body-at t) write-body.Post
   write-body-write-part-requires c κs =
-      let f = c .before in
+      let f = asked-first c in
       let s = first-start f in
       let low = first-below (s .args .left) (f .first .result) (tail (members (s .args .left))) (first-then f) in
       (omega (arith, s .pre .0, some f), (s .pre .1 .0, s .pre .1 .1, s .pre .1 .2, omega (arith, s .pre .1 .3, some f), low, omega (arith, first-else f .if1 .left), s .pre .1 .4))
@@ -189,7 +204,7 @@ module _ (t : ℕ) where
 
   write-body-write-body-requires : write-body-lts.Need-write-body-requires (write-body-claims t) (write-body-at t) write-body.Post
   write-body-write-body-requires c κs =
-      let p = rest-part (c .before) in
+      let p = rest-part (asked-rest c) in
       let s = body-start p in
       (omega (arith, s .pre .0, some (part-first p)), (s .pre .1 .0, s .pre .1 .1, s .pre .1 .2, omega (arith, s .pre .1 .3), omega (arith, s .pre .1 .4, partly-lent (partly-part p))))
 
@@ -233,17 +248,26 @@ module _ (t : ℕ) where
   abbrev kind-start : write-part-lts.After-kind (write-part-claims t) (write-part-at t) write-part.Post → PartStart
   kind-start c = known-start (c .before)
 
-  abbrev offset-start : write-part-lts.After-offset (write-part-claims t) (write-part-at t) write-part.Post → PartStart
-  offset-start c = kind-start (c .before .before)
+  abbrev start-start : write-part-lts.After-start (write-part-claims t) (write-part-at t) write-part.Post → PartStart
+  start-start c = kind-start (c .before)
+
+  abbrev asked-start : write-part-lts.After-write-head-arg (write-part-claims t) (write-part-at t) write-part.Post → PartStart
+  asked-start c = start-start (c .before .before)
 
   abbrev head-start : Head → PartStart
-  head-start c = offset-start (c .before .before)
+  head-start c = asked-start (c .before)
 
   abbrev has-head : write-part-lts.After-has-body (write-part-claims t) (write-part-at t) write-part.Post → Head
   has-head c = c .before .before .before
 
+  abbrev then-has : Then → write-part-lts.After-has-body (write-part-claims t) (write-part-at t) write-part.Post
+  then-has c = c .before
+
+  abbrev else-has : write-part-lts.Else1 (write-part-claims t) (write-part-at t) write-part.Post → write-part-lts.After-has-body (write-part-claims t) (write-part-at t) write-part.Post
+  else-has c = c .before
+
   abbrev then-head : Then → Head
-  then-head c = has-head (c .before)
+  then-head c = has-head (then-has c)
 
   abbrev inside-head : Inside → Head
   inside-head c = then-head (c .before)
@@ -254,8 +278,11 @@ module _ (t : ℕ) where
   abbrev around-head : Around → Head
   around-head c = then-head (around-then c)
 
+  abbrev asked-around : write-part-lts.After-write-body-arg (write-part-claims t) (write-part-at t) write-part.Post → Around
+  asked-around c = c .before
+
   abbrev body-around : Body → Around
-  body-around c = c .before .before
+  body-around c = asked-around (c .before)
 
   abbrev end-body : write-part-lts.After-slice-known3 (write-part-claims t) (write-part-at t) write-part.Post → Body
   end-body c = c .before .before
@@ -264,7 +291,7 @@ module _ (t : ℕ) where
   end-head c = around-head (body-around (end-body c))
 
   abbrev else-head : write-part-lts.Else1 (write-part-claims t) (write-part-at t) write-part.Post → Head
-  else-head c = has-head (c .before)
+  else-head c = has-head (else-has c)
 
   -- ---- write_part: what is known at each
 
@@ -287,22 +314,22 @@ module _ (t : ℕ) where
   partly-head c = record { within = c .write-head .ensures .within; kept = c .write-head .kept .1 .1 .1 .1 .1 .1 .1 .1 .0 }
 
   body : (c : Then) → let s = head-start (then-head c) in hasBody (part-w s (s .args .i)) ≡ true
-  body c = sym (c .before .has-body .ensures (head-start (then-head c) .args .script .now) _ _) ∙ c .if1 .taken
+  body c = sym (then-has c .has-body .ensures (head-start (then-head c) .args .script .now) _ _) ∙ c .if1 .taken
 
   no-body : (c : write-part-lts.Else1 (write-part-claims t) (write-part-at t) write-part.Post) → let s = head-start (else-head c) in hasBody (part-w s (s .args .i)) ≡ false
-  no-body c = sym (c .before .has-body .ensures (head-start (else-head c) .args .script .now) _ _) ∙ c .if1 .left
+  no-body c = sym (else-has c .has-body .ensures (head-start (else-head c) .args .script .now) _ _) ∙ c .if1 .left
 
   -- ---- write_part: the needs
 
   write-part-write-head-requires : write-part-lts.Need-write-head-requires (write-part-claims t) (write-part-at t) write-part.Post
-  write-part-write-head-requires c κs = let s = offset-start (c .before) in (s .pre .1 .0, s .pre .1 .2, s .pre .1 .1 .placed (s .args .i), omega (arith, s .pre .1 .1 .spent (s .args .i), s .pre .1 .6))
+  write-part-write-head-requires c κs = let s = asked-start c in (s .pre .1 .0, s .pre .1 .2, s .pre .1 .1 .placed (s .args .i), omega (arith, s .pre .1 .1 .spent (s .args .i), s .pre .1 .6))
 
   write-part-around-body-requires : write-part-lts.Need-around-body-requires (write-part-claims t) (write-part-at t) write-part.Post
   write-part-around-body-requires c κs = let s = head-start (inside-head c) in (s .pre .1 .2, omega (arith, s .pre .1 .3), small s, s .pre .1 .1 .placed (s .args .i))
 
   write-part-write-body-requires : write-part-lts.Need-write-body-requires (write-part-claims t) (write-part-at t) write-part.Post
   write-part-write-body-requires c κs =
-      let x = c .before in
+      let x = asked-around c in
       let h = around-head x in
       let s = head-start h in
       (omega (arith, s .pre .0), (s .pre .1 .0, s .pre .1 .1, x .around-body .ensures .right, omega (arith, s .pre .1 .3, x .around-body .ensures .room), omega (arith, s .pre .1 .6, partly-lent (partly-head h))))
@@ -362,8 +389,8 @@ pub +write-body+write-part-spec : {M : Type 1} → statement M
     (λ c. known-start t c .pre .1 .4)
     (λ c. omega (arith, kind-start t c .pre .1 .4))
     (λ c. kind-start t c .pre .1 .4)
-    (λ c. omega (arith, kind-start t (c .before) .pre .1 .4))
-    (λ c. kind-start t (c .before) .pre .1 .4)
+    (λ c. omega (arith, start-start t c .pre .1 .4))
+    (λ c. start-start t c .pre .1 .4)
     (write-part-write-head-requires t)
     (λ c κs. search needs)
     (λ c. omega (arith, head-start t (then-head t c) .pre .1 .4))

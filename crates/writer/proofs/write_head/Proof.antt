@@ -28,8 +28,11 @@ tails-first c = c .before .before
 abbrev tails-word : tie.After-tail2 → tie.After-write-word
 tails-word c = tails-first c .before .before .before .before
 
+abbrev asked-tails : tie.After-write-label-arg → tie.After-tail2
+asked-tails c = c .before
+
 abbrev label-tails : tie.After-write-label → tie.After-tail2
-label-tails c = c .before .before
+label-tails c = asked-tails (c .before)
 
 abbrev end-label : tie.After-slice-known3 → tie.After-write-label
 end-label c = c .before .before
@@ -49,7 +52,7 @@ partly c = record { within = c .write-word .ensures .within; kept = c .write-wor
 
 write-label-requires : tie.Need-write-label-requires
 write-label-requires c κs =
-    let l = c .before in
+    let l = asked-tails c in
     let s = word-start (tails-word l) in
     (s .pre .0, tails-indexed (s .args .around) (tails-first l .tail .ensures) (l .tail2 .ensures) (s .pre .1), s .pre .2, omega (arith, s .pre .3, partly-lent (partly (tails-word l))))
 

@@ -19,6 +19,12 @@ use Rattle.writer.proofs.write_tree.Tie as tie
 abbrev count-start : tie.After-count-words → tie.Start
 count-start c = c .before .before .before .before .before .before .before .before
 
+abbrev over-count : tie.Then1 → tie.After-count-words
+over-count c = c .before
+
+abbrev over-wide : tie.Then2 → tie.After-wide
+over-wide c = c .before
+
 abbrev wide-else : tie.After-wide → tie.Else1
 wide-else c = c .before
 
@@ -34,8 +40,11 @@ around-else c = c .before .before
 abbrev around-wide : tie.After-nothing-around → tie.After-wide
 around-wide c = around-else c .before
 
+abbrev asked-around : tie.After-write-body-arg → tie.After-nothing-around
+asked-around c = c .before
+
 abbrev body-around : tie.After-write-body → tie.After-nothing-around
-body-around c = c .before .before
+body-around c = asked-around (c .before)
 
 abbrev end-body : tie.After-slice-known2 → tie.After-write-body
 end-body c = c .before .before
@@ -56,21 +65,21 @@ lent c = length-take-le (around-wide c .wide .result) (wide-start (around-wide c
 -- ---- the needs
 
 slice-aggregate-write-body : tie.Need-slice-aggregate-write-body
-slice-aggregate-write-body c = sym (lent (c .before))
+slice-aggregate-write-body c = sym (lent (asked-around c))
 
 write-body-requires : tie.Need-write-body-requires
 write-body-requires c κs =
-    let n = c .before in
+    let n = asked-around c in
     let w = around-wide n in
     let s = wide-start w in
     (s .pre .0 .counted, s .pre .1, n .nothing-around .ensures .right, omega (arith, n .nothing-around .ensures .room), omega (arith, lent n, w .wide .ensures, wide-else w .if1 .left))
 
 returns : tie.Need-returns
-returns c b e h p = let n = c .before in let s = count-start n in over-limit (tree s b) (s .args .out .now) (n .count-words .result) (n .count-words .ensures [] 0 b e h p) (c .if1 .taken)
+returns c b e h p = let n = over-count c in let s = count-start n in over-limit (tree s b) (s .args .out .now) (n .count-words .result) (n .count-words .ensures [] 0 b e h p) (c .if1 .taken)
 
 returns-2 : tie.Need-returns-2
 returns-2 c b e h p =
-    let w = c .before in
+    let w = over-wide c in
     let n = wide-count w in
     let s = count-start n in
     over-buffer (tree s b) (s .args .out .now) (n .count-words .result) (n .count-words .ensures [] 0 b e h p) (omega (arith, w .wide .ensures, c .if2 .taken))
