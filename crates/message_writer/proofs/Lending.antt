@@ -35,7 +35,7 @@ over-more A B xs ys zs m e y z =
     let g : zs ≡ B ++ drop (length B) (drop (length A) xs) = z ∙ ap (λ (r : List ℕ). B ++ drop (length B) r) d in
     joined-is m ys zs ∙ rw (f, g, length-append A B, drop-drop (length B) (length A) xs) (sym (append-assoc A B (drop (length A + length B) xs)))
 
--- The first writer has written m words, and left the buffer xs as ys, with its length: then the tail behind them is lent.
+-- The first writer says m words, and leaves the buffer xs as ys, with its length: then the tail behind them is lent.
 pub record Partly (xs ys : List ℕ) (m : ℕ) : Type 0 where
   pub within : m ≤ length xs
   pub kept : length ys ≡ length xs

@@ -24,8 +24,8 @@ pub record NoneAround (a : Around) : Type 0 where
   pub none : indicesOf a ≡ []
   pub room : a .first ≡ 64
 
--- r holds the receipts around the body of a part of that kind and start, whose word has the index: one more than around it, at
--- most
+-- r holds the receipts around the body of a part of that kind and start, whose word has the index: those around the part, and
+-- at most one more
 pub record BodyAround (around : Around) (kind start index : ℕ) (r : Around) : Type 0 where
   pub right : Right r
   pub room : around .first ≤ r .first + 1
