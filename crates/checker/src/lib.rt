@@ -30,7 +30,7 @@ ghost use Rattle.rules.specs.Rule.{greatestRuleName};
 ghost use Rattle.closure_machine.specs.Closure.{Closure, unfolded, unfoldMachine};
 ghost use Rattle.closures.specs.Represents.{boundIn, Ready, Represents};
 ghost use Rattle.stages.specs.Visits.{walkedOf};
-ghost use Rattle.message_writer.specs.Write.{write};
+ghost use Rattle.written_trees.specs.Write.{write};
 ghost use Rattle.writer.specs.Bodies.{Scripted};
 ghost use Rattle.writer.specs.Room.{answered, buffered};
 ghost use Rattle.plain_call.specs.Call.{accepted, refusal, walked, asking, terms, answer, finish as finished};

@@ -3,18 +3,20 @@ use Prim.Native.Nat.{ℕ, suc, _+_, _-_, _≤_, _<_}
 use mathlib.Core.List.{List, [], _∷_, _++_, append-assoc, append-nil}
 use mathlib.Core.Path.{_≡_, refl, sym, ap, _∙_}
 use native.Mathlib.Omega.{arith}
-use lib.ListN.{length, drop, length-append, length-drop, drop-of-length-le}
+use lib.ListN.{length, drop, getD, length-append, length-drop, drop-of-length-le}
 use lib.Seq.{drop-nil}
 use borrow.Author.Tests.{le-leb, lt-leb}
 use Rattle.messages.specs.Words.{word}
 use Rattle.messages.specs.Message.{Message}
 use Rattle.messages.specs.Spelling.{spelled, messageAt}
-use Rattle.bindings.specs.Resolve.{resolve}
+use Rattle.bindings.specs.Resolve.{resolve, bindingsIn}
+use Rattle.message_words.specs.Words.{firstWord, boundAt}
 use Rattle.slices.specs.Sums.{capped}
-use Rattle.bindings.specs.Passes.{firsts}
+use Rattle.bindings.specs.Passes.{firsts, allItems, ownItems}
 use Rattle.slices.proofs.Capping.{whole-count, below-count}
+use Rattle.bindings.proofs.Passing.{one-message, given-items}
 use Rattle.bindings.proofs.Counting.{drop-within}
-use Rattle.message_writer.specs.Write.{Indices, writeMessage, whole}
+use Rattle.written_trees.specs.Write.{Indices, writeMessage, whole}
 use Rattle.message_writer.specs.Passes.{allWritten, link, strung}
 use Rattle.message_writer.proofs.Words.{some-words, one-written}
 
@@ -55,11 +57,16 @@ pub strung-none : (ix : Indices) (l o : ℕ) (x : List Message) → x ≡ [] →
 unfolding strung
 strung-none ix l o x e = rw (e, drop-nil {A = Message} o)
 
+-- a variable with a binding has the items of that binding's message
+pub given-own : (script vs ps ws : List ℕ) (k : ℕ) → length ps ≡ length vs → k < length vs → k ≡ boundAt (firstWord ws) vs → {us qs g : List ℕ} → us ≡ drop (k + 1) vs → qs ≡ drop (k + 1) ps → g ≡ drop (getD ps k 0) script
+    → allItems (bindingsIn script us qs) (firsts 1 (spelled g)) ≡ ownItems (bindingsIn script vs ps) ws
+given-own script vs ps ws k a h b e₁ e₂ e₃ = rw (e₁, e₂, e₃) (one-message _ _ ∙ given-items script vs ps a k h ws b)
+
 -- the item that a message is as a whole
 pub strung-single : (ix : Indices) (σ : List (ℕ × Message)) (n : ℕ) (x : List Message) (l : List ℕ) → x ≡ resolve σ (messageAt l) ∷ []
     → link n ++ allWritten ix σ (firsts 1 (spelled l)) ≡ strung ix n x
 unfolding strung
-strung-single ix σ n x l e = rw (e, one-written ix σ l) (sym (append-nil (link n ++ writeMessage ix (resolve σ (messageAt l)))))
+strung-single ix σ n x l e = rw (e, one-written ix σ {l = l} refl) (sym (append-nil (link n ++ writeMessage ix (resolve σ (messageAt l)))))
 
 -- Where what is written is short, the number of the items is the one that is kept.
 exact : (ix : Indices) (l o c : ℕ) (a : List Message) → c ≡ capped (length a) → o < c → o + length (strung ix l (drop o a)) < 4294967295 → c ≡ length a
@@ -81,11 +88,11 @@ items-none ix o c is e h p =
     let d : drop o is ≡ [] = drop-of-length-le is {i = o} (omega arith) in
     rw d (unfold whole writeMessage in refl)
 
-pub items-some : (ix : Indices) (o c : ℕ) (is : List Message) → c ≡ capped (length is) → o < c → o + length (writeMessage ix (whole (drop o is))) < 4294967295
-    → strung ix (c - o) (drop o is) ≡ writeMessage ix (whole (drop o is))
-items-some ix o c is e h w =
+pub items-some : (ix : Indices) (o c : ℕ) (is : List Message) → c ≡ capped (length is) → o < c → {x : List Message} → x ≡ is → o + length (writeMessage ix (whole (drop o is))) < 4294967295
+    → strung ix (c - o) (drop o x) ≡ writeMessage ix (whole (drop o is))
+items-some ix o c is e h f w =
     let u : o < length is = below-count (length is) o c e h in
     let t : strung ix (length (drop o is)) (drop o is) ≡ writeMessage ix (whole (drop o is)) = strung-whole ix (length (drop o is)) (drop o is) refl (omega (arith, length-drop o is)) in
     let k : c ≡ length is = exact ix (length (drop o is)) o c is e h (omega (arith, ap length t)) in
     let z : c - o ≡ length (drop o is) = omega (arith, length-drop o is) in
-    rw z t
+    rw (f, z) t

@@ -3,4 +3,3 @@ pub mod Lending
 pub mod Receipts
 pub mod Words
 pub mod Items
-pub mod Trees

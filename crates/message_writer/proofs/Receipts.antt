@@ -9,16 +9,9 @@ use borrow.Author.Tests.{eq-eqb, ne-eqb, eqb-true, eqb-false}
 use Rattle.message_words.specs.Words.{place}
 use Rattle.slices.proofs.Tests.{byTest}
 use Rattle.slices.proofs.Tails.{drop-set}
-use Rattle.message_writer.specs.Write.{Indices, newIndex}
+use Rattle.written_trees.specs.Write.{newIndex}
+use Rattle.written_trees.proofs.Trees.{new-hit, new-miss}
 use Rattle.message_writer.specs.Indices.{indicesIn, Indexed}
-
-new-hit : (v u n : ℕ) (ix : Indices) → u ≡ v → newIndex ((v, n) ∷ ix) u ≡ n
-unfolding newIndex
-new-hit v u n ix e = rw (eq-eqb v u (sym e))
-
-new-miss : (v u n : ℕ) (ix : Indices) → (u ≡ v → ⊥) → newIndex ((v, n) ∷ ix) u ≡ newIndex ix u
-unfolding newIndex
-new-miss v u n ix h = rw (ne-eqb v u (λ z. h (sym z)))
 
 new-at : (vs is : List ℕ) (u : ℕ) → length is ≡ length vs → newIndex (indicesIn vs is) u ≡ getD is (place vs u) 0
 unfolding indicesIn place
@@ -26,8 +19,8 @@ new-at [] [] u l = unfold newIndex in refl
 new-at [] (i ∷ is) u l = absurd (omega arith)
 new-at (v ∷ vs) [] u l = absurd (omega arith)
 new-at (v ∷ vs) (i ∷ is) u l =
-    byTest (eqb u v) (λ e. rw e (new-hit v u i (indicesIn vs is) (eqb-true u v e)))
-    (λ e. rw e (new-miss v u i (indicesIn vs is) (eqb-false u v e) ∙ new-at vs is u (omega arith)))
+    byTest (eqb u v) (λ e. rw e (new-hit v u i (indicesIn vs is) (eq-eqb v u (sym (eqb-true u v e)))))
+    (λ e. rw e (new-miss v u i (indicesIn vs is) (ne-eqb v u (λ z. eqb-false u v e (sym z))) ∙ new-at vs is u (omega arith)))
 
 past : (is : List ℕ) (k : ℕ) → length is ≤ k → getD is k 0 ≡ 0
 past [] k h = refl

@@ -1,12 +1,12 @@
 -- A pass over the words of messages writes each message whole. Assumes nothing.
-use Prim.Native.Nat.{ℕ, zero, suc, _+_, _-_, _≤_, _<_}
+use Prim.Native.Nat.{ℕ, zero, suc, _+_, _-_, _*_, _^_, _≤_, _<_}
 use mathlib.Core.Bool.{Bool, true, false, cond}
 use mathlib.Core.List.{List, [], _∷_, _++_, append-assoc, append-nil}
 use mathlib.Core.Path.{_≡_, refl, sym, ap, _∙_}
 use native.Mathlib.Omega.{arith}
 use native.Mathlib.Nat.{add-zero}
 use lib.Dec.{eqb, leb}
-use lib.ListN.{length, drop, getD, length-append}
+use lib.ListN.{length, drop, getD, length-append, length-drop}
 use lib.Seq.{drop-drop}
 use borrow.Author.Tests.{leb-true}
 use Rattle.messages.specs.Words.{word, kind, operand, nameFits}
@@ -16,14 +16,16 @@ use Rattle.messages.specs.Spelling.{top, push, spelled, messageAt}
 use Rattle.messages.specs.declared.MessageWord.{MessageWord}
 use Rattle.messages.specs.declared.MessageWord.the-variants.{Name, Variable, Enter, Exit, Open, Empty, Path, Unfit}
 use Rattle.bindings.specs.Resolve.{resolve, bindingsIn}
+use Rattle.bindings.specs.Measures.{Kept, itemCount}
 use Rattle.held_bindings.specs.Sizes.{size, itemsSize}
 use Rattle.message_words.specs.Words.{firstWord, shapeOf, arityOf, boundAt}
 use Rattle.bindings.specs.Passes.{firsts}
 use Rattle.slices.proofs.Tests.{byTest}
 use Rattle.bindings.proofs.Resolving.{resolve-name, resolve-enter, resolve-exit, resolve-opens, resolve-empty, resolve-path}
+use Rattle.bindings.proofs.Counting.{kept-drop}
 use Rattle.message_words.proofs.FirstWords.{bound, bound-variable}
-use Rattle.bindings.proofs.Passing.{firsts-first, Free, given-place}
-use Rattle.message_writer.specs.Write.{Indices, writeMessage, whole}
+use Rattle.bindings.proofs.Passing.{firsts-first, Free, given-place, room}
+use Rattle.written_trees.specs.Write.{Indices, writeMessage, whole}
 use Rattle.message_writer.specs.Passes.{allWritten, plainWord}
 
 -- how many words a message is written with, and an action's items
@@ -105,9 +107,9 @@ pub none-written : (ix : Indices) (σ : List (ℕ × Message)) (p : ℕ) (s : Li
 unfolding allWritten firsts
 none-written ix σ p s e = rw e
 
-pub one-written : (ix : Indices) (σ : List (ℕ × Message)) (l : List ℕ) → allWritten ix σ (firsts 1 (spelled l)) ≡ writeMessage ix (resolve σ (messageAt l))
+pub one-written : (ix : Indices) (σ : List (ℕ × Message)) {l ws : List ℕ} → l ≡ ws → allWritten ix σ (firsts 1 (spelled l)) ≡ writeMessage ix (resolve σ (messageAt ws))
 unfolding allWritten firsts messageAt
-one-written ix σ l = append-nil (writeMessage ix (resolve σ (top (spelled l))))
+one-written ix σ {l} {ws} e = rw e (append-nil (writeMessage ix (resolve σ (top (spelled ws)))))
 
 -- a word that is no variable with a binding stands for itself, and what stands in it comes behind
 written-word : (ix : Indices) (σ : List (ℕ × Message)) (m : MessageWord) (p : ℕ) (s : List Message) → Free σ m
@@ -124,12 +126,12 @@ written-word ix σ Path p s f =
     rw (resolve-path, e, drop-drop 1 1 s) (ap (λ (r : List ℕ). word 14 0 ∷ r) (append-assoc (writeMessage ix (resolve σ (top s))) (writeMessage ix (resolve σ (top (drop 1 s)))) (allWritten ix σ (firsts p (drop 2 s)))))
 written-word ix σ Unfit p s f = rw (resolve-empty, add-zero p)
 
-pub written-first : (ix : Indices) (σ : List (ℕ × Message)) (l : List ℕ) (p : ℕ) → 0 < p → Free σ (firstWord l)
-    → (plainWord ix (firstWord l) ∷ []) ++ allWritten ix σ (firsts (p - 1 + arityOf (firstWord l)) (spelled (drop 1 l))) ≡ allWritten ix σ (firsts p (spelled l))
-written-first ix σ l zero h f = absurd (omega arith)
-written-first ix σ l (suc p) h f =
+pub written-first : (ix : Indices) (σ : List (ℕ × Message)) (l : List ℕ) (p : ℕ) → 0 < p → Free σ (firstWord l) → {w a : ℕ} {r : List ℕ} → w ≡ plainWord ix (firstWord l) → a ≡ arityOf (firstWord l) → r ≡ drop 1 l
+    → (w ∷ []) ++ allWritten ix σ (firsts (p - 1 + a) (spelled r)) ≡ allWritten ix σ (firsts p (spelled l))
+written-first ix σ l zero h f e₁ e₂ e₃ = absurd (omega arith)
+written-first ix σ l (suc p) h f e₁ e₂ e₃ =
     let q : suc p - 1 ≡ p = omega arith in
-    rw (q, firsts-first (suc p) l) (sym (written-word ix σ (firstWord l) p (spelled (drop 1 l)) f))
+    rw (q, e₁, e₂, e₃, firsts-first (suc p) l) (sym (written-word ix σ (firstWord l) p (spelled (drop 1 l)) f))
 
 -- a variable with a binding stands for the message of that binding, after the older ones
 written-variable : (ix : Indices) (σ : List (ℕ × Message)) (m : MessageWord) (v p : ℕ) (s : List Message) → m ≡ Variable v
@@ -138,10 +140,29 @@ unfolding allWritten firsts push top
 written-variable ix σ m v p s e = rw e
 
 pub written-bound : (ix : Indices) (script vs ps l : List ℕ) (p k : ℕ) → 0 < p → length ps ≡ length vs → k ≡ boundAt (firstWord l) vs → k < length vs
-    → allWritten ix (bindingsIn script (drop (k + 1) vs) (drop (k + 1) ps)) (firsts 1 (spelled (drop (getD ps k 0) script))) ++ allWritten ix (bindingsIn script vs ps) (firsts (p - 1) (spelled (drop 1 l)))
-    ≡ allWritten ix (bindingsIn script vs ps) (firsts p (spelled l))
-written-bound ix script vs ps l zero k z a b h = absurd (omega arith)
-written-bound ix script vs ps l (suc p) k z a b h =
+    → {us qs g r : List ℕ} → us ≡ drop (k + 1) vs → qs ≡ drop (k + 1) ps → g ≡ drop (getD ps k 0) script → r ≡ drop 1 l
+    → allWritten ix (bindingsIn script us qs) (firsts 1 (spelled g)) ++ allWritten ix (bindingsIn script vs ps) (firsts (p - 1) (spelled r)) ≡ allWritten ix (bindingsIn script vs ps) (firsts p (spelled l))
+written-bound ix script vs ps l zero k z a b h e₁ e₂ e₃ e₄ = absurd (omega arith)
+written-bound ix script vs ps l (suc p) k z a b h {us} {qs} e₁ e₂ e₃ e₄ =
     let q : suc p - 1 ≡ p = omega arith in
     elim (bound-variable vs (firstWord l) k b h)
-    [ bound v e g ↦ rw (q, firsts-first (suc p) l, one-written ix (bindingsIn script (drop (k + 1) vs) (drop (k + 1) ps)) (drop (getD ps k 0) script), given-place script vs ps a k h v g) (sym (written-variable ix (bindingsIn script vs ps) (firstWord l) v p (spelled (drop 1 l)) e)) ]
+    [ bound v e g ↦ rw (q, firsts-first (suc p) l, one-written ix (bindingsIn script us qs) e₃, e₁, e₂, e₄, given-place script vs ps a k h v g) (sym (written-variable ix (bindingsIn script vs ps) (firstWord l) v p (spelled (drop 1 l)) e)) ]
+
+-- what stands behind the first word is less
+
+pub less-behind : {ws : List ℕ} (l : List ℕ) (p a : ℕ) → ws ≡ drop 1 l → 0 < p → a ≤ arityOf (firstWord l) → (p - 1 + a + length ws ≤ p + length l) × (3 * length ws + (p - 1 + a) < 3 * length l + p)
+less-behind l p a e h f = rw e (room l p a 0 h f)
+
+-- what is lent to the writer of a binding's message: the script's words from an index on, and the older bindings
+
+pub few-words : {ws : List ℕ} (script : List ℕ) (at : ℕ) → ws ≡ drop at script → length script * 4 < 2 ^ 63 → 1 + length ws < 2 ^ 64
+few-words script at e h = omega (arith, ap length e, length-drop at script)
+
+pub fewer-older : {ws : List ℕ} (vs : List ℕ) (k : ℕ) → ws ≡ drop (k + 1) vs → k < length vs → length ws < length vs
+fewer-older vs k e h = omega (arith, ap length e, length-drop (k + 1) vs)
+
+pub older-aligned : {ws us : List ℕ} (vs ps : List ℕ) (k : ℕ) → ws ≡ drop k vs → us ≡ drop k ps → length ps ≡ length vs → length us ≡ length ws
+older-aligned vs ps k e f h = omega (arith, ap length e, ap length f, length-drop k vs, length-drop k ps)
+
+pub older-kept : {script vs ps cs us qs ds : List ℕ} → Kept itemCount script vs ps cs → (k : ℕ) → us ≡ drop k vs → qs ≡ drop k ps → ds ≡ drop k cs → Kept itemCount script us qs ds
+older-kept ok k e₁ e₂ e₃ = rw (e₁, e₂, e₃) (kept-drop ok k)

@@ -9,10 +9,16 @@ use lib.ListN.{length, drop}
 unfoldable pub over : (words buffer : List ℕ) → List ℕ
 over ws buffer = ws ++ drop (length ws) buffer
 
--- what a writer does that is lent the buffer `before`, leaves `after` and answers r: where the words fit they are written,
--- and r is their number
+-- the words stand at the start of the buffer, which was `before` and is `after`, and r is their number
+pub record Front (words before after : List ℕ) (r : ℕ) : Type 0 where
+  pub number : r ≡ length words
+  pub content : after ≡ over words before
+
+-- what a writer does that is lent the buffer `before`, leaves `after` and answers r: it says no more words than there are;
+-- where the words fit they are written, and r is their number
 pub record Wrote (words before after : List ℕ) (r : ℕ) : Type 0 where
-  pub right : length words ≤ length before → (r ≡ length words) × (after ≡ over words before)
+  pub within : r ≤ length before
+  pub right : length words ≤ length before → Front words before after r
 
 -- To unfold this is to unfold every definition of this module: for a proof by computation.
 unfoldable pub computing : Unit {0}

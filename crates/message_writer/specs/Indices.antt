@@ -4,7 +4,7 @@ use Prim.Native.Nat.{ℕ, _<_}
 use mathlib.Core.List.{List, [], _∷_}
 use mathlib.Core.Path.{_≡_}
 use lib.ListN.{length, getD}
-use Rattle.message_writer.specs.Write.{Indices}
+use Rattle.written_trees.specs.Write.{Indices}
 
 -- "VAR with the REC's new index": each variable with its receipt's new index
 unfoldable pub indicesIn : (receipts indices : List ℕ) → Indices

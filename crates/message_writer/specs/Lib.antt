@@ -1,5 +1,4 @@
--- What the contracts of `message_writer` cite, and the tree's written form. Assumes nothing: these are definitions.
-pub mod Write
+-- What the contracts of `message_writer` cite. Assumes nothing: these are definitions.
 pub mod Buffer
 pub mod Indices
 pub mod Passes

@@ -9,7 +9,7 @@ use Rattle.messages.specs.Message.{Message}
 use Rattle.messages.specs.declared.MessageWord.{MessageWord}
 use Rattle.messages.specs.declared.MessageWord.the-variants.{Name, Variable, Enter, Exit, Open, Empty, Path, Unfit}
 use Rattle.bindings.specs.Resolve.{resolve}
-use Rattle.message_writer.specs.Write.{Indices, newIndex, writeMessage}
+use Rattle.written_trees.specs.Write.{Indices, newIndex, writeMessage}
 
 -- the words of the messages, one behind another, each after the bindings
 unfoldable pub allWritten : Indices → List (ℕ × Message) → List Message → List ℕ

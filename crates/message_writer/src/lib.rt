@@ -22,15 +22,14 @@ ghost use Rattle.messages.specs.declared.MessageWord.the-variants.{Name};
 ghost use Rattle.bindings.specs.Resolve.{resolve, bindingsIn};
 ghost use Rattle.bindings.specs.Measures.{Kept, itemCount};
 ghost use Rattle.bindings.specs.Passes.{firsts, allItems, ownItems};
-ghost use Rattle.message_writer.specs.Write.{newIndex, writeMessage, whole};
+ghost use Rattle.written_trees.specs.Write.{newIndex, writeMessage, whole};
 ghost use Rattle.message_writer.specs.Buffer.{Wrote};
 ghost use Rattle.message_writer.specs.Indices.{indicesIn, Indexed};
 ghost use Rattle.message_writer.specs.Passes.{allWritten, plainWord, link, strung};
 
 // Writes one word, if there is room; says how many words it wrote.
 pub fn write_word(w: u32, out: &mut [u32]) -> usize
-    ensures within { λ r. ⌜ r ≤ length (now (out .entry)) ⌝ }
-    ensures written { λ r. ⌜ Wrote (w ∷ []) (now (out .entry)) (now (out .exit)) r ⌝ }
+    ensures { λ r. ⌜ Wrote (w ∷ []) (now (out .entry)) (now (out .exit)) r ⌝ }
 {
     if out.len() == 0 {
         return 0;
@@ -80,8 +79,7 @@ fn write_from(
     out: &mut [u32],
 ) -> usize
     requires { ⌜ (pending + length (now words) < 2 ^ 64) × (length (now places) ≡ length (now variables)) × Indexed (now receipts) (now indices) ⌝ }
-    ensures within { λ r. ⌜ r ≤ length (now (out .entry)) ⌝ }
-    ensures written { λ r. ⌜ Wrote (allWritten (indicesIn (now (receipts .entry)) (now (indices .entry))) (bindingsIn (now (script .entry)) (now (variables .entry)) (now (places .entry))) (firsts pending (spelled (now (words .entry))))) (now (out .entry)) (now (out .exit)) r ⌝ }
+    ensures { λ r. ⌜ Wrote (allWritten (indicesIn (now (receipts .entry)) (now (indices .entry))) (bindingsIn (now (script .entry)) (now (variables .entry)) (now (places .entry))) (firsts pending (spelled (now (words .entry))))) (now (out .entry)) (now (out .exit)) r ⌝ }
 {
     if pending == 0 {
         return 0;
@@ -138,8 +136,7 @@ pub fn write_message(
     out: &mut [u32],
 ) -> usize
     requires { ⌜ (length (now places) ≡ length (now variables)) × Indexed (now receipts) (now indices) ⌝ }
-    ensures within { λ r. ⌜ r ≤ length (now (out .entry)) ⌝ }
-    ensures written { λ r. ⌜ Wrote (writeMessage (indicesIn (now (receipts .entry)) (now (indices .entry))) (resolve (bindingsIn (now (script .entry)) (now (variables .entry)) (now (places .entry))) (messageAt (drop at (now (script .entry)))))) (now (out .entry)) (now (out .exit)) r ⌝ }
+    ensures { λ r. ⌜ Wrote (writeMessage (indicesIn (now (receipts .entry)) (now (indices .entry))) (resolve (bindingsIn (now (script .entry)) (now (variables .entry)) (now (places .entry))) (messageAt (drop at (now (script .entry)))))) (now (out .entry)) (now (out .exit)) r ⌝ }
 {
     write_from(
         script,
@@ -155,8 +152,7 @@ pub fn write_message(
 
 // Writes PATH, if more than one item is still to be written.
 fn write_link(left: u32, out: &mut [u32]) -> usize
-    ensures within { λ r. ⌜ r ≤ length (now (out .entry)) ⌝ }
-    ensures written { λ r. ⌜ Wrote (link left) (now (out .entry)) (now (out .exit)) r ⌝ }
+    ensures { λ r. ⌜ Wrote (link left) (now (out .entry)) (now (out .exit)) r ⌝ }
 {
     if left <= 1 {
         return 0;
@@ -186,8 +182,7 @@ fn write_own(
     out: &mut [u32],
 ) -> usize
     requires { ⌜ Kept itemCount (now script) (now variables) (now places) (now counts) × Indexed (now receipts) (now indices) × (offset + length (now out) < 4294967295) × (offset < length (ownItems (bindingsIn (now script) (now variables) (now places)) (now words))) ⌝ }
-    ensures within { λ r. ⌜ r ≤ length (now (out .entry)) ⌝ }
-    ensures written { λ r. ⌜ Wrote (strung (indicesIn (now (receipts .entry)) (now (indices .entry))) left (drop offset (ownItems (bindingsIn (now (script .entry)) (now (variables .entry)) (now (places .entry))) (now (words .entry))))) (now (out .entry)) (now (out .exit)) r ⌝ }
+    ensures { λ r. ⌜ Wrote (strung (indicesIn (now (receipts .entry)) (now (indices .entry))) left (drop offset (ownItems (bindingsIn (now (script .entry)) (now (variables .entry)) (now (places .entry))) (now (words .entry))))) (now (out .entry)) (now (out .exit)) r ⌝ }
 {
     let k = bound(first_word(words), variables);
     if k < variables.len() {
@@ -236,8 +231,7 @@ fn write_rest(
     out: &mut [u32],
 ) -> usize
     requires { ⌜ (pending + length (now words) < 2 ^ 64) × Kept itemCount (now script) (now variables) (now places) (now counts) × Indexed (now receipts) (now indices) × (offset + length (now out) < 4294967295) ⌝ }
-    ensures within { λ r. ⌜ r ≤ length (now (out .entry)) ⌝ }
-    ensures written { λ r. ⌜ Wrote (strung (indicesIn (now (receipts .entry)) (now (indices .entry))) left (drop offset (allItems (bindingsIn (now (script .entry)) (now (variables .entry)) (now (places .entry))) (firsts pending (spelled (now (words .entry))))))) (now (out .entry)) (now (out .exit)) r ⌝ }
+    ensures { λ r. ⌜ Wrote (strung (indicesIn (now (receipts .entry)) (now (indices .entry))) left (drop offset (allItems (bindingsIn (now (script .entry)) (now (variables .entry)) (now (places .entry))) (firsts pending (spelled (now (words .entry))))))) (now (out .entry)) (now (out .exit)) r ⌝ }
 {
     if pending == 0 {
         return 0;
@@ -303,8 +297,7 @@ pub fn write_items(
     out: &mut [u32],
 ) -> usize
     requires { ⌜ Kept itemCount (now script) (now variables) (now places) (now counts) × Indexed (now receipts) (now indices) × (offset + length (now out) < 4294967295) ⌝ }
-    ensures within { λ r. ⌜ r ≤ length (now (out .entry)) ⌝ }
-    ensures written { λ r. ⌜ Wrote (writeMessage (indicesIn (now (receipts .entry)) (now (indices .entry))) (whole (drop offset (items (resolve (bindingsIn (now (script .entry)) (now (variables .entry)) (now (places .entry))) (messageAt (drop at (now (script .entry))))))))) (now (out .entry)) (now (out .exit)) r ⌝ }
+    ensures { λ r. ⌜ Wrote (writeMessage (indicesIn (now (receipts .entry)) (now (indices .entry))) (whole (drop offset (items (resolve (bindingsIn (now (script .entry)) (now (variables .entry)) (now (places .entry))) (messageAt (drop at (now (script .entry))))))))) (now (out .entry)) (now (out .exit)) r ⌝ }
 {
     let n = item_count(script, at, variables, places, counts);
     if n <= offset {

@@ -29,8 +29,8 @@ use Rattle.scripts.proofs.Tabled.{script-tabled}
 use Rattle.machine.specs.PlainMachine.{Machine, weightOf}
 use Rattle.slices.proofs.Tests.{byTest}
 use Rattle.machine.proofs.Everywhere.{Everywhere, map-everywhere, settle-everywhere}
-use Rattle.message_writer.specs.Write.{Indices, newIndex, writeMessage, whole, writeHead, within, writeInside, write, writePart}
-use Rattle.message_writer.proofs.Trees.{write-part}
+use Rattle.written_trees.specs.Write.{Indices, newIndex, writeMessage, whole, writeHead, within, writeInside, write, writePart}
+use Rattle.written_trees.proofs.Trees.{write-part, some-written, receipt-written, output-written, new-hit, new-miss}
 use Rattle.calculus.specs.Calculus.{Process, input}
 use Rattle.calculus.specs.TreeProcess.{piece, process}
 use Rattle.calculus.proofs.Variables.{eqb-same, free, free-other}
@@ -44,7 +44,7 @@ use Rattle.plain_call.proofs.Runs.{run-keeps, run-weighed}
 use Rattle.plain_call.proofs.Begun.{script-good}
 use Rattle.plain_call.proofs.Door.{Inked, held-all}
 use Rattle.plain_call.proofs.Rereading.{Fitting, Small, name-word, variable-word, enter-word, exit-word, open-word, empty-word, path-word, message-back}
-use Rattle.plain_call.proofs.Returning.{whole-free, whole-all, close-word, ambient-word, action-word, receipt-word, output-word, IsPart, part-all, AnyBack, body-back, new-hit, new-miss, small-more, receipt-written, output-written}
+use Rattle.plain_call.proofs.Returning.{whole-free, whole-all, close-word, ambient-word, action-word, receipt-word, output-word, IsPart, part-all, AnyBack, body-back, small-more}
 
 -- ---- the names
 
@@ -521,13 +521,6 @@ admitted-few : {A : Type 0} (l n : ℕ) → l ≤ 1024 → {x : Reading A} → J
 admitted-few l n m (denied h) = nested h
 admitted-few l n m (passed h) = let-in m h
 
-write-some : (ix : Indices) (i : ℕ) (b : Plain) → 1 ≤ length (write ix i b)
-unfolding write
-write-some ix i close = omega arith
-write-some ix i (part k h b r) =
-    let j : ℕ = i + length (writePart ix i h b) in
-    omega (arith, ap length (write-part ix i k h b r), length-append (writePart ix i h b) (write ix j r), write-some ix j r)
-
 -- THEOREM: the words of a tree without free variables, whose names are 1 to 255 and which has at most 64 parts, are let in just
 -- where they are at most 1,024 and nested at most 64 deep.
 read-only : (b : Plain) → Fits Any Sound b → Closed (process b) → parts b ≤ 64 → Admitted (length (write [] 0 b)) (nesting b) (readScript (write [] 0 b))
@@ -553,7 +546,7 @@ read-only b x o l = byTest (leb (length ws) 1024)
     small v = let z : 0 < 268435456 = omega arith in z
 
     some-words : leb 1 (length ws) ≡ true
-    some-words = le-leb 1 (length ws) (write-some [] 0 b)
+    some-words = le-leb 1 (length ws) (some-written [] 0 b)
 
 -- THEOREM: so of every tree that stands in a call, before the first move and after each.
 standing-admitted : (c : Call) (p : Script × Cursor) → readScript (c .script) ≡ got p → (k : ℕ) (m : Machine) → After c p k m → Admitted (length (written m)) (nesting (m .tree)) (readScript (written m))

@@ -14,7 +14,7 @@ use Rattle.messages.specs.declared.MessageWord.the-variants.{Name, Variable, En
 use Rattle.messages.proofs.Readings.{refuse≢got, bind-all, got-all}
 use Rattle.messages.proofs.Laws.{message-all}
 use Rattle.slices.proofs.Tests.{byTest}
-use Rattle.message_writer.specs.Write.{Indices, newIndex, writeMessage}
+use Rattle.written_trees.specs.Write.{Indices, newIndex, writeMessage}
 use Rattle.calculus.proofs.Congruences.{renamed}
 use Rattle.decision.proofs.Fits.{MessageAll}
 

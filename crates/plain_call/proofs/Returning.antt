@@ -20,8 +20,8 @@ use Rattle.scripts.specs.declared.PartWord.the-variants.{Close, Ambient, Action
 use Rattle.scripts.specs.Measures.{greatestName}
 use Rattle.scripts.proofs.Laws.{short}
 use Rattle.slices.proofs.Tests.{byTest}
-use Rattle.message_writer.specs.Write.{Indices, newIndex, writeMessage, whole, writeHead, within, writeInside, write, writePart}
-use Rattle.message_writer.proofs.Trees.{write-part}
+use Rattle.written_trees.specs.Write.{Indices, newIndex, writeMessage, whole, writeHead, within, writeInside, write, writePart}
+use Rattle.written_trees.proofs.Trees.{write-part, receipt-written, output-written, new-hit, new-miss}
 use Rattle.calculus.specs.Calculus.{Process, 𝟎, _‖_, input, _≅_}
 use Rattle.calculus.specs.TreeProcess.{prefix, piece, process}
 use Rattle.calculus.specs.Written.{writtenPart, written}
@@ -264,14 +264,6 @@ module _ (F : Message → Head Message) (h : PlainHead) (m : Message) (wd : ℕ)
       room-beside = omega (arith, all, long)
 
 -- a receipt
-pub new-hit : (v u i : ℕ) (ix : Indices) → eqb v u ≡ true → newIndex ((v, i) ∷ ix) u ≡ i
-unfolding newIndex
-new-hit v u i ix t = rw t
-
-pub new-miss : (v u i : ℕ) (ix : Indices) → eqb v u ≡ false → newIndex ((v, i) ∷ ix) u ≡ newIndex ix u
-unfolding newIndex
-new-miss v u i ix t = rw t
-
 pub small-more : (v i : ℕ) (ix : Indices) → Fitting i → Small ix → Small ((v, i) ∷ ix)
 small-more v i ix l s u = byTest (eqb v u)
     (λ t. subst Fitting (sym (new-hit v u i ix t)) l)
@@ -306,10 +298,6 @@ unfolding piece writtenPart shape
 receipt-says v b ix i j l x e p f n ρ σ a =
     ap (λ (z : ℕ). cell (hear n) (shape (suc n) (bound ρ z n) p) nil) e
     ∙ ap (λ (z : Shape). cell (hear n) z nil) (f (suc n) (bound ρ i n) (bound σ v n) (receipt-alike v i j n ix ρ σ (process b) l a))
-
-pub receipt-written : (ix : Indices) (i v : ℕ) (b : Plain) → writePart ix i (Head.receipt v) b ≡ word 3 0 ∷ write ((v, i) ∷ ix) (i + 1) b
-unfolding writePart writeHead writeInside within
-receipt-written ix i v b = refl
 
 receipt-back : (v k : ℕ) (b r : Plain) → AnyBack b → AnyBack r → AnyBack (part k (Head.receipt v) b r)
 unfolding written partFrom total
@@ -376,10 +364,6 @@ receipt-back v k b r B R ix s f nest around c i rest ei e l =
     room-beside = omega (arith, all, long)
 
 -- an output
-pub output-written : (ix : Indices) (i : ℕ) (m : Message) (b : Plain) → writePart ix i (Head.output m) b ≡ word 4 0 ∷ writeMessage ix m
-unfolding writePart writeHead writeInside
-output-written ix i m b = append-nil (word 4 0 ∷ writeMessage ix m)
-
 output-says : (m : Message) (b : Plain) (ix : Indices) (i : ℕ) (x : Message) → x ≡ renamed (newIndex ix) m → (p : Process)
     → (n : ℕ) (ρ σ : ℕ → ℕ) → Alike i ix ρ σ (piece (Head.output m) (process b)) → shape n ρ (writtenPart (Head.output x) p) ≡ shape n σ (piece (Head.output m) (process b))
 unfolding piece writtenPart shape free

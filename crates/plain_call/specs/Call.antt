@@ -13,7 +13,7 @@ use Rattle.scripts.specs.Script.{Script, readScript, started}
 use Rattle.scripts.specs.Measures.{greatestName}
 use Rattle.machine.specs.Moves.{Moved}
 use Rattle.machine.specs.PlainMachine.{move, Machine, weightOf}
-use Rattle.message_writer.specs.Write.{write}
+use Rattle.written_trees.specs.Write.{write}
 use Rattle.rules.specs.Rule.{Rule, greatestRuleName}
 use Rattle.rules.specs.ReadRule.{readWholeRule}
 use Rattle.decision.specs.Walk.{Count, Walked, stopped, says, Setting, walkFrom}

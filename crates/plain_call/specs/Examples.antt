@@ -18,7 +18,7 @@ use Rattle.scripts.specs.Measures.{movesBound}
 use Rattle.machine.specs.Bodies
 use Rattle.machine.specs.Moves
 use Rattle.machine.specs.PlainMachine
-use Rattle.message_writer.specs.Write
+use Rattle.written_trees.specs.Write
 use Rattle.rules.specs.Rule
 use Rattle.rules.specs.ReadRule
 use Rattle.decision.specs.Walk

@@ -3,7 +3,7 @@
 use Prim.Native.Nat.{ℕ, suc, max}
 use Rattle.messages.specs.Message.{Message, name, variable, enter, exit, opens, empty, path}
 use Rattle.scripts.specs.Tree.{ambient, action, receipt, output, close, part, PlainHead, Plain}
-use Rattle.message_writer.specs.Write.{whole}
+use Rattle.written_trees.specs.Write.{whole}
 
 -- "the number of words A, B, C, E whose message it stands in": of a message's words the greatest, the first word's being 0
 unfoldable pub messageNesting : Message → ℕ

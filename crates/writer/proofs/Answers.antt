@@ -8,31 +8,31 @@ use lib.Seq.{length-take-le}
 use borrow.Author.Tests.{le-leb, lt-leb}
 use Rattle.slices.specs.Sums.{capped}
 use Rattle.message_writer.specs.Buffer.{over, Wrote}
-use Rattle.writer.specs.Room.{room, answered, buffered}
+use Rattle.writer.specs.Room.{room, answered, buffered, Fitted}
 use Rattle.writer.specs.declared.Fitting.the-variants.{Words, Refused}
 
 -- n is the number of the words, as far as it is counted
 module _ (ws buffer : List ℕ) (n : ℕ) (e : n ≡ capped (length ws)) where
-  too-long : room buffer < length ws → (Refused 19 0 ≡ answered ws buffer) × (buffer ≡ buffered ws buffer)
+  too-long : room buffer < length ws → Fitted ws buffer buffer (Refused 19 0)
   unfolding answered buffered
-  too-long h = let t = lt-leb (length ws) (room buffer) h in (rw t, rw t)
+  too-long h = let t = lt-leb (length ws) (room buffer) h in record { said = rw t; left = rw t }
 
-  pub over-limit : 268435456 < n → (Refused 19 0 ≡ answered ws buffer) × (buffer ≡ buffered ws buffer)
+  pub over-limit : 268435456 < n → Fitted ws buffer buffer (Refused 19 0)
   unfolding capped room
   over-limit h = too-long (omega arith)
 
-  pub over-buffer : length buffer < n → (Refused 19 0 ≡ answered ws buffer) × (buffer ≡ buffered ws buffer)
+  pub over-buffer : length buffer < n → Fitted ws buffer buffer (Refused 19 0)
   unfolding capped room
   over-buffer h = too-long (omega arith)
 
   -- the first u words are lent, and come back as ys
-  pub fitted : n ≤ 268435456 → (u : ℕ) → u ≡ n → u ≤ length buffer → (ys : List ℕ) (r : ℕ) → Wrote ws (take u buffer) ys r → (Words n ≡ answered ws buffer) × (ys ++ drop u buffer ≡ buffered ws buffer)
+  pub fitted : n ≤ 268435456 → (u : ℕ) → u ≡ n → u ≤ length buffer → (ys : List ℕ) (r : ℕ) → Wrote ws (take u buffer) ys r → Fitted ws buffer (ys ++ drop u buffer) (Words n)
   unfolding capped room answered buffered over
   fitted h u g f ys r w =
       let l : n ≡ length ws = omega arith in
       let t = le-leb (length ws) (room buffer) (omega arith) in
       let k : length (take u buffer) ≡ u = length-take-le u buffer f in
-      let p : ys ≡ ws ++ drop (length ws) (take u buffer) = w .right (omega arith) .1 in
+      let p : ys ≡ ws ++ drop (length ws) (take u buffer) = w .right (omega arith) .content in
       let z : drop (length ws) (take u buffer) ≡ [] = drop-of-length-le (take u buffer) {i = length ws} (omega arith) in
       let y : ys ≡ ws = p ∙ ap (λ (x : List ℕ). ws ++ x) z ∙ append-nil ws in
-      (rw (t, l), rw (t, y, g ∙ l))
+      record { said = rw (t, l); left = rw (t, y, g ∙ l) }

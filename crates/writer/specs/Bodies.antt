@@ -9,7 +9,7 @@ use Rattle.scripts.specs.Tree.{Head, ambient, action, receipt, output, tops, pa
 use Rattle.scripts.specs.Represents.{Held}
 use Rattle.slices.specs.Sums.{capped}
 use Rattle.closure_machine.specs.Closure.{ClosureHead, Closure, Bindings, unfolded, unfoldHead}
-use Rattle.message_writer.specs.Write.{Indices, writeMessage, whole, write, writePart}
+use Rattle.written_trees.specs.Write.{Indices, writeMessage, whole, write, writePart}
 use Rattle.message_writer.specs.Buffer.{Wrote}
 
 -- "0 CLOSE. 1 AMB: message, body. 2 ACT (action): message, body. 3 REC (receipt): body .. 4 OUT (output): message.": who has a body
@@ -41,15 +41,17 @@ abbrev pub CountsPart : Bindings → (bodies : ℕ → List ℕ) (heads : ℕ �
 CountsPart σ bodies heads inside h fuel r =
     (ix : Indices) (i : ℕ) (b : Closure) → inside ≡ tops b → Held bodies heads b → parts b ≤ fuel → r ≡ capped (length (writePart ix i (unfoldHead σ h) (unfolded σ b)))
 
--- the words are written, the first of which has index i, of every closure whose top parts are `left`, if it has at most `fuel` parts
-abbrev pub Writes : Indices → Bindings → (bodies : ℕ → List ℕ) (heads : ℕ → ClosureHead) (left : List ℕ) (i fuel : ℕ) (before after : List ℕ) (r : ℕ) → Type 0
-Writes ix σ bodies heads left i fuel before after r =
-    (b : Closure) → left ≡ tops b → Held bodies heads b → parts b ≤ fuel → Wrote (write ix i (unfolded σ b)) before after r
+-- what a writer of a body does that is lent the buffer `before`, leaves `after` and answers r: it says no more words than there
+-- are; it writes the words, the first of which has index i, of every closure whose top parts are `left`, if that has at most
+-- `fuel` parts
+pub record Writes (ix : Indices) (σ : Bindings) (bodies : ℕ → List ℕ) (heads : ℕ → ClosureHead) (left : List ℕ) (i fuel : ℕ) (before after : List ℕ) (r : ℕ) : Type 0 where
+  pub within : r ≤ length before
+  pub written : (b : Closure) → left ≡ tops b → Held bodies heads b → parts b ≤ fuel → Wrote (write ix i (unfolded σ b)) before after r
 
--- the words are written of the part that has that head, whatever closure stands in it whose top parts are `inside`
-abbrev pub WritesPart : Indices → Bindings → (bodies : ℕ → List ℕ) (heads : ℕ → ClosureHead) (inside : List ℕ) (head : ClosureHead) (i fuel : ℕ) (before after : List ℕ) (r : ℕ) → Type 0
-WritesPart ix σ bodies heads inside h i fuel before after r =
-    (b : Closure) → inside ≡ tops b → Held bodies heads b → parts b ≤ fuel → Wrote (writePart ix i (unfoldHead σ h) (unfolded σ b)) before after r
+-- and so a writer of the part that has that head, whatever closure stands in it whose top parts are `inside`
+pub record WritesPart (ix : Indices) (σ : Bindings) (bodies : ℕ → List ℕ) (heads : ℕ → ClosureHead) (inside : List ℕ) (head : ClosureHead) (i fuel : ℕ) (before after : List ℕ) (r : ℕ) : Type 0 where
+  pub within : r ≤ length before
+  pub written : (b : Closure) → inside ≡ tops b → Held bodies heads b → parts b ≤ fuel → Wrote (writePart ix i (unfoldHead σ head) (unfolded σ b)) before after r
 
 -- To unfold this is to unfold every definition of this module: for a proof by computation.
 unfoldable pub computing : Unit {0}

@@ -3,6 +3,7 @@
 use Prim.Native.Nat.{ℕ, min}
 use mathlib.Core.Bool.{cond}
 use mathlib.Core.List.{List}
+use mathlib.Core.Path.{_≡_}
 use lib.Dec.{leb}
 use lib.ListN.{length}
 use Rattle.message_writer.specs.Buffer.{over}
@@ -21,6 +22,11 @@ answered ws buffer = cond (leb (length ws) (room buffer)) (Words (length ws)) (R
 -- the buffer after the call: written where the tree fits; else "the buffer isn't written"
 unfoldable pub buffered : (words buffer : List ℕ) → List ℕ
 buffered ws buffer = cond (leb (length ws) (room buffer)) (over ws buffer) buffer
+
+-- what the writer of a tree answers, the tree being written with these words, and what it leaves of the buffer
+pub record Fitted (words before after : List ℕ) (r : Fitting) : Type 0 where
+  pub said : r ≡ answered words before
+  pub left : after ≡ buffered words before
 
 -- To unfold this is to unfold every definition of this module: for a proof by computation.
 unfoldable pub computing : Unit {0}

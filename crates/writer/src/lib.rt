@@ -21,13 +21,13 @@ ghost use Rattle.bindings.specs.Resolve.{bindingsIn};
 ghost use Rattle.slices.specs.Sums.{capped};
 ghost use Rattle.bindings.specs.Measures.{Kept, itemCount};
 ghost use Rattle.held_bindings.specs.Sizes.{Cached};
-ghost use Rattle.closure_machine.specs.Closure.{Closure, Bindings, unfoldHead, unfolded};
+ghost use Rattle.closure_machine.specs.Closure.{Closure, unfoldHead, unfolded};
 ghost use Rattle.closures.specs.Represents.{headOf, heads};
-ghost use Rattle.message_writer.specs.Write.{Indices, writeHead, within, write};
+ghost use Rattle.written_trees.specs.Write.{Indices, writeHead, write};
 ghost use Rattle.message_writer.specs.Buffer.{Wrote};
 ghost use Rattle.message_writer.specs.Indices.{indicesIn, Indexed};
-ghost use Rattle.writer.specs.Room.{answered, buffered};
-ghost use Rattle.writer.specs.Around.{indicesOf, Right};
+ghost use Rattle.writer.specs.Room.{Fitted};
+ghost use Rattle.writer.specs.Around.{indicesOf, Right, NoneAround, BodyAround};
 ghost use Rattle.writer.specs.Bodies.{hasBody, writeLabel, Scripted, CountsPart, Counts, Writes, WritesPart};
 
 // The receipts around what is written, innermost first, from first on: their variables and their new indices.
@@ -233,7 +233,7 @@ pub fn count_words<'a>(
 
 // No receipts around.
 fn nothing_around() -> Around
-    ensures { λ r. ⌜ Right r × (indicesOf r ≡ []) × (r .first ≡ 64) ⌝ }
+    ensures { λ r. ⌜ NoneAround r ⌝ }
 {
     Around {
         variables: [0; 64],
@@ -245,7 +245,7 @@ fn nothing_around() -> Around
 // The receipts around the body of a part of that kind and start, whose word has the index.
 fn around_body(around: Around, kind: u8, start: u32, index: u32) -> Around
     requires { ⌜ Right around × (0 < around .first) × (index < 268435456) × (start < 65536) ⌝ }
-    ensures { λ r. ⌜ Right r × (around .first ≤ r .first + 1) × ((script : List ℕ) (σ : Bindings) (offset : ℕ) → indicesOf r ≡ within (unfoldHead σ (headOf script kind start offset)) index (indicesOf around)) ⌝ }
+    ensures { λ r. ⌜ BodyAround around kind start index r ⌝ }
 {
     if kind != 3 {
         return around;
@@ -284,8 +284,7 @@ fn write_label(
     out: &mut [u32],
 ) -> usize
     requires { ⌜ Kept itemCount (now script) (now variables) (now places) (now counts) × Indexed (now receipts) (now indices) × (start < 65536) × (offset + length (now out) < 4294967295) ⌝ }
-    ensures within { λ r. ⌜ r ≤ length (now (out .entry)) ⌝ }
-    ensures written { λ r. ⌜ Wrote (writeLabel (indicesIn (now (receipts .entry)) (now (indices .entry))) (unfoldHead (bindingsIn (now (script .entry)) (now (variables .entry)) (now (places .entry))) (headOf (now (script .entry)) kind start offset))) (now (out .entry)) (now (out .exit)) r ⌝ }
+    ensures { λ r. ⌜ Wrote (writeLabel (indicesIn (now (receipts .entry)) (now (indices .entry))) (unfoldHead (bindingsIn (now (script .entry)) (now (variables .entry)) (now (places .entry))) (headOf (now (script .entry)) kind start offset))) (now (out .entry)) (now (out .exit)) r ⌝ }
 {
     let at = wide(start);
     if kind == 2 {
@@ -320,8 +319,7 @@ fn write_head(
     out: &mut [u32],
 ) -> usize
     requires { ⌜ Kept itemCount (now script) (now variables) (now places) (now counts) × Right around × (start < 65536) × (offset + length (now out) < 4294967295) ⌝ }
-    ensures within { λ r. ⌜ r ≤ length (now (out .entry)) ⌝ }
-    ensures written { λ r. ⌜ Wrote (writeHead (indicesOf around) (unfoldHead (bindingsIn (now (script .entry)) (now (variables .entry)) (now (places .entry))) (headOf (now (script .entry)) kind start offset))) (now (out .entry)) (now (out .exit)) r ⌝ }
+    ensures { λ r. ⌜ Wrote (writeHead (indicesOf around) (unfoldHead (bindingsIn (now (script .entry)) (now (variables .entry)) (now (places .entry))) (headOf (now (script .entry)) kind start offset))) (now (out .entry)) (now (out .exit)) r ⌝ }
 {
     let receipts = around.variables;
     let indices = around.indices;
@@ -359,8 +357,7 @@ fn write_part<'a, 'b>(
     out: &'b mut [u32],
 ) -> usize
     requires { ⌜ Kept itemCount (now script) (now variables) (now places) (now counts) × Scripted (now starts) (now offsets) × Right around × (fuel < around .first) × (i < 64) × (0 < length (now out)) × (index + length (now out) ≤ 268435456) ⌝ }
-    ensures within { λ r. ⌜ r ≤ length (now (out .entry)) ⌝ }
-    ensures written { λ r. ⌜ WritesPart (indicesOf around) (bindingsIn (now (script .entry)) (now (variables .entry)) (now (places .entry))) (bodyIn (now (kids .entry))) (heads (now (script .entry)) (now (kinds .entry)) (now (starts .entry)) (now (offsets .entry))) (bodyIn (now (kids .entry)) i) (heads (now (script .entry)) (now (kinds .entry)) (now (starts .entry)) (now (offsets .entry)) i) index fuel (now (out .entry)) (now (out .exit)) r ⌝ }
+    ensures { λ r. ⌜ WritesPart (indicesOf around) (bindingsIn (now (script .entry)) (now (variables .entry)) (now (places .entry))) (bodyIn (now (kids .entry))) (heads (now (script .entry)) (now (kinds .entry)) (now (starts .entry)) (now (offsets .entry))) (bodyIn (now (kids .entry)) i) (heads (now (script .entry)) (now (kinds .entry)) (now (starts .entry)) (now (offsets .entry)) i) index fuel (now (out .entry)) (now (out .exit)) r ⌝ }
 {
     let kind = kinds[i];
     let start = starts[i];
@@ -415,8 +412,7 @@ fn write_body<'a, 'b>(
     out: &'b mut [u32],
 ) -> usize
     requires { ⌜ Kept itemCount (now script) (now variables) (now places) (now counts) × Scripted (now starts) (now offsets) × Right around × (fuel ≤ around .first) × (index + length (now out) ≤ 268435456) ⌝ }
-    ensures within { λ r. ⌜ r ≤ length (now (out .entry)) ⌝ }
-    ensures written { λ r. ⌜ Writes (indicesOf around) (bindingsIn (now (script .entry)) (now (variables .entry)) (now (places .entry))) (bodyIn (now (kids .entry))) (heads (now (script .entry)) (now (kinds .entry)) (now (starts .entry)) (now (offsets .entry))) (members left) index fuel (now (out .entry)) (now (out .exit)) r ⌝ }
+    ensures { λ r. ⌜ Writes (indicesOf around) (bindingsIn (now (script .entry)) (now (variables .entry)) (now (places .entry))) (bodyIn (now (kids .entry))) (heads (now (script .entry)) (now (kinds .entry)) (now (starts .entry)) (now (offsets .entry))) (members left) index fuel (now (out .entry)) (now (out .exit)) r ⌝ }
 {
     if out.len() == 0 {
         return 0;
@@ -477,7 +473,7 @@ pub fn write_tree<'a, 'b>(
     out: &'b mut [u32],
 ) -> Fitting
     requires { ⌜ Cached (now script) (now variables) (now places) (now counts) (now sizes) (now bulks) × Scripted (now starts) (now offsets) ⌝ }
-    ensures { λ r. ⌜ ((b : Closure) → bodyIn (now (kids .entry)) 64 ≡ tops b → Held (bodyIn (now (kids .entry))) (heads (now (script .entry)) (now (kinds .entry)) (now (starts .entry)) (now (offsets .entry))) b → parts b ≤ 64 → (r ≡ answered (write [] 0 (unfolded (bindingsIn (now (script .entry)) (now (variables .entry)) (now (places .entry))) b)) (now (out .entry))) × (now (out .exit) ≡ buffered (write [] 0 (unfolded (bindingsIn (now (script .entry)) (now (variables .entry)) (now (places .entry))) b)) (now (out .entry)))) ⌝ }
+    ensures { λ r. ⌜ ((b : Closure) → bodyIn (now (kids .entry)) 64 ≡ tops b → Held (bodyIn (now (kids .entry))) (heads (now (script .entry)) (now (kinds .entry)) (now (starts .entry)) (now (offsets .entry))) b → parts b ≤ 64 → Fitted (write [] 0 (unfolded (bindingsIn (now (script .entry)) (now (variables .entry)) (now (places .entry))) b)) (now (out .entry)) (now (out .exit)) r) ⌝ }
 {
     let n = count_words(
         script,

@@ -56,7 +56,7 @@ returns : tie.Need-returns
 unfolding bindingsOf
 returns c weight spent b R =
     let e = c .before .before .write-tree .ensures b (R .top) (R .held) (omega (arith, R .weighs, R .light)) in
-    (rw (c .before .before .before .before .before .before .before .before .before .before .before .before .tail .ensures, c .before .before .before .before .before .before .before .before .before .before .tail2 .ensures) at (e .0), rw (c .before .before .before .before .before .before .before .before .before .before .before .before .tail .ensures, c .before .before .before .before .before .before .before .before .before .before .tail2 .ensures) at (e .1))
+    (rw (c .before .before .before .before .before .before .before .before .before .before .before .before .tail .ensures, c .before .before .before .before .before .before .before .before .before .before .tail2 .ensures) at (e .said), rw (c .before .before .before .before .before .before .before .before .before .before .before .before .tail .ensures, c .before .before .before .before .before .before .before .before .before .before .tail2 .ensures) at (e .left))
 
 pub write-state-spec : {M : Type 1} → statement M
 write-state-spec =

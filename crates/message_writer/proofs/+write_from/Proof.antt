@@ -1,18 +1,23 @@
 -- `write_from` meets its contract: a variable with a binding is the message of that binding, any other word stands for itself.
 -- The measure falls with the bindings, and then with the words and messages that are left. Assumes nothing.
-use Prim.Native.Nat.{ℕ, _+_, _*_, _<_}
-use mathlib.Core.Path.{sym, ap, _∙_}
+use Prim.Native.Nat.{ℕ, _+_, _-_, _*_, _^_, _≤_, _<_}
+use mathlib.Core.List.{List}
+use mathlib.Core.Path.{_≡_, sym, ap, _∙_}
 use native.Mathlib.Omega.{arith}
 use borrow.Author.Needs.{needs}
 use lib.ListN.{length, getD, length-drop}
+use Rattle.messages.specs.Message.{Message}
 use Rattle.messages.specs.Spelling.{spelled}
+use Rattle.messages.specs.declared.MessageWord.{MessageWord}
 use Rattle.bindings.specs.Resolve.{bindingsIn}
-use Rattle.message_words.specs.Words.{firstWord}
-use Rattle.bindings.proofs.Passing.{unbound-free, room}
+use Rattle.message_words.specs.Words.{firstWord, arityOf, boundAt}
+use Rattle.bindings.proofs.Passing.{unbound-free}
 use Rattle.bindings.proofs.Counting.{rank, rank-less, rank-older}
+use Rattle.written_trees.specs.Write.{Indices}
 use Rattle.message_writer.specs.Indices.{indicesIn}
-use Rattle.message_writer.proofs.Lending.{lent-length, joined-length, wrote-none, wrote-as, wrote-more}
-use Rattle.message_writer.proofs.Words.{first-name, none-written, written-first, written-bound}
+use Rattle.message_writer.specs.Passes.{plainWord}
+use Rattle.message_writer.proofs.Lending.{Partly, partly-behind, partly-within, partly-kept, wrote-none, wrote-as, wrote-more}
+use Rattle.message_writer.proofs.Words.{first-name, none-written, written-first, written-bound, less-behind, few-words, fewer-older, older-aligned}
 use Prim.Native.Nat.{ℕ, _<_}
 use borrow.Fn.Kinds.{In}
 use borrow.Fn.PlainCycle.{Measures, is, falls, and}
@@ -42,132 +47,256 @@ abbrev write-from-claims : ℕ → write-from-lts.Claims
 write-from-claims t = (first-word-reads.Asked, first-word-reads.Learnt, bound-reads.Asked, bound-reads.Learnt, given-reads.Asked, given-reads.Learnt, tail-reads.Asked, tail-reads.Learnt, write-from-below t, write-from.Post, plain-word-reads.Asked, plain-word-reads.Learnt, write-word-reads.Asked, write-word-reads.Learnt, arity-reads.Asked, arity-reads.Learnt)
 
 module _ (t : ℕ) where
+  -- ---- the places, and the way from each to those before it
+
+  abbrev Start : Type 0
+  Start = write-from-lts.Start (write-from-claims t) (write-from-at t) write-from.Post
+
+  abbrev Then : Type 0
+  Then = write-from-lts.Then1 (write-from-claims t) (write-from-at t) write-from.Post
+
+  -- the first word is looked up
+  abbrev Found : Type 0
+  Found = write-from-lts.After-bound (write-from-claims t) (write-from-at t) write-from.Post
+
+  -- it has a binding: the message of the binding, and the older bindings
+  abbrev Older : Type 0
+  Older = write-from-lts.After-tail2 (write-from-claims t) (write-from-at t) write-from.Post
+
+  -- that message is written
+  abbrev Given : Type 0
+  Given = write-from-lts.After-write-from (write-from-claims t) (write-from-at t) write-from.Post
+
+  abbrev GivenTail : Type 0
+  GivenTail = write-from-lts.After-tail3 (write-from-claims t) (write-from-at t) write-from.Post
+
+  abbrev GivenMore : Type 0
+  GivenMore = write-from-lts.After-write-from2 (write-from-claims t) (write-from-at t) write-from.Post
+
+  -- it has none: the word is written
+  abbrev Word : Type 0
+  Word = write-from-lts.After-write-word (write-from-claims t) (write-from-at t) write-from.Post
+
+  abbrev WordArity : Type 0
+  WordArity = write-from-lts.After-arity (write-from-claims t) (write-from-at t) write-from.Post
+
+  abbrev WordTail : Type 0
+  WordTail = write-from-lts.After-tail4 (write-from-claims t) (write-from-at t) write-from.Post
+
+  abbrev WordMore : Type 0
+  WordMore = write-from-lts.After-write-from3 (write-from-claims t) (write-from-at t) write-from.Post
+
+  abbrev then-start : Then → Start
+  then-start c = c .before .before .before .before .before .before .before .before
+
+  abbrev found-first : Found → write-from-lts.After-first-word (write-from-claims t) (write-from-at t) write-from.Post
+  found-first c = c .before
+
+  abbrev found-else : Found → write-from-lts.Else1 (write-from-claims t) (write-from-at t) write-from.Post
+  found-else c = found-first c .before
+
+  abbrev found-start : Found → Start
+  found-start c = found-else c .before .before .before .before .before .before .before .before
+
+  abbrev then-found : write-from-lts.Then2 (write-from-claims t) (write-from-at t) write-from.Post → Found
+  then-found c = c .before
+
+  abbrev else-found : write-from-lts.Else2 (write-from-claims t) (write-from-at t) write-from.Post → Found
+  else-found c = c .before
+
+  abbrev older-variables : Older → write-from-lts.After-tail (write-from-claims t) (write-from-at t) write-from.Post
+  older-variables c = c .before
+
+  abbrev older-given : Older → write-from-lts.After-given (write-from-claims t) (write-from-at t) write-from.Post
+  older-given c = older-variables c .before
+
+  abbrev older-then : Older → write-from-lts.Then2 (write-from-claims t) (write-from-at t) write-from.Post
+  older-then c = older-given c .before
+
+  abbrev older-found : Older → Found
+  older-found c = then-found (older-then c)
+
+  abbrev asked-older : write-from-lts.After-write-from-arg (write-from-claims t) (write-from-at t) write-from.Post → Older
+  asked-older c = c .before
+
+  abbrev given-older : Given → Older
+  given-older c = asked-older (c .before)
+
+  abbrev given-start : Given → Start
+  given-start c = found-start (older-found (given-older c))
+
+  abbrev tail-given : GivenTail → Given
+  tail-given c = c .before .before .before
+
+  abbrev asked-tail : write-from-lts.After-write-from-arg2 (write-from-claims t) (write-from-at t) write-from.Post → GivenTail
+  asked-tail c = c .before
+
+  abbrev more-tail : GivenMore → GivenTail
+  more-tail c = asked-tail (c .before)
+
+  abbrev end-more : write-from-lts.After-slice-known3 (write-from-claims t) (write-from-at t) write-from.Post → GivenMore
+  end-more c = c .before .before
+
+  abbrev end-given : write-from-lts.After-slice-known3 (write-from-claims t) (write-from-at t) write-from.Post → Given
+  end-given c = tail-given (more-tail (end-more c))
+
+  abbrev word-plain : Word → write-from-lts.After-plain-word (write-from-claims t) (write-from-at t) write-from.Post
+  word-plain c = c .before .before
+
+  abbrev word-else : Word → write-from-lts.Else2 (write-from-claims t) (write-from-at t) write-from.Post
+  word-else c = word-plain c .before
+
+  abbrev word-found : Word → Found
+  word-found c = else-found (word-else c)
+
+  abbrev word-start : Word → Start
+  word-start c = found-start (word-found c)
+
+  abbrev arity-word : WordArity → Word
+  arity-word c = c .before .before .before
+
+  abbrev tail-arity : WordTail → WordArity
+  tail-arity c = c .before
+
+  abbrev tail-word : WordTail → Word
+  tail-word c = arity-word (tail-arity c)
+
+  abbrev asked-word : write-from-lts.After-write-from-arg3 (write-from-claims t) (write-from-at t) write-from.Post → WordTail
+  asked-word c = c .before
+
+  abbrev word-tail : WordMore → WordTail
+  word-tail c = asked-word (c .before)
+
+  abbrev end-word-more : write-from-lts.After-slice-known5 (write-from-claims t) (write-from-at t) write-from.Post → WordMore
+  end-word-more c = c .before .before
+
+  abbrev end-word : write-from-lts.After-slice-known5 (write-from-claims t) (write-from-at t) write-from.Post → Word
+  end-word c = tail-word (word-tail (end-word-more c))
+
+  -- ---- what is known at each
+
+  abbrev ix : Start → Indices
+  ix s = indicesIn (s .args .receipts .now) (s .args .indices .now)
+
+  abbrev σ : Start → List (ℕ × Message)
+  σ s = bindingsIn (s .args .script .now) (s .args .variables .now) (s .args .places .now)
+
+  long : (s : Start) → length (s .args .out .now) * 4 < 2 ^ 63
+  long s = omega arith
+
+  some : (c : Found) → 0 < found-start c .args .pending
+  some c = omega (arith, found-else c .if1 .left)
+
+  first : (c : Found) → found-first c .first-word .result ≡ firstWord (found-start c .args .words .now)
+  first c = found-first c .first-word .ensures
+
+  found : (c : Found) → c .bound .result ≡ boundAt (firstWord (found-start c .args .words .now)) (found-start c .args .variables .now)
+  found c = let s = found-start c in c .bound .ensures ∙ ap (λ (w : MessageWord). boundAt w (s .args .variables .now)) (first c)
+
+  -- the buffer behind the message of the binding, and behind the word
+  partly-given : (c : Given) → Partly (given-start c .args .out .now) (c .write-from .last .1 .1 .1 .1 .1 .1 .1 .0) (c .write-from .result)
+  partly-given c = record { within = c .write-from .ensures .within; kept = c .write-from .kept .1 .1 .1 .1 .1 .1 .1 .0 }
+
+  partly-word : (c : Word) → Partly (word-start c .args .out .now) (c .write-word .last .1 .0) (c .write-word .result)
+  partly-word c = record { within = c .write-word .ensures .within; kept = c .write-word .kept .1 .0 }
+
+  -- what stands in the word comes behind it
+  opened : (c : WordArity) → let s = word-start (arity-word c) in c .arity .result ≡ arityOf (firstWord (s .args .words .now))
+  opened c = c .arity .ensures ∙ ap arityOf (first (word-found (arity-word c)))
+
+  less-word : (c : WordTail) → let s = word-start (tail-word c) in let p = s .args .pending - 1 + tail-arity c .arity .result in
+      (p + length (c .tail4 .result .now) ≤ s .args .pending + length (s .args .words .now)) × (3 * length (c .tail4 .result .now) + p < 3 * length (s .args .words .now) + s .args .pending)
+  less-word c =
+      let s = word-start (tail-word c) in
+      less-behind (s .args .words .now) (s .args .pending) (tail-arity c .arity .result) (c .tail4 .ensures) (some (word-found (tail-word c))) (omega (arith, opened (tail-arity c)))
+
+  -- ---- the needs
+
   write-from-returns : write-from-lts.Need-returns (write-from-claims t) (write-from-at t) write-from.Post
-  write-from-returns c =
-      let s = c .before .before .before .before .before .before .before .before in
-      let ix = indicesIn (s .args .receipts .now) (s .args .indices .now) in
-      let σ = bindingsIn (s .args .script .now) (s .args .variables .now) (s .args .places .now) in
-      (omega arith, wrote-none (none-written ix σ (s .args .pending) (spelled (s .args .words .now)) (c .if1 .taken)))
+  write-from-returns c = let s = then-start c in wrote-none (none-written (ix s) (σ s) (s .args .pending) (spelled (s .args .words .now)) (c .if1 .taken))
 
   write-from-add-older : write-from-lts.Need-add-older (write-from-claims t) (write-from-at t) write-from.Post
-  write-from-add-older c =
-      omega (arith, c .if2 .taken, c .before .before .before .before .before .before .before .before .before .before .before .good .1 .1 .1 .0)
+  write-from-add-older c = let s = found-start (then-found c) in omega (arith, c .if2 .taken, s .good .1 .1 .1 .0)
 
   write-from-given-requires : write-from-lts.Need-given-requires (write-from-claims t) (write-from-at t) write-from.Post
-  write-from-given-requires c κs =
-      omega (arith, c .before .before .before .before .before .before .before .before .before .before .before .pre .1 .1, c .if2 .taken)
+  write-from-given-requires c κs = omega (arith, found-start (then-found c) .pre .1 .1, c .if2 .taken)
 
   write-from-write-from-requires : write-from-lts.Need-write-from-requires (write-from-claims t) (write-from-at t) write-from.Post
   write-from-write-from-requires c κs =
-      let s = c .before .before .before .before .before .before .before .before .before .before .before .before .before .before .before in
-      let k = c .before .before .before .before .before .bound .result in
-      let l = ap length (c .before .before .before .given .ensures) in
-      let d = length-drop (getD (s .args .places .now) k 0) (s .args .script .now) in
-      let m = ap length (c .before .before .tail .ensures) in
-      let e = length-drop (k + 1) (s .args .variables .now) in
-      let n = ap length (c .before .tail2 .ensures) in
-      let f = length-drop (k + 1) (s .args .places .now) in
-      (rank-older _ _ _ _ _ (s .pre .0) (omega (arith, m, e, c .before .before .before .before .if2 .taken)) (omega (arith, l, d, s .good .0)), (omega (arith, l, d, s .good .0), omega (arith, m, e, n, f, s .pre .1 .1), s .pre .1 .2))
+      let o = asked-older c in
+      let f = older-found o in
+      let s = found-start f in
+      let a = s .args in
+      let few = few-words (a .script .now) (getD (a .places .now) (f .bound .result) 0) (older-given o .given .ensures) (s .good .0 .1) in
+      let fewer = fewer-older (a .variables .now) (f .bound .result) (older-variables o .tail .ensures) (older-then o .if2 .taken) in
+      (rank-older _ _ _ _ _ (s .pre .0) fewer (omega (arith, few)), (few, older-aligned (a .variables .now) (a .places .now) (f .bound .result + 1) (older-variables o .tail .ensures) (o .tail2 .ensures) (s .pre .1 .1), s .pre .1 .2))
 
   write-from-sub-write-from : write-from-lts.Need-sub-write-from (write-from-claims t) (write-from-at t) write-from.Post
-  write-from-sub-write-from c =
-      omega (arith, c .before .before .before .before .before .before .before .before .before .before .before .if1 .left)
-
-  write-from-mul-write-from : write-from-lts.Need-mul-write-from (write-from-claims t) (write-from-at t) write-from.Post
-  write-from-mul-write-from c =
-      omega (arith, c .before .before .before .write-from .ensures .0, c .before .before .before .write-from .kept .1 .1 .1 .1 .1 .1 .1 .0, c .before .before .before .before .before .before .before .before .before .before .before .before .before .before .before .before .before .before .before .good .1 .1 .1 .1 .1 .1 .1 .0)
-
-  write-from-sub-write-from-2 : write-from-lts.Need-sub-write-from-2 (write-from-claims t) (write-from-at t) write-from.Post
-  write-from-sub-write-from-2 c =
-      omega (arith, c .before .before .before .write-from .ensures .0, c .before .before .before .write-from .kept .1 .1 .1 .1 .1 .1 .1 .0)
-
-  write-from-part-write-from-start : write-from-lts.Need-part-write-from-start (write-from-claims t) (write-from-at t) write-from.Post
-  write-from-part-write-from-start c =
-      omega (arith, c .before .before .before .write-from .ensures .0, c .before .before .before .write-from .kept .1 .1 .1 .1 .1 .1 .1 .0)
-
-  write-from-part-write-from-end : write-from-lts.Need-part-write-from-end (write-from-claims t) (write-from-at t) write-from.Post
-  write-from-part-write-from-end c =
-      omega arith
+  write-from-sub-write-from c = omega (arith, some (older-found (given-older (tail-given c))))
 
   write-from-write-from-requires-2 : write-from-lts.Need-write-from-requires-2 (write-from-claims t) (write-from-at t) write-from.Post
   write-from-write-from-requires-2 c κs =
-      let s = c .before .before .before .before .before .before .before .before .before .before .before .before .before .before .before .before .before .before .before .before in
-      let l = ap length (c .before .tail3 .ensures) in
+      let l = asked-tail c in
+      let o = given-older (tail-given l) in
+      let s = found-start (older-found o) in
+      let e = ap length (l .tail3 .ensures) in
       let d = length-drop 1 (s .args .words .now) in
-      (rank-less _ _ _ _ (s .pre .0) (omega (arith, l, d, c .before .before .before .before .before .before .before .before .before .before .before .before .if1 .left)), (omega (arith, l, d, s .pre .1 .0), s .pre .1 .1, s .pre .1 .2))
+      let p = some (older-found o) in
+      (rank-less _ _ _ _ (s .pre .0) (omega (arith, e, d, p)), (omega (arith, e, d, p, s .pre .1 .0), s .pre .1 .1, s .pre .1 .2))
 
   write-from-add-result : write-from-lts.Need-add-result (write-from-claims t) (write-from-at t) write-from.Post
-  write-from-add-result c =
-      omega (arith, c .before .before .before .before .before .before .before .write-from .ensures .0, c .before .before .before .before .before .before .before .write-from .kept .1 .1 .1 .1 .1 .1 .1 .0, lent-length (c .before .before .before .before .before .before .before .write-from .result) (c .before .before .before .before .before .before .before .write-from .last .1 .1 .1 .1 .1 .1 .1 .0), c .before .before .write-from2 .ensures .0, c .before .before .before .before .before .before .before .before .before .before .before .before .before .before .before .before .before .before .before .before .before .before .before .good .1 .1 .1 .1 .1 .1 .1 .0)
+  write-from-add-result c = let g = end-given c in omega (arith, partly-within (partly-given g) (end-more c .write-from2 .ensures .within), long (given-start g))
 
   write-from-same-length : write-from-lts.Need-same-length (write-from-claims t) (write-from-at t) write-from.Post
-  write-from-same-length c =
-      joined-length (c .before .before .before .before .before .before .before .write-from .result) (c .before .before .before .before .before .before .before .write-from .last .1 .1 .1 .1 .1 .1 .1 .0) (c .before .before .write-from2 .last .1 .1 .1 .1 .1 .1 .1 .0) (omega (arith, c .before .before .before .before .before .before .before .write-from .ensures .0, c .before .before .before .before .before .before .before .write-from .kept .1 .1 .1 .1 .1 .1 .1 .0)) (c .before .before .write-from2 .kept .1 .1 .1 .1 .1 .1 .1 .0) ∙ c .before .before .before .before .before .before .before .write-from .kept .1 .1 .1 .1 .1 .1 .1 .0
+  write-from-same-length c = let m = end-more c in partly-kept (partly-given (end-given c)) (m .write-from2 .last .1 .1 .1 .1 .1 .1 .1 .0) (m .write-from2 .kept .1 .1 .1 .1 .1 .1 .1 .0)
 
   write-from-returns-2 : write-from-lts.Need-returns-2 (write-from-claims t) (write-from-at t) write-from.Post
   write-from-returns-2 c =
-      let s = c .before .before .before .before .before .before .before .before .before .before .before .before .before .before .before .before .before .before .before .before .before .before .before in
-      let ix = indicesIn (s .args .receipts .now) (s .args .indices .now) in (
-        omega (arith, c .before .before .before .before .before .before .before .write-from .ensures .0, c .before .before .before .before .before .before .before .write-from .kept .1 .1 .1 .1 .1 .1 .1 .0, lent-length (c .before .before .before .before .before .before .before .write-from .result) (c .before .before .before .before .before .before .before .write-from .last .1 .1 .1 .1 .1 .1 .1 .0), c .before .before .write-from2 .ensures .0),
-        wrote-as (written-bound ix (s .args .script .now) (s .args .variables .now) (s .args .places .now) (s .args .words .now) (s .args .pending) (c .before .before .before .before .before .before .before .before .before .before .before .before .before .bound .result) (omega (arith, c .before .before .before .before .before .before .before .before .before .before .before .before .before .before .before .if1 .left)) (s .pre .1 .1) (rw (c .before .before .before .before .before .before .before .before .before .before .before .before .before .before .first-word .ensures) at (c .before .before .before .before .before .before .before .before .before .before .before .before .before .bound .ensures)) (c .before .before .before .before .before .before .before .before .before .before .before .before .if2 .taken))
-            (wrote-more (rw (c .before .before .before .before .before .before .before .before .before .before .before .given .ensures, c .before .before .before .before .before .before .before .before .before .before .tail .ensures, c .before .before .before .before .before .before .before .before .before .tail2 .ensures) at (c .before .before .before .before .before .before .before .write-from .ensures .1)) (λ e. rw (c .before .before .before .before .tail3 .ensures) at (c .before .before .write-from2 .ensures .1))),
-      )
+      let m = end-more c in
+      let g = end-given c in
+      let o = given-older g in
+      let f = older-found o in
+      let s = found-start f in
+      let a = s .args in
+      wrote-as (written-bound (ix s) (a .script .now) (a .variables .now) (a .places .now) (a .words .now) (a .pending) (f .bound .result) (some f) (s .pre .1 .1) (found f) (older-then o .if2 .taken)
+      (older-variables o .tail .ensures) (o .tail2 .ensures) (older-given o .given .ensures) (more-tail m .tail3 .ensures))
+      (wrote-more (partly-given g) (g .write-from .ensures) (m .write-from2 .ensures))
 
   write-from-plain-word-requires : write-from-lts.Need-plain-word-requires (write-from-claims t) (write-from-at t) write-from.Post
   write-from-plain-word-requires c κs =
-      (c .before .before .before .before .before .before .before .before .before .before .before .pre .1 .2, λ n e. first-name (c .before .before .before .before .before .before .before .before .before .before .before .args .words .now) n (sym (c .before .before .first-word .ensures) ∙ e))
+      let s = found-start (else-found c) in
+      (s .pre .1 .2, λ n e. first-name (s .args .words .now) n (sym (first (else-found c)) ∙ e))
 
   write-from-sub-write-from-3 : write-from-lts.Need-sub-write-from-3 (write-from-claims t) (write-from-at t) write-from.Post
-  write-from-sub-write-from-3 c =
-      omega (arith, c .before .before .before .before .before .before .before .before .before .before .if1 .left)
+  write-from-sub-write-from-3 c = omega (arith, some (word-found (tail-word c)))
 
   write-from-add-write-from : write-from-lts.Need-add-write-from (write-from-claims t) (write-from-at t) write-from.Post
-  write-from-add-write-from c =
-      let s = c .before .before .before .before .before .before .before .before .before .before .before .before .before .before .before .before .before .before in
-      let r = room (s .args .words .now) (s .args .pending) (c .before .arity .result) 0 (omega (arith, c .before .before .before .before .before .before .before .before .before .before .if1 .left)) (rw (← c .before .before .before .before .before .before .before .before .before .first-word .ensures, ← c .before .arity .ensures) (omega arith)) in
-      omega (arith, r .0, s .pre .1 .0)
-
-  write-from-mul-write-from-2 : write-from-lts.Need-mul-write-from-2 (write-from-claims t) (write-from-at t) write-from.Post
-  write-from-mul-write-from-2 c =
-      omega (arith, c .before .before .before .before .write-word .ensures .0, c .before .before .before .before .write-word .kept .1 .0, c .before .before .before .before .before .before .before .before .before .before .before .before .before .before .before .before .before .before .good .1 .1 .1 .1 .1 .1 .1 .0)
-
-  write-from-sub-write-from-4 : write-from-lts.Need-sub-write-from-4 (write-from-claims t) (write-from-at t) write-from.Post
-  write-from-sub-write-from-4 c =
-      omega (arith, c .before .before .before .before .write-word .ensures .0, c .before .before .before .before .write-word .kept .1 .0)
-
-  write-from-part-write-from-start-2 : write-from-lts.Need-part-write-from-start-2 (write-from-claims t) (write-from-at t) write-from.Post
-  write-from-part-write-from-start-2 c =
-      omega (arith, c .before .before .before .before .write-word .ensures .0, c .before .before .before .before .write-word .kept .1 .0)
-
-  write-from-part-write-from-end-2 : write-from-lts.Need-part-write-from-end-2 (write-from-claims t) (write-from-at t) write-from.Post
-  write-from-part-write-from-end-2 c =
-      omega arith
+  write-from-add-write-from c = omega (arith, less-word c .0, word-start (tail-word c) .pre .1 .0)
 
   write-from-write-from-requires-3 : write-from-lts.Need-write-from-requires-3 (write-from-claims t) (write-from-at t) write-from.Post
   write-from-write-from-requires-3 c κs =
-      let s = c .before .before .before .before .before .before .before .before .before .before .before .before .before .before .before .before .before .before .before in
-      let l = ap length (c .before .tail4 .ensures) in
-      let r = room (s .args .words .now) (s .args .pending) (c .before .before .arity .result) 0 (omega (arith, c .before .before .before .before .before .before .before .before .before .before .before .if1 .left)) (rw (← c .before .before .before .before .before .before .before .before .before .before .first-word .ensures, ← c .before .before .arity .ensures) (omega arith)) in
-      (rank-less _ _ _ _ (s .pre .0) (omega (arith, l, r .1)), (omega (arith, l, r .0, s .pre .1 .0), s .pre .1 .1, s .pre .1 .2))
+      let l = asked-word c in
+      let s = word-start (tail-word l) in
+      (rank-less _ _ _ _ (s .pre .0) (less-word l .1), (omega (arith, less-word l .0, s .pre .1 .0), s .pre .1 .1, s .pre .1 .2))
 
   write-from-add-result-2 : write-from-lts.Need-add-result-2 (write-from-claims t) (write-from-at t) write-from.Post
-  write-from-add-result-2 c =
-      omega (arith, c .before .before .before .before .before .before .before .before .write-word .ensures .0, c .before .before .before .before .before .before .before .before .write-word .kept .1 .0, lent-length (c .before .before .before .before .before .before .before .before .write-word .result) (c .before .before .before .before .before .before .before .before .write-word .last .1 .0), c .before .before .write-from3 .ensures .0, c .before .before .before .before .before .before .before .before .before .before .before .before .before .before .before .before .before .before .before .before .before .before .good .1 .1 .1 .1 .1 .1 .1 .0)
+  write-from-add-result-2 c = let w = end-word c in omega (arith, partly-within (partly-word w) (end-word-more c .write-from3 .ensures .within), long (word-start w))
 
   write-from-same-length-2 : write-from-lts.Need-same-length-2 (write-from-claims t) (write-from-at t) write-from.Post
-  write-from-same-length-2 c =
-      joined-length (c .before .before .before .before .before .before .before .before .write-word .result) (c .before .before .before .before .before .before .before .before .write-word .last .1 .0) (c .before .before .write-from3 .last .1 .1 .1 .1 .1 .1 .1 .0) (omega (arith, c .before .before .before .before .before .before .before .before .write-word .ensures .0, c .before .before .before .before .before .before .before .before .write-word .kept .1 .0)) (c .before .before .write-from3 .kept .1 .1 .1 .1 .1 .1 .1 .0) ∙ c .before .before .before .before .before .before .before .before .write-word .kept .1 .0
+  write-from-same-length-2 c = let m = end-word-more c in partly-kept (partly-word (end-word c)) (m .write-from3 .last .1 .1 .1 .1 .1 .1 .1 .0) (m .write-from3 .kept .1 .1 .1 .1 .1 .1 .1 .0)
 
   write-from-returns-3 : write-from-lts.Need-returns-3 (write-from-claims t) (write-from-at t) write-from.Post
   write-from-returns-3 c =
-      let s = c .before .before .before .before .before .before .before .before .before .before .before .before .before .before .before .before .before .before .before .before .before .before in
-      let ix = indicesIn (s .args .receipts .now) (s .args .indices .now) in
-      let σ = bindingsIn (s .args .script .now) (s .args .variables .now) (s .args .places .now) in
-      let free = unbound-free (s .args .script .now) (s .args .variables .now) (s .args .places .now) (firstWord (s .args .words .now)) (omega (arith, (rw (c .before .before .before .before .before .before .before .before .before .before .before .before .before .first-word .ensures) at (c .before .before .before .before .before .before .before .before .before .before .before .before .bound .ensures)), c .before .before .before .before .before .before .before .before .before .before .before .if2 .left)) in (
-        omega (arith, c .before .before .before .before .before .before .before .before .write-word .ensures .0, c .before .before .before .before .before .before .before .before .write-word .kept .1 .0, lent-length (c .before .before .before .before .before .before .before .before .write-word .result) (c .before .before .before .before .before .before .before .before .write-word .last .1 .0), c .before .before .write-from3 .ensures .0),
-        wrote-as (written-first ix σ (s .args .words .now) (s .args .pending) (omega (arith, c .before .before .before .before .before .before .before .before .before .before .before .before .before .before .if1 .left)) free)
-            (wrote-more (rw (c .before .before .before .before .before .before .before .before .before .before .plain-word .ensures, c .before .before .before .before .before .before .before .before .before .before .before .before .before .first-word .ensures) at (c .before .before .before .before .before .before .before .before .write-word .ensures .1)) (λ e. rw (c .before .before .before .before .tail4 .ensures, c .before .before .before .before .before .arity .ensures, c .before .before .before .before .before .before .before .before .before .before .before .before .before .first-word .ensures) at (c .before .before .write-from3 .ensures .1))),
-      )
+      let m = end-word-more c in
+      let l = word-tail m in
+      let w = tail-word l in
+      let f = word-found w in
+      let s = found-start f in
+      let a = s .args in
+      let free = unbound-free (a .script .now) (a .variables .now) (a .places .now) (firstWord (a .words .now)) (omega (arith, found f, word-else w .if2 .left)) in
+      wrote-as (written-first (ix s) (σ s) (a .words .now) (a .pending) (some f) free
+      (word-plain w .plain-word .ensures ∙ ap (plainWord (ix s)) (first f)) (opened (tail-arity l)) (l .tail4 .ensures))
+      (wrote-more (partly-word w) (w .write-word .ensures) (m .write-from3 .ensures))
 
 pub +write-from-spec : {M : Type 1} → statement M
 +write-from-spec = close μ-write-from λ t. write-from-lts.spec (write-from-claims t)
@@ -183,10 +312,10 @@ pub +write-from-spec : {M : Type 1} → statement M
     (write-from-write-from-requires t)
     (λ c κs. search needs)
     (write-from-sub-write-from t)
-    (write-from-mul-write-from t)
-    (write-from-sub-write-from-2 t)
-    (write-from-part-write-from-start t)
-    (write-from-part-write-from-end t)
+    (λ c. let g = tail-given t c in omega (arith, partly-given t g .within, long t (given-start t g)))
+    (λ c. omega (arith, partly-behind (partly-given t (tail-given t c))))
+    (λ c. omega (arith, partly-behind (partly-given t (tail-given t c))))
+    (λ c. omega arith)
     (write-from-write-from-requires-2 t)
     (write-from-add-result t)
     (write-from-same-length t)
@@ -197,10 +326,10 @@ pub +write-from-spec : {M : Type 1} → statement M
     (λ c κs. search needs)
     (write-from-sub-write-from-3 t)
     (write-from-add-write-from t)
-    (write-from-mul-write-from-2 t)
-    (write-from-sub-write-from-4 t)
-    (write-from-part-write-from-start-2 t)
-    (write-from-part-write-from-end-2 t)
+    (λ c. let w = tail-word t c in omega (arith, partly-word t w .within, long t (word-start t w)))
+    (λ c. omega (arith, partly-behind (partly-word t (tail-word t c))))
+    (λ c. omega (arith, partly-behind (partly-word t (tail-word t c))))
+    (λ c. omega arith)
     (write-from-write-from-requires-3 t)
     (write-from-add-result-2 t)
     (write-from-same-length-2 t)

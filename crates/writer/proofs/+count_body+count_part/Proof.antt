@@ -1,19 +1,19 @@
 -- `count_body` and `count_part` meet their contracts: the first part, and those beside it; a part's head, and its body. The
 -- measure is twice the fuel, and one more for a part. Assumes nothing.
 use Prim.Native.Nat.{ℕ, suc, _*_, _<_}
+use mathlib.Core.Bool.{true, false}
 use mathlib.Core.List.{List, _∷_, tail}
 use mathlib.Core.Path.{_≡_, sym, ap, _∙_}
 use native.Mathlib.Omega.{arith}
 use borrow.Author.Needs.{needs}
-use lib.ListN.{length}
 use Rattle.sets.specs.Sets.{members}
 use Rattle.sets.proofs.Members.{first-is, first-below, not-none, members-empty}
 use Rattle.scripts.specs.Represents.{bodyIn}
 use Rattle.bindings.specs.Resolve.{bindingsIn}
-use Rattle.slices.specs.Sums.{capped}
-use Rattle.closure_machine.specs.Closure.{ClosureHead, Bindings, unfolded}
+use Rattle.closure_machine.specs.Closure.{ClosureHead, Bindings}
 use Rattle.closures.specs.Represents.{heads}
-use Rattle.writer.proofs.Parts.{no-tops, no-parts, part-only, counts-inside, counts-more}
+use Rattle.writer.specs.Bodies.{hasBody}
+use Rattle.writer.proofs.Parts.{counts-none, counts-end, counts-inside, counts-only, counts-more}
 use Prim.Native.Nat.{ℕ, _<_}
 use borrow.Fn.Kinds.{In}
 use borrow.Fn.PlainCycle.{Measures, is, falls, and}
@@ -56,9 +56,54 @@ abbrev count-part-claims : ℕ → count-part-lts.Claims
 count-part-claims t = (count-head-reads.Asked, count-head-reads.Learnt, has-body-reads.Asked, has-body-reads.Learnt, count-body-below t, count-body.Post, sum-reads.Asked, sum-reads.Learnt)
 
 module _ (t : ℕ) where
-  -- what the arrays stand for, at the entry of each of the two
+  -- ---- count_body: the places, and the way from each to those before it
+
   abbrev BodyStart : Type 0
   BodyStart = count-body-lts.Start (count-body-claims t) (count-body-at t) count-body.Post
+
+  abbrev BodyElse : Type 0
+  BodyElse = count-body-lts.Else1 (count-body-claims t) (count-body-at t) count-body.Post
+
+  abbrev First : Type 0
+  First = count-body-lts.After-first (count-body-claims t) (count-body-at t) count-body.Post
+
+  abbrev Rest : Type 0
+  Rest = count-body-lts.After-rest (count-body-claims t) (count-body-at t) count-body.Post
+
+  abbrev then-start : count-body-lts.Then1 (count-body-claims t) (count-body-at t) count-body.Post → BodyStart
+  then-start c = c .before .before .before .before .before .before .before
+
+  abbrev else-start : BodyElse → BodyStart
+  else-start c = c .before .before .before .before .before .before .before
+
+  abbrev fuel-else : count-body-lts.Then2 (count-body-claims t) (count-body-at t) count-body.Post → BodyElse
+  fuel-else c = c .before
+
+  abbrev first-some : First → count-body-lts.Else2 (count-body-claims t) (count-body-at t) count-body.Post
+  first-some c = c .before
+
+  abbrev first-else : First → BodyElse
+  first-else c = first-some c .before
+
+  abbrev first-start : First → BodyStart
+  first-start c = else-start (first-else c)
+
+  abbrev counted-first : count-body-lts.After-count-part (count-body-claims t) (count-body-at t) count-body.Post → First
+  counted-first c = c .before
+
+  abbrev rest-counted : Rest → count-body-lts.After-count-part (count-body-claims t) (count-body-at t) count-body.Post
+  rest-counted c = c .before
+
+  abbrev rest-first : Rest → First
+  rest-first c = counted-first (rest-counted c)
+
+  abbrev sum-others : count-body-lts.After-sum (count-body-claims t) (count-body-at t) count-body.Post → count-body-lts.After-count-body (count-body-claims t) (count-body-at t) count-body.Post
+  sum-others c = c .before
+
+  abbrev sum-rest : count-body-lts.After-sum (count-body-claims t) (count-body-at t) count-body.Post → Rest
+  sum-rest c = sum-others c .before
+
+  -- ---- count_body: what is known at each
 
   abbrev body-σ : BodyStart → Bindings
   body-σ s = bindingsIn (s .args .script .now) (s .args .variables .now) (s .args .places .now)
@@ -66,8 +111,95 @@ module _ (t : ℕ) where
   abbrev body-w : BodyStart → ℕ → ClosureHead
   body-w s = heads (s .args .script .now) (s .args .kinds .now) (s .args .starts .now) (s .args .offsets .now)
 
+  some : (c : First) → 0 < first-start c .args .fuel
+  some c = omega (arith, first-some c .if2 .left)
+
+  first-then : (c : First) → let m = members (first-start c .args .left) in m ≡ c .first .result ∷ tail m
+  first-then c = let s = first-start c in first-is (s .args .left) (c .first .result) (s .fits .left .fits) (first-else c .if1 .left) (c .first .ensures)
+
+  first-rest : (c : Rest) → members (first-start (rest-first c) .args .left) ≡ rest-first c .first .result ∷ members (c .rest .result)
+  first-rest c = let f = rest-first c in first-then f ∙ ap (λ (l : List ℕ). f .first .result ∷ l) (sym (c .rest .ensures))
+
+  -- ---- count_body: the needs
+
+  count-body-returns : count-body-lts.Need-returns (count-body-claims t) (count-body-at t) count-body.Post
+  count-body-returns c = let s = then-start c in counts-none (body-σ s) (bodyIn (s .args .kids .now)) (body-w s) (members (s .args .left)) (s .args .fuel) (ap members (c .if1 .taken) ∙ members-empty)
+
+  count-body-returns-2 : count-body-lts.Need-returns-2 (count-body-claims t) (count-body-at t) count-body.Post
+  count-body-returns-2 c = let s = else-start (fuel-else c) in counts-end (body-σ s) (bodyIn (s .args .kids .now)) (body-w s) (members (s .args .left)) (s .args .fuel) (c .if2 .taken)
+
+  count-body-count-part-requires : count-body-lts.Need-count-part-requires (count-body-claims t) (count-body-at t) count-body.Post
+  count-body-count-part-requires c κs =
+      let s = first-start c in
+      (omega (arith, s .pre .0, some c), (s .pre .1 .0, s .pre .1 .1, first-below (s .args .left) (c .first .result) (tail (members (s .args .left))) (first-then c)))
+
+  count-body-rest-requires : count-body-lts.Need-rest-requires (count-body-claims t) (count-body-at t) count-body.Post
+  count-body-rest-requires c κs = let f = counted-first c in let s = first-start f in not-none (s .args .left) (s .fits .left .fits) (first-else f .if1 .left)
+
+  count-body-count-body-requires : count-body-lts.Need-count-body-requires (count-body-claims t) (count-body-at t) count-body.Post
+  count-body-count-body-requires c κs = let f = rest-first c in let s = first-start f in (omega (arith, s .pre .0, some f), s .pre .1)
+
+  count-body-returns-3 : count-body-lts.Need-returns-3 (count-body-claims t) (count-body-at t) count-body.Post
+  count-body-returns-3 c =
+      let r = sum-rest c in
+      let f = rest-first r in
+      let s = first-start f in
+      counts-more (body-σ s) (bodyIn (s .args .kids .now)) (body-w s) (members (s .args .left)) (s .args .fuel) (f .first .result) (members (r .rest .result)) (first-rest r) (rest-counted r .count-part .ensures) (sum-others c .count-body .ensures) (c .sum .ensures)
+
+  -- ---- count_part: the places, and the way from each to those before it
+
   abbrev PartStart : Type 0
   PartStart = count-part-lts.Start (count-part-claims t) (count-part-at t) count-part.Post
+
+  abbrev Head : Type 0
+  Head = count-part-lts.After-count-head (count-part-claims t) (count-part-at t) count-part.Post
+
+  abbrev Has : Type 0
+  Has = count-part-lts.After-has-body (count-part-claims t) (count-part-at t) count-part.Post
+
+  abbrev Then : Type 0
+  Then = count-part-lts.Then1 (count-part-claims t) (count-part-at t) count-part.Post
+
+  abbrev known-start : count-part-lts.After-shared-slice-known6 (count-part-claims t) (count-part-at t) count-part.Post → PartStart
+  known-start c = c .before .before .before .before .before .before
+
+  abbrev kind-start : count-part-lts.After-kind (count-part-claims t) (count-part-at t) count-part.Post → PartStart
+  kind-start c = known-start (c .before)
+
+  abbrev start-start : count-part-lts.After-start (count-part-claims t) (count-part-at t) count-part.Post → PartStart
+  start-start c = kind-start (c .before)
+
+  abbrev offset-start : count-part-lts.After-offset (count-part-claims t) (count-part-at t) count-part.Post → PartStart
+  offset-start c = start-start (c .before)
+
+  abbrev head-start : Head → PartStart
+  head-start c = offset-start (c .before)
+
+  abbrev has-head : Has → Head
+  has-head c = c .before
+
+  abbrev then-has : Then → Has
+  then-has c = c .before
+
+  abbrev then-head : Then → Head
+  then-head c = has-head (then-has c)
+
+  abbrev else-has : count-part-lts.Else1 (count-part-claims t) (count-part-at t) count-part.Post → Has
+  else-has c = c .before
+
+  abbrev else-head : count-part-lts.Else1 (count-part-claims t) (count-part-at t) count-part.Post → Head
+  else-head c = has-head (else-has c)
+
+  abbrev inside-then : count-part-lts.After-inside (count-part-claims t) (count-part-at t) count-part.Post → Then
+  inside-then c = c .before
+
+  abbrev sum-body : count-part-lts.After-sum (count-part-claims t) (count-part-at t) count-part.Post → count-part-lts.After-count-body (count-part-claims t) (count-part-at t) count-part.Post
+  sum-body c = c .before
+
+  abbrev sum-then : count-part-lts.After-sum (count-part-claims t) (count-part-at t) count-part.Post → Then
+  sum-then c = inside-then (sum-body c .before)
+
+  -- ---- count_part: what is known at each
 
   abbrev part-σ : PartStart → Bindings
   part-σ s = bindingsIn (s .args .script .now) (s .args .variables .now) (s .args .places .now)
@@ -75,110 +207,32 @@ module _ (t : ℕ) where
   abbrev part-w : PartStart → ℕ → ClosureHead
   part-w s = heads (s .args .script .now) (s .args .kinds .now) (s .args .starts .now) (s .args .offsets .now)
 
-  abbrev left : BodyStart → List ℕ
-  left s = members (s .args .left)
+  body : (c : Then) → let s = head-start (then-head c) in hasBody (part-w s (s .args .i)) ≡ true
+  body c = sym (then-has c .has-body .ensures (head-start (then-head c) .args .script .now) _ _) ∙ c .if1 .taken
 
-  -- the place behind the first of left
-  abbrev First : Type 0
-  First = count-body-lts.After-first (count-body-claims t) (count-body-at t) count-body.Post
+  no-body : (c : count-part-lts.Else1 (count-part-claims t) (count-part-at t) count-part.Post) → let s = head-start (else-head c) in hasBody (part-w s (s .args .i)) ≡ false
+  no-body c = sym (else-has c .has-body .ensures (head-start (else-head c) .args .script .now) _ _) ∙ c .if1 .left
 
-  abbrev start : First → BodyStart
-  start c = c .before .before .before .before .before .before .before .before .before
-
-  first-then-rest : (c : First) → left (start c) ≡ c .first .result ∷ tail (left (start c))
-  first-then-rest c = first-is (start c .args .left) (c .first .result) (start c .fits .left .fits) (c .before .before .if1 .left) (c .first .ensures)
-
-  first-low : (c : First) → c .first .result < 64
-  first-low c = first-below (start c .args .left) (c .first .result) (tail (left (start c))) (first-then-rest c)
-
-  count-body-returns : count-body-lts.Need-returns (count-body-claims t) (count-body-at t) count-body.Post
-  unfolding capped
-  count-body-returns c ix i b e h m =
-      let s = c .before .before .before .before .before .before .before in
-      ap (λ (ws : List ℕ). capped (length ws)) (no-tops (left s) (ap members (c .if1 .taken) ∙ members-empty) ix i (body-σ s) b e)
-
-  count-body-returns-2 : count-body-lts.Need-returns-2 (count-body-claims t) (count-body-at t) count-body.Post
-  unfolding capped
-  count-body-returns-2 c ix i b e h m =
-      let s = c .before .before .before .before .before .before .before .before in
-      ap (λ (ws : List ℕ). capped (length ws)) (no-parts (s .args .fuel) (c .if2 .taken) ix i (body-σ s) b m)
-
-  count-body-sub-count-part : count-body-lts.Need-sub-count-part (count-body-claims t) (count-body-at t) count-body.Post
-  count-body-sub-count-part c =
-      omega (arith, c .before .if2 .left)
-
-  count-body-count-part-requires : count-body-lts.Need-count-part-requires (count-body-claims t) (count-body-at t) count-body.Post
-  count-body-count-part-requires c κs =
-      let s = c .before .before .before .before .before .before .before .before .before in
-      (omega (arith, s .pre .0, c .before .if2 .left), (s .pre .1 .0, s .pre .1 .1, first-low (c)))
-
-  count-body-rest-requires : count-body-lts.Need-rest-requires (count-body-claims t) (count-body-at t) count-body.Post
-  count-body-rest-requires c κs =
-      let s = c .before .before .before .before .before .before .before .before .before .before in
-      not-none (s .args .left) (s .fits .left .fits) (c .before .before .before .if1 .left)
-
-  count-body-sub-count-body : count-body-lts.Need-sub-count-body (count-body-claims t) (count-body-at t) count-body.Post
-  count-body-sub-count-body c =
-      omega (arith, c .before .before .before .if2 .left)
-
-  count-body-count-body-requires : count-body-lts.Need-count-body-requires (count-body-claims t) (count-body-at t) count-body.Post
-  count-body-count-body-requires c κs =
-      let s = c .before .before .before .before .before .before .before .before .before .before .before in
-      (omega (arith, s .pre .0, c .before .before .before .if2 .left), s .pre .1)
-
-  count-body-returns-3 : count-body-lts.Need-returns-3 (count-body-claims t) (count-body-at t) count-body.Post
-  count-body-returns-3 c =
-      let s = c .before .before .before .before .before .before .before .before .before .before .before .before .before in
-      counts-more (body-σ s) (bodyIn (s .args .kids .now)) (body-w s) (left s) (s .args .fuel) (c .before .before .before .before .first .result) (tail (left s)) (first-then-rest (c .before .before .before .before)) (c .before .before .before .count-part .result) (c .before .count-body .result) (c .sum .result)
-      (c .before .before .before .count-part .ensures) (λ ix i b e. c .before .count-body .ensures ix i b (c .before .before .rest .ensures ∙ e)) (c .sum .ensures)
-
-  count-part-element-copy-out-kind : count-part-lts.Need-element-copy-out-kind (count-part-claims t) (count-part-at t) count-part.Post
-  count-part-element-copy-out-kind c =
-      c .before .before .before .before .before .before .pre .1 .2
-
-  count-part-mul-start : count-part-lts.Need-mul-start (count-part-claims t) (count-part-at t) count-part.Post
-  count-part-mul-start c =
-      omega (arith, c .before .before .before .before .before .before .before .pre .1 .2)
-
-  count-part-element-copy-out-start : count-part-lts.Need-element-copy-out-start (count-part-claims t) (count-part-at t) count-part.Post
-  count-part-element-copy-out-start c =
-      c .before .before .before .before .before .before .before .pre .1 .2
-
-  count-part-mul-offset : count-part-lts.Need-mul-offset (count-part-claims t) (count-part-at t) count-part.Post
-  count-part-mul-offset c =
-      omega (arith, c .before .before .before .before .before .before .before .before .pre .1 .2)
-
-  count-part-element-copy-out-offset : count-part-lts.Need-element-copy-out-offset (count-part-claims t) (count-part-at t) count-part.Post
-  count-part-element-copy-out-offset c =
-      c .before .before .before .before .before .before .before .before .pre .1 .2
+  -- ---- count_part: the needs
 
   count-part-count-head-requires : count-part-lts.Need-count-head-requires (count-part-claims t) (count-part-at t) count-part.Post
-  count-part-count-head-requires c κs =
-      let s = c .before .before .before .before .before .before .before .before .before in
-      (s .pre .1 .0, s .pre .1 .1 .placed (s .args .i), omega (arith, s .pre .1 .1 .spent (s .args .i)))
-
-  count-part-mul-inside : count-part-lts.Need-mul-inside (count-part-claims t) (count-part-at t) count-part.Post
-  count-part-mul-inside c =
-      omega (arith, c .before .before .before .before .before .before .before .before .before .before .before .before .pre .1 .2)
-
-  count-part-element-copy-out-inside : count-part-lts.Need-element-copy-out-inside (count-part-claims t) (count-part-at t) count-part.Post
-  count-part-element-copy-out-inside c =
-      omega (arith, c .before .before .before .before .before .before .before .before .before .before .before .before .pre .1 .2)
+  count-part-count-head-requires c κs = let s = offset-start c in (s .pre .1 .0, s .pre .1 .1 .placed (s .args .i), omega (arith, s .pre .1 .1 .spent (s .args .i)))
 
   count-part-count-body-requires : count-part-lts.Need-count-body-requires (count-part-claims t) (count-part-at t) count-part.Post
-  count-part-count-body-requires c κs =
-      let s = c .before .before .before .before .before .before .before .before .before .before .before .before .before in
-      (omega (arith, s .pre .0), (s .pre .1 .0, s .pre .1 .1))
+  count-part-count-body-requires c κs = let s = head-start (then-head (inside-then c)) in (omega (arith, s .pre .0), (s .pre .1 .0, s .pre .1 .1))
 
   count-part-returns : count-part-lts.Need-returns (count-part-claims t) (count-part-at t) count-part.Post
-  count-part-returns c ix i b e h m =
-      let s = c .before .before .before .before .before .before .before .before .before .before .before .before .before .before .before in
-      counts-inside ix i (part-σ s) (part-w s (s .args .i)) (unfolded (part-σ s) b) (c .before .before .before .before .before .count-head .result) (c .before .count-body .result) (c .sum .result) (sym (c .before .before .before .before .has-body .ensures (s .args .script .now) _ _) ∙ c .before .before .before .if1 .taken) (c .before .before .before .before .before .count-head .ensures ix) (c .before .count-body .ensures _ _ b e h m) (c .sum .ensures)
+  count-part-returns c =
+      let e = sum-then c in
+      let h = then-head e in
+      let s = head-start h in
+      counts-inside (part-σ s) (bodyIn (s .args .kids .now)) (part-w s) (bodyIn (s .args .kids .now) (s .args .i)) (s .args .fuel) (part-w s (s .args .i)) (h .count-head .ensures) (body e) (sum-body c .count-body .ensures) (c .sum .ensures)
 
   count-part-returns-2 : count-part-lts.Need-returns-2 (count-part-claims t) (count-part-at t) count-part.Post
-  count-part-returns-2 c ix i b e h m =
-      let s = c .before .before .before .before .before .before .before .before .before .before .before .before in
-      c .before .before .count-head .ensures ix ∙ ap (λ (ws : List ℕ). capped (length ws)) (part-only ix i (part-σ s) (part-w s (s .args .i)) (unfolded (part-σ s) b) (sym (c .before .has-body .ensures (s .args .script .now) _ _) ∙ c .if1 .left))
+  count-part-returns-2 c =
+      let h = else-head c in
+      let s = head-start h in
+      counts-only (part-σ s) (bodyIn (s .args .kids .now)) (part-w s) (bodyIn (s .args .kids .now) (s .args .i)) (s .args .fuel) (part-w s (s .args .i)) (h .count-head .ensures) (no-body c)
 
 pub +count-body+count-part-spec : {M : Type 1} → statement M
 +count-body+count-part-spec = close μ-count-body μ-count-part (λ t. count-body-lts.spec (count-body-claims t)
@@ -187,25 +241,25 @@ pub +count-body+count-part-spec : {M : Type 1} → statement M
     (count-body-returns t)
     (count-body-returns-2 t)
     (λ c κs. search needs)
-    (count-body-sub-count-part t)
+    (λ c. omega (arith, some t c))
     (count-body-count-part-requires t)
     (count-body-rest-requires t)
-    (count-body-sub-count-body t)
+    (λ c. omega (arith, some t (rest-first t c)))
     (count-body-count-body-requires t)
     (λ c κs. search needs)
     (count-body-returns-3 t))
     λ t. count-part-lts.spec (count-part-claims t)
     (count-part-at t)
     count-part.Post
-    (count-part-element-copy-out-kind t)
-    (count-part-mul-start t)
-    (count-part-element-copy-out-start t)
-    (count-part-mul-offset t)
-    (count-part-element-copy-out-offset t)
+    (λ c. known-start t c .pre .1 .2)
+    (λ c. omega (arith, kind-start t c .pre .1 .2))
+    (λ c. kind-start t c .pre .1 .2)
+    (λ c. omega (arith, start-start t c .pre .1 .2))
+    (λ c. start-start t c .pre .1 .2)
     (count-part-count-head-requires t)
     (λ c κs. search needs)
-    (count-part-mul-inside t)
-    (count-part-element-copy-out-inside t)
+    (λ c. omega (arith, head-start t (then-head t c) .pre .1 .2))
+    (λ c. omega (arith, head-start t (then-head t c) .pre .1 .2))
     (count-part-count-body-requires t)
     (λ c κs. search needs)
     (count-part-returns t)

@@ -10,24 +10,40 @@ use borrow.Author.Needs.{needs}
 use Rattle.writer.proofs.around_body.Statement.{statement}
 use Rattle.writer.proofs.around_body.Tie as tie
 
+abbrev then-start : tie.Then1 → tie.Start
+then-start c = c .before
+
+abbrev else-start : tie.Else1 → tie.Start
+else-start c = c .before
+
+abbrev known-else : tie.After-struct-known → tie.Else1
+known-else c = c .before
+
+-- the arrays have room for one receipt more
+long-variables : (s : tie.Start) → s .args .around .first ≤ length (s .args .around .variables)
+long-variables s = let l : length (s .args .around .variables) ≡ 64 = search needs in omega (arith, l, s .pre .0 .within)
+
+long-indices : (s : tie.Start) → s .args .around .first ≤ length (s .args .around .indices)
+long-indices s = let l : length (s .args .around .indices) ≡ 64 = search needs in omega (arith, l, s .pre .0 .within)
+
 returns : tie.Need-returns
 returns c =
-    let s = c .before in
-    (s .pre .0, omega arith, λ w σ o. within-other w (s .args .kind) (s .args .start) o (indicesOf (s .args .around)) σ (s .args .index) (c .if1 .taken))
+    let s = then-start c in
+    record { right = s .pre .0; room = omega arith; indices = λ w σ o. within-other w (s .args .kind) (s .args .start) o (indicesOf (s .args .around)) σ (s .args .index) (c .if1 .taken) }
 
 returns-2 : tie.Need-returns-2
 unfolding indicesOf
 returns-2 c =
-    let s = c .before .before in
+    let e = known-else c in
+    let s = else-start e in
     let x = s .args .around in
-    let l : length (x .variables) ≡ 64 = search needs in
-    let m : length (x .indices) ≡ 64 = search needs in
-    let p : x .first ≤ length (x .variables) = omega (arith, s .pre .0 .within) in
-    let q : x .first ≤ length (x .indices) = omega (arith, s .pre .0 .within) in (
-      record { within = omega (arith, s .pre .0 .within); indexed = indexed-front (x .variables) (x .indices) (x .first) (s .args .start) _ (s .pre .1) p q (s .pre .0 .indexed) (s .pre .2) },
-      omega (arith, s .pre .1),
-      λ w σ o. indices-front (x .variables) (x .indices) (x .first) (s .args .start) _ (s .pre .1) p q ∙ within-receipt w (s .args .kind) (s .args .start) o (indicesOf x) σ (s .args .index) (c .before .if1 .left),
-    )
+    let v = long-variables s in
+    let i = long-indices s in
+    record {
+      right = record { within = omega (arith, s .pre .0 .within); indexed = indexed-front (x .variables) (x .indices) (x .first) (s .args .start) _ (s .pre .1) v i (s .pre .0 .indexed) (s .pre .2) };
+      room = omega (arith, s .pre .1);
+      indices = λ w σ o. indices-front (x .variables) (x .indices) (x .first) (s .args .start) _ (s .pre .1) v i ∙ within-receipt w (s .args .kind) (s .args .start) o (indicesOf x) σ (s .args .index) (e .if1 .left);
+    }
 
 pub around-body-spec : {M : Type 1} → statement M
 around-body-spec =
