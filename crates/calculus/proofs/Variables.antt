@@ -5,15 +5,12 @@ use mathlib.Core.Bool.{true, false, cond}
 use mathlib.Core.Path.{_≡_, refl, sym, ap, ap₂, _∙_, subst}
 use native.Mathlib.Omega.{arith}
 use lib.Dec.{eqb}
-use borrow.Author.Tests.{eqb-true, eqb-false, eq-eqb, ne-eqb}
+use borrow.Author.Tests.{eqb-true, eqb-false, ne-eqb}
 use Rattle.messages.specs.Message.{Message, name, variable, enter, exit, opens, empty, path, mentions}
 use Rattle.messages.specs.Message as message
 use Rattle.messages.proofs.Mentioning.{mentions-none, mentions-other}
-use Rattle.slices.proofs.Tests.{byTest}
+use Rattle.slices.proofs.Tests.{byTest, eqb-same}
 use Rattle.calculus.specs.Calculus.{Process, 𝟎, _‖_, ambient, action, input, output, substitute, occurs}
-
-pub eqb-same : (x : ℕ) → eqb x x ≡ true
-eqb-same x = eq-eqb x x refl
 
 pub eqb-flip : (x y : ℕ) → eqb x y ≡ false → eqb y x ≡ false
 eqb-flip x y e = ne-eqb y x (λ g. eqb-false x y e (sym g))

@@ -44,7 +44,7 @@ below-append n (x ∷ l) k a b = (a .0, below-append n l k (a .1) b)
 -- ---- trees with other heads
 
 module _ {G H : Type 0} (f : G → H) where
-  tops-map : (b : Body G) → tops (mapHeads f b) ≡ tops b
+  pub tops-map : (b : Body G) → tops (mapHeads f b) ≡ tops b
   unfolding tops mapHeads
   tops-map close = refl
   tops-map (part i h b r) = ap (λ (l : List ℕ). i ∷ l) (tops-map r)

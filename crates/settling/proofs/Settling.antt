@@ -11,11 +11,12 @@ use Rattle.sets.proofs.Members.{inserted-front, elem-keep, members-empty, membe
 use Rattle.scripts.specs.Tree.{ambient, action, receipt, output, close, part, oneIf, isAmbient, tops, total, timesIn, settleBy}
 use Rattle.scripts.specs.Represents.{Held}
 use Rattle.slices.proofs.Tests.{byTest}
+use Rattle.scripts.proofs.Numbers.{own-times}
 use Rattle.machine.proofs.Sums.{settle-total}
 use Rattle.closure_machine.specs.Closure.{ClosureHead, Closure, Bindings, allSpent, settleUnder}
 use Rattle.closures.specs.Searches.{Settles}
 use Rattle.closures.specs.Seen.{busyUnder, Busy}
-use Rattle.closures.proofs.Holding.{no-cons, self, tops-put, tops-merge, numbers-differ, frame, held-put, held-merge}
+use Rattle.closures.proofs.Holding.{no-cons, tops-put, tops-merge, numbers-differ, frame, held-put, held-merge}
 
 -- no number stands more often than before
 pub settled-times : (σ : Bindings) (j : ℕ) (b : Closure) → timesIn j (settleUnder σ b) ≤ timesIn j b
@@ -87,7 +88,7 @@ module _ (σ : Bindings) (k k₁ : ℕ → List ℕ) (w : ℕ → ClosureHead) (
         let q = rest r (ap tail (sym first ∙ e)) (h .3) (λ n. omega (arith, once n)) (omega arith) in
         rw (ap (allSpent σ) a ∙ b, ap isAmbient a ∙ m) (
           x ∙ ap₂ inserted p (q .0) ∙ sym (tops-put j g s (settleUnder σ r)),
-          held-put k₁ w j g s (settleUnder σ r) (sym (q .2 j (omega (arith, once j, self j))) ∙ h .0) (h .1)
+          held-put k₁ w j g s (settleUnder σ r) (sym (q .2 j (omega (arith, once j, own-times j))) ∙ h .0) (h .1)
               (frame k k₁ w w s (h .2) (λ n c. (q .2 n (omega (arith, once n)), refl))) (q .1),
           λ n c. q .2 n (omega arith),
         )
@@ -102,7 +103,7 @@ module _ (σ : Bindings) (k k₁ : ℕ → List ℕ) (w : ℕ → ClosureHead) (
           let a : g ≡ w i = sym (h .1) ∙ ap w (sym p) in
           let q = rest r (ap tail (sym first ∙ e)) (h .3) (λ n. omega (arith, once n)) (omega arith) in
           let held-s : Held k₁ w s = frame k k₁ w w s (h .2) (λ n c. (q .2 n (omega (arith, once n)), refl)) in
-          let y = inside s (ap k₁ p ∙ sym (q .2 j (omega (arith, once j, self j))) ∙ h .0) held-s (λ n. omega (arith, once n)) (omega arith) in
+          let y = inside s (ap k₁ p ∙ sym (q .2 j (omega (arith, once j, own-times j))) ∙ h .0) held-s (λ n. omega (arith, once n)) (omega arith) in
           rw (ap (allSpent σ) a ∙ b) (
             x ∙ ap₂ joined (y .0) (q .0) ∙ sym (tops-merge (settleUnder σ s) (settleUnder σ r)),
             held-merge k₂ w (settleUnder σ s) (settleUnder σ r) (y .1)
@@ -119,9 +120,9 @@ module _ (σ : Bindings) (k k₁ : ℕ → List ℕ) (w : ℕ → ClosureHead) (
           let a : g ≡ w i = sym (h .1) ∙ ap w (sym p) in
           let q = rest r (ap tail (sym first ∙ e)) (h .3) (λ n. omega (arith, once n)) (omega arith) in
           let held-s : Held k₁ w s = frame k k₁ w w s (h .2) (λ n c. (q .2 n (omega (arith, once n)), refl)) in
-          let y = inside s (ap k₁ p ∙ sym (q .2 j (omega (arith, once j, self j))) ∙ h .0) held-s (λ n. omega (arith, once n)) (omega arith) in
-          let zs : timesIn j (settleUnder σ s) ≡ 0 = omega (arith, settled-times σ j s, once j, self j) in
-          let zr : timesIn j (settleUnder σ r) ≡ 0 = omega (arith, settled-times σ j r, once j, self j) in
+          let y = inside s (ap k₁ p ∙ sym (q .2 j (omega (arith, once j, own-times j))) ∙ h .0) held-s (λ n. omega (arith, once n)) (omega arith) in
+          let zs : timesIn j (settleUnder σ s) ≡ 0 = omega (arith, settled-times σ j s, once j, own-times j) in
+          let zr : timesIn j (settleUnder σ r) ≡ 0 = omega (arith, settled-times σ j r, once j, own-times j) in
           rw (ap (allSpent σ) a ∙ b, ap isAmbient a ∙ m) (
             x ∙ ap₂ inserted p (q .0) ∙ sym (tops-put j g (settleUnder σ s) (settleUnder σ r)),
             held-put k₃ w j g (settleUnder σ s) (settleUnder σ r) (ap k₃ (sym p) ∙ c ∙ y .0) (h .1)
@@ -129,7 +130,7 @@ module _ (σ : Bindings) (k k₁ : ℕ → List ℕ) (w : ℕ → ClosureHead) (
                 (frame k₁ k₃ w w (settleUnder σ r) (q .1)
                 (λ n f. (y .2 n (omega (arith, settled-times σ n r, once n)) ∙ d n (λ v. numbers-differ n j (settleUnder σ r) f zr (v ∙ p)), refl))),
             λ n f. q .2 n (omega arith) ∙ y .2 n (omega arith)
-                ∙ d n (λ (v : n ≡ i). let o : 1 ≤ oneIf (eqb n j) = subst (λ (a : ℕ). 1 ≤ oneIf (eqb n a)) (v ∙ p) (omega (arith, self n)) in let o₁ : ⊥ = omega arith in o₁),
+                ∙ d n (λ (v : n ≡ i). let o : 1 ≤ oneIf (eqb n j) = subst (λ (a : ℕ). 1 ≤ oneIf (eqb n a)) (v ∙ p) (omega (arith, own-times n)) in let o₁ : ⊥ = omega arith in o₁),
           )
 
 -- ---- the parts at which settling looks, as a set
