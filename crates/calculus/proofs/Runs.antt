@@ -325,6 +325,7 @@ run-leave {b} {b₁} {i} {i₁} {j} {room} {room₁} {a} {t} {k} {n} {m} {is} d 
       target = part-find q (d t);
       around = part-find p (e k);
       actor = part-find o (inside-distinct p e a);
+      another = tt;
       shell-named = refl;
       asked = refl;
       named = refl;

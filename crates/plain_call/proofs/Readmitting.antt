@@ -36,7 +36,7 @@ use Rattle.calculus.specs.TreeProcess.{piece, process}
 use Rattle.calculus.proofs.Variables.{free, free-other}
 use Rattle.calculus.proofs.Substitutions.{Closed}
 use Rattle.calculus.proofs.Kept.{Good, good-move}
-use Rattle.decision.proofs.Fits.{MessageAll, Fit, Fits, fits-more, move-fits}
+use Rattle.decision.proofs.Fits.{MessageAll, message-more, Fit, Fits, fits-more, move-fits}
 use Rattle.plain_call.specs.Call.{Call, begun, written}
 use Rattle.plain_call.specs.Nesting.{messageNesting, partNesting, nesting}
 use Rattle.plain_call.specs.Standing.{After, LetIn, Readmits, Admits}
@@ -175,13 +175,7 @@ message-first (suc f) nest n o around c w ws e l t u h =
     (λ _ _ m. h f (cursor (suc (c .index)) (c .number) ws) refl s m))))
 
 sound-message : (m : Message) → MessageAll Sound m → MessageAll Fitting m
-sound-message (name n) x = sound-fits n x
-sound-message (variable v) x = tt
-sound-message (enter m) x = sound-message m x
-sound-message (exit m) x = sound-message m x
-sound-message (opens m) x = sound-message m x
-sound-message empty x = tt
-sound-message (path m k) x = (sound-message m (x .0), sound-message k (x .1))
+sound-message m x = message-more Sound Fitting sound-fits m x
 
 -- THEOREM: the words of a message whose variables' receipts stand around are judged by its nesting.
 message-only : (ix : Indices) → Small ix → (around : List ℕ) (m : Message) → MessageAll Sound m → ((v : ℕ) → ¬ (mentions v m ≡ 0) → member (newIndex ix v) around ≡ true)

@@ -20,11 +20,11 @@ use Rattle.decision.specs.Walk.{Count, Walked, says}
 use Rattle.decision.specs.PlainWalk.{plainSpace}
 use Rattle.decision.proofs.Deciding.{stopped≢says}
 use Rattle.decision.proofs.Patience.{Tired, Kept, walk-patient}
-use Rattle.plain_call.specs.Call.{Call, accepted, Answer, leftBy, refusal, written, finish, walked, Start, partsOf, setting, ruleRun, starting, terms, door, answer}
+use Rattle.plain_call.specs.Call.{Call, accepted, Answer, leftBy, refusal, written, finish, walked, Start, partsOf, setting, ruleRun, starting, terms, door, answer, accepting, roomy}
 use Rattle.plain_call.specs.Standing.{Standing}
 use Rattle.plain_call.specs.Steadfast.{Alike, onto, Steadfast, Wanting, NoLess, Lasting, withPatience, Patient}
 use Rattle.plain_call.proofs.Entering.{door-patience, door-unasked, door-unread}
-use Rattle.plain_call.proofs.Answers.{walkOf, accepting, roomy, answer-ends, answer-unread, answer-shut, answer-run, answer-walked}
+use Rattle.plain_call.proofs.Answers.{walkOf, answer-ends, answer-unread, answer-shut, answer-run, answer-walked}
 use Rattle.plain_call.proofs.Verdicts.{answer-stands}
 
 -- ---- the questions that ask numbers

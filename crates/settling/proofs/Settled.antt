@@ -20,6 +20,7 @@ use Rattle.held_bindings.specs.Held.{bindingsOf}
 use Rattle.slices.proofs.Tests.{byTest}
 use Rattle.machine.proofs.Sums.{map-total, settle-total}
 use Rattle.closure_machine.specs.Closure.{ClosureHead, Closure, Bindings, allSpent, settleUnder, wholeHead, closureOf}
+use Rattle.scripts.proofs.Tabled.{tops-map}
 use Rattle.closures.specs.Represents.{headOf, heads, boundIn, Counted, Ready, Represents}
 use Rattle.closures.specs.Searches.{SettlesBy}
 use Rattle.closures.specs.Seen.{Seen}
@@ -31,7 +32,6 @@ use Rattle.lent_states.specs.Lent.{kindsIn, standing}
 use Rattle.arrays.proofs.Copying.{getD-stretch}
 use Rattle.lent_states.proofs.Standing.{below-64, body-in}
 use Rattle.settling.proofs.Settling.{settled-times}
-use Rattle.scripts.proofs.Tabled.{tops-map}
 
 -- the state after its parts are settled from the top
 pub settled-is : (script kinds starts : List ℕ) (weight spent : ℕ) (sets numbers : List ℕ) (b : Closure) (after : List ℕ) (m : ℕ) → kindsIn numbers ≡ kinds → Ready script kinds starts (standing sets numbers)
