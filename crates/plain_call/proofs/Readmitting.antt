@@ -2,7 +2,7 @@
 -- fit, each VAR names a REC around it, the body ends at the last word, and there are no more parts than the script has. And
 -- these two are just where there are more than 1,024 words, or where the tree's nesting is above 64. Assumes nothing.
 use Prim.Native.Nat.{ℕ, zero, suc, _+_, _*_, _≤_, _<_, max}
-use mathlib.Core.Bool.{Bool, true, false, _&&_, _||_, false≢true}
+use mathlib.Core.Bool.{Bool, true, _&&_, false≢true}
 use mathlib.Core.List.{List, [], _∷_, _++_, append-nil, append-assoc}
 use mathlib.Core.Path.{_≡_, refl, sym, ap, _∙_, subst}
 use mathlib.Core.Logic.{inl, inr}
@@ -27,7 +27,7 @@ use Rattle.scripts.proofs.Cases as body
 use Rattle.scripts.proofs.Laws.{body-advances}
 use Rattle.scripts.proofs.Tabled.{script-tabled}
 use Rattle.machine.specs.PlainMachine.{Machine, weightOf}
-use Rattle.slices.proofs.Tests.{byTest, eqb-same}
+use Rattle.slices.proofs.Tests.{byTest, eqb-same, or-right}
 use Rattle.machine.proofs.Everywhere.{Everywhere, map-everywhere, settle-everywhere}
 use Rattle.message_writer.specs.Write.{Indices, newIndex, writeMessage, write}
 use Rattle.message_writer.proofs.Trees.{some-written}
@@ -314,10 +314,6 @@ module _ {h : PlainHead} {m : Message} (G : Guarded h m) where
       L = laid ix i k h b r (G .own ∷ writeMessage ix m) inner rest (c .left) (G .writes ix i b) e l
 
 -- a receipt
-or-right : (a b : Bool) → b ≡ true → (a || b) ≡ true
-or-right true b e = refl
-or-right false b e = e
-
 member-own : (i : ℕ) (around : List ℕ) → member i (i ∷ around) ≡ true
 unfolding member
 member-own i around = rw (eqb-same i)

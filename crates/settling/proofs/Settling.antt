@@ -10,7 +10,7 @@ use Rattle.sets.specs.Sets.{members, elem, inserted, joined, both, keep, headOr
 use Rattle.sets.proofs.Members.{inserted-front, elem-keep, members-empty, members-same, members-below}
 use Rattle.scripts.specs.Tree.{ambient, action, receipt, output, close, part, oneIf, isAmbient, tops, total, timesIn, settleBy}
 use Rattle.scripts.specs.Represents.{Held}
-use Rattle.slices.proofs.Tests.{byTest}
+use Rattle.slices.proofs.Tests.{byTest, or-right}
 use Rattle.scripts.proofs.Numbers.{own-times}
 use Rattle.machine.proofs.Sums.{settle-total}
 use Rattle.closure_machine.specs.Closure.{ClosureHead, Closure, Bindings, allSpent, settleUnder}
@@ -51,17 +51,13 @@ quiet-body : (σ : Bindings) (k : ℕ → List ℕ) (w : ℕ → ClosureHead) (a
 unfolding settleBy tops elem
 quiet-body σ k w a close up none h = (refl, tt)
 quiet-body σ k w a (part j g s r) up none h =
-    let q = quiet-body σ k w (suc j) r (up .1) (λ i e. none i (or-true (eqb i j) (elem i (tops r)) e)) (h .3) in
+    let q = quiet-body σ k w (suc j) r (up .1) (λ i e. none i (or-right (eqb i j) (elem i (tops r)) e)) (h .3) in
     let free : busyUnder σ g ≡ false = ap (busyUnder σ) (sym (h .1)) ∙ none j (ap (λ (t : Bool). t || elem j (tops r)) (eq-eqb j j refl)) in
     let (bare, amb) = not-busy σ g free in
     rw (bare, amb) (
       ap (λ (l : List ℕ). j ∷ l) (q .0) ∙ sym (tops-put j g s (settleUnder σ r) ∙ inserted-front j (tops (settleUnder σ r)) (subst (Rising (suc j)) (q .0) (up .1))),
       held-put k w j g s (settleUnder σ r) (h .0) (h .1) (h .2) (q .1),
     )
-  where
-    or-true : (x y : Bool) → y ≡ true → (x || y) ≡ true
-    or-true true y e = refl
-    or-true false y e = e
 
 module _ (σ : Bindings) (k k₁ : ℕ → List ℕ) (w : ℕ → ClosureHead) (left R : List ℕ) (fuel : ℕ) where
   pub settle-quiet : Rising 0 left → ((i : ℕ) → elem i left ≡ true → busyUnder σ (w i) ≡ false) → R ≡ left → ((j : ℕ) → k j ≡ k₁ j) → Settles σ k k₁ w left R fuel
