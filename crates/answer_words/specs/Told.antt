@@ -31,8 +31,3 @@ told a =
     ∷ a .weight
     ∷ a .words
     ∷ []
-
--- To unfold this is to unfold every definition of this module: for a proof by computation.
-unfoldable pub computing : Unit {0}
-unfolding saidOf questionOf placeOf told
-computing = tt

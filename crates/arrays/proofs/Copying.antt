@@ -97,13 +97,6 @@ from-start l s i m = let e : 0 + i ≡ i = omega arith in subst (λ (n : ℕ). g
 pub to-start : (l : List ℕ) → ((i : ℕ) → i < 64 → getD l i 0 < 256) → (i : ℕ) → i < 64 → getD l (0 + i) 0 < 256
 to-start l s i m = let e : i ≡ 0 + i = omega arith in subst (λ (n : ℕ). getD l n 0 < 256) e (s i m)
 
--- an entry that is set to what it is
-pub set-same : (l : List ℕ) (i : ℕ) → i < length l → set l i (getD l i 0) ≡ l
-set-same l i m = ext-getD 0 (set l i (getD l i 0)) l (length-set l i (getD l i 0))
-    (λ j n. byTest (eqb j i)
-    (λ t. rw (eqb-true j i t) (getD-set-same l i (getD l i 0) 0 m))
-    (λ t. getD-set-other l i j (getD l i 0) 0 (eqb-false j i t)))
-
 -- ---- stretches of two arrays
 
 -- arrays that agree there

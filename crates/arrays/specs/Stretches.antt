@@ -14,8 +14,3 @@ pub record Put (at : ℕ) (from before after : List ℕ) : Type 0 where
   pub here : (i : ℕ) → i < length from → getD after (at + i) 0 ≡ getD from i 0
   pub below : (j : ℕ) → j < at → getD after j 0 ≡ getD before j 0
   pub beyond : (j : ℕ) → at + length from ≤ j → getD after j 0 ≡ getD before j 0
-
--- To unfold this is to unfold every definition of this module: for a proof by computation.
-unfoldable pub computing : Unit {0}
-unfolding stretch
-computing = tt

@@ -117,48 +117,27 @@ pub unbound-free : (script vs ps : List ℕ) (m : MessageWord) → length vs ≤
 unfolding boundAt
 unbound-free script vs ps m h v e = resolve-unbound script vs ps v (rw e at h)
 
-name-word : (σ : List (ℕ × Message)) (m : MessageWord) (s : List Message) → Free σ m → nameOf (resolve σ (top (push m s))) ≡ plainName m
-unfolding push top nameOf plainName
-name-word σ (Name n) s f = rw (resolve-name)
-name-word σ (Variable v) s f = rw (f v refl)
-name-word σ Enter s f = rw (resolve-enter)
-name-word σ Exit s f = rw (resolve-exit)
-name-word σ Open s f = rw (resolve-opens)
-name-word σ Empty s f = rw (resolve-empty)
-name-word σ Path s f = rw (resolve-path)
-name-word σ Unfit s f = rw (resolve-empty)
+word-free : (σ : List (ℕ × Message)) (m : MessageWord) (s : List Message) → Free σ m
+    → (nameOf (resolve σ (top (push m s))) ≡ plainName m) × (asks (resolve σ (top (push m s))) ≡ plainItem m (nameOf (resolve σ (top s)))) × (length (wordItems σ m s) ≡ shapeOf m .items)
+unfolding push top nameOf plainName asks plainItem wordItems shapeOf items
+word-free σ (Name n) s f = (rw (resolve-name), rw (resolve-name), refl)
+word-free σ (Variable v) s f = (rw (f v refl), rw (f v refl), rw (f v refl))
+word-free σ Enter s f = (rw (resolve-enter), rw (resolve-enter), refl)
+word-free σ Exit s f = (rw (resolve-exit), rw (resolve-exit), refl)
+word-free σ Open s f = (rw (resolve-opens), rw (resolve-opens), refl)
+word-free σ Empty s f = (rw (resolve-empty), rw (resolve-empty), refl)
+word-free σ Path s f = (rw (resolve-path), rw (resolve-path), refl)
+word-free σ Unfit s f = (rw (resolve-empty), rw (resolve-empty), refl)
 
 pub name-free : (σ : List (ℕ × Message)) (l : List ℕ) → Free σ (firstWord l) → nameOf (resolve σ (messageAt l)) ≡ plainName (firstWord l)
-name-free σ l f = rw (message-first l) (name-word σ (firstWord l) (spelled (drop 1 l)) f)
-
-item-word : (σ : List (ℕ × Message)) (m : MessageWord) (s : List Message) → Free σ m → asks (resolve σ (top (push m s))) ≡ plainItem m (nameOf (resolve σ (top s)))
-unfolding push top asks plainItem
-item-word σ (Name n) s f = rw (resolve-name)
-item-word σ (Variable v) s f = rw (f v refl)
-item-word σ Enter s f = rw (resolve-enter)
-item-word σ Exit s f = rw (resolve-exit)
-item-word σ Open s f = rw (resolve-opens)
-item-word σ Empty s f = rw (resolve-empty)
-item-word σ Path s f = rw (resolve-path)
-item-word σ Unfit s f = rw (resolve-empty)
+name-free σ l f = rw (message-first l) (word-free σ (firstWord l) (spelled (drop 1 l)) f .0)
 
 pub item-free : (σ : List (ℕ × Message)) (l : List ℕ) → Free σ (firstWord l) → asks (resolve σ (messageAt l)) ≡ plainItem (firstWord l) (nameOf (resolve σ (messageAt (drop 1 l))))
-item-free σ l f = rw (message-first l) (unfold messageAt in item-word σ (firstWord l) (spelled (drop 1 l)) f)
-
-own-word : (σ : List (ℕ × Message)) (m : MessageWord) (s : List Message) → Free σ m → length (wordItems σ m s) ≡ shapeOf m .items
-unfolding wordItems shapeOf items
-own-word σ (Name n) s f = refl
-own-word σ (Variable v) s f = rw (f v refl)
-own-word σ Enter s f = refl
-own-word σ Exit s f = refl
-own-word σ Open s f = refl
-own-word σ Empty s f = refl
-own-word σ Path s f = refl
-own-word σ Unfit s f = refl
+item-free σ l f = rw (message-first l) (unfold messageAt in word-free σ (firstWord l) (spelled (drop 1 l)) f .1)
 
 pub own-free : (σ : List (ℕ × Message)) (l : List ℕ) → Free σ (firstWord l) → length (ownItems σ l) ≡ shapeOf (firstWord l) .items
 unfolding ownItems
-own-free σ l f = own-word σ (firstWord l) (spelled (drop 1 l)) f
+own-free σ l f = word-free σ (firstWord l) (spelled (drop 1 l)) f .2
 
 -- the only item
 only : (x : Message) (l : List Message) (o : ℕ) → l ≡ x ∷ [] → o < length l → drop o l ≡ x ∷ []

@@ -22,8 +22,3 @@ keptOf f script (v ∷ vs) (a ∷ ps) = capped (f (resolve (bindingsIn script vs
 pub record Kept (count : Message → ℕ) (script variables places values : List ℕ) : Type 0 where
   pub aligned : length places ≡ length variables
   pub right : values ≡ keptOf count script variables places
-
--- To unfold this is to unfold every definition of this module: for a proof by computation.
-unfoldable pub computing : Unit {0}
-unfolding keptOf
-computing = tt

@@ -35,8 +35,3 @@ wordItems σ Unfit s = []
 -- the items that the first of the words has of its own
 unfoldable pub ownItems : List (ℕ × Message) → (words : List ℕ) → List Message
 ownItems σ ws = wordItems σ (firstWord ws) (spelled (drop 1 ws))
-
--- To unfold this is to unfold every definition of this module: for a proof by computation.
-unfoldable pub computing : Unit {0}
-unfolding firsts allItems wordItems ownItems
-computing = tt

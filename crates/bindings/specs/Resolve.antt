@@ -24,8 +24,3 @@ bindingsIn script (v ∷ vs) (a ∷ ps) = (v, messageAt (drop a script)) ∷ bin
 -- PLACED made). No binding changes a name.
 unfoldable pub messageOf : (script : List ℕ) → (start : ℕ) → Message
 messageOf script start = cond (ltb start 65536) (messageAt (drop start script)) (name (start - 65536))
-
--- To unfold this is to unfold every definition of this module: for a proof by computation.
-unfoldable pub computing : Unit {0}
-unfolding resolve bindingsIn messageOf
-computing = tt

@@ -8,11 +8,11 @@ use lib.Dec.{eqb}
 use borrow.Author.Tests.{eqb-true, ne-eqb}
 use Rattle.messages.specs.Message.{Message, name, variable, enter, exit, opens, empty, path, items, mentions}
 use Rattle.messages.specs.Message as message
-use Rattle.slices.proofs.Tests.{byTest}
+use Rattle.slices.proofs.Tests.{byTest, eqb-same}
 use Rattle.calculus.specs.Calculus.{Process, 𝟎, _‖_, ambient, action, input, output, _≅_, StructRefl, StructAlpha, StructSymm, StructTrans, StructPar, StructAmb, StructAction, StructInput, StructParComm, StructParAssoc, StructZeroPar, Structε, StructPath, substitute, occurs}
 use Rattle.calculus.specs.TreeProcess.{prefix}
 use Rattle.messages.proofs.Mentioning.{mentions-none, mentions-other}
-use Rattle.calculus.proofs.Variables.{eqb-same, eqb-flip, occurs-input, occurs-under, occurs-less}
+use Rattle.calculus.proofs.Variables.{eqb-flip, occurs-input, occurs-under, occurs-less}
 use Rattle.calculus.proofs.Shapes.{Tag, place, can, hear, say, Shape, nil, cell, _⊕_, chain, Pick, here, there, Same, done, match, same-refl, same-trans, same-sym, same-append, same-eq, shape-nil, shape-assoc, append-comm, chain-append, chain-same}
 
 -- the message with its variables renamed
@@ -38,11 +38,11 @@ shape n σ (action m p) = chain (items (renamed σ m)) (shape n σ p)
 shape n σ (input x p) = cell (hear n) (shape (suc n) (bound σ x n) p) nil
 shape n σ (output m) = cell (say (renamed σ m)) nil nil
 
-bound-same : (σ : ℕ → ℕ) (x n z : ℕ) → eqb z x ≡ true → bound σ x n z ≡ n
+pub bound-same : (σ : ℕ → ℕ) (x n z : ℕ) → eqb z x ≡ true → bound σ x n z ≡ n
 unfolding bound
 bound-same σ x n z t = rw t
 
-bound-other : (σ : ℕ → ℕ) (x n z : ℕ) → eqb z x ≡ false → bound σ x n z ≡ σ z
+pub bound-other : (σ : ℕ → ℕ) (x n z : ℕ) → eqb z x ≡ false → bound σ x n z ≡ σ z
 unfolding bound
 bound-other σ x n z t = rw t
 

@@ -14,23 +14,18 @@ use Rattle.scripts.specs.Tree.{Head, close, part, oneIf, isAmbient, total, time
 use Rattle.machine.specs.Bodies.{find, removePart, alter}
 use Rattle.machine.specs.PlainMachine.{substituteHead, substituteBody, plain}
 use Rattle.slices.proofs.Tests.{byTest}
+use Rattle.scripts.proofs.Numbers.{own-times, one-none}
+use Rattle.scripts.proofs.Scopes.{receives}
 use Rattle.machine.proofs.Options.{some-is, none≢some}
 use Rattle.machine.proofs.Sums.{removePart-none, merge-total, settle-total, Shrinks, plain-numbers}
 use Rattle.calculus.specs.Calculus.{Process, _‖_, ambient, action, output, _≅_, StructRefl, StructSymm, StructTrans, StructAmb, StructInput, StructParComm, StructParAssoc, StructZeroPar, substitute}
 use Rattle.calculus.specs.TreeProcess.{prefix, piece, process}
-use Rattle.calculus.proofs.Variables.{eqb-same, eqb-flip}
+use Rattle.calculus.proofs.Variables.{eqb-flip}
 use Rattle.calculus.proofs.Congruences.{par-both, par-swap, action-items, prefix-cong, prefix-prefix}
 
 -- no two parts of the tree have one number
 abbrev pub Distinct : Plain → Type 0
 Distinct b = (j : ℕ) → timesIn j b ≤ 1
-
-pub own-times : (k : ℕ) → oneIf (eqb k k) ≡ 1
-own-times k = rw (eqb-same k)
-
--- a number that does not stand in the tree is not the first part's
-pub times-other : (n k : ℕ) → oneIf (eqb n k) ≡ 0 → eqb n k ≡ false
-times-other n k z = byTest (eqb n k) (λ t. absurd (omega (arith, rw t at z))) (λ t. t)
 
 -- moves don't make a number stand more often
 pub times-shrinks : (j : ℕ) → Shrinks plain (λ k h. oneIf (eqb j k)) 0
@@ -83,7 +78,7 @@ module _ (n : ℕ) (F : PlainHead → PlainHead) (G : Plain → Plain) where
   pub alter-merge : (b c : Plain) → timesIn n b ≡ 0 → alter n F G (merge b c) ≡ merge b (alter n F G c)
   unfolding merge total
   alter-merge close c d = refl
-  alter-merge (part k h s r) c d = alter-put k h s (merge r c) (times-other n k (omega arith)) ∙ ap (put k h s) (alter-merge r c (omega arith))
+  alter-merge (part k h s r) c d = alter-put k h s (merge r c) (one-none (eqb n k) (omega arith)) ∙ ap (put k h s) (alter-merge r c (omega arith))
 
 alter-nothing : (n : ℕ) (b : Plain) → alter n (λ h. h) (λ s. s) b ≡ b
 unfolding alter
@@ -129,10 +124,7 @@ settle-process b d = settleBy-process b d
 
 -- one where the part is a receipt of v
 unfoldable pub binds : ℕ → PlainHead → ℕ
-binds v (Head.ambient m) = 0
-binds v (Head.action is) = 0
-binds v (Head.receipt u) = oneIf (eqb v u)
-binds v (Head.output m) = 0
+binds v h = oneIf (receives v h)
 
 -- the receipts of v in the tree
 abbrev pub bindings : ℕ → Plain → ℕ
@@ -157,7 +149,7 @@ substitute-piece : (v : ℕ) (m : Message) (h : PlainHead) (p : Process) {q : Pr
 unfolding piece substituteHead substitute binds
 substitute-piece v m (Head.ambient n) p z h = StructAmb h
 substitute-piece v m (Head.action is) p z h = substitute-prefix v m is p h
-substitute-piece v m (Head.receipt u) p z h = rw (eqb-flip v u (times-other v u z)) (StructInput h)
+substitute-piece v m (Head.receipt u) p z h = rw (eqb-flip v u (one-none (eqb v u) z)) (StructInput h)
 substitute-piece v m (Head.output n) p z h = StructRefl
 
 pub substitute-process : (v : ℕ) (m : Message) (b : Plain) → bindings v b ≡ 0 → process (substituteBody v m b) ≅ substitute v m (process b)

@@ -12,12 +12,13 @@ use Rattle.scripts.specs.Tree.{Head, oneIf, total, timesIn, put, PlainHead, Pla
 use Rattle.machine.specs.Bodies.{find, removePart, alter}
 use Rattle.machine.specs.Moves.{Moved, headName, spentHead, spend, moveHere}
 use Rattle.machine.specs.PlainMachine.{rest, substituteBody, plain, move}
+use Rattle.scripts.proofs.Numbers.{own-times}
 use Rattle.machine.proofs.Inversion.{Opened, Received, Entered, Exited, Here, by-open, by-receive, by-enter, by-exit, here-inv, Makes, now, inner, outer, plain-name, plain-enter, plain-exit, plain-open, move-inv}
 use Rattle.machine.proofs.Sums.{find-removePart, apart, find-total, removePart-total, alter-total, entered-target, received-target, spend-total, made-total}
 use Rattle.calculus.specs.Calculus.{Process, _‖_, ambient, action, input, output, _≅_, StructRefl, StructSymm, StructTrans, StructPar, StructAmb, StructParComm, StructParAssoc, _⟶_, RedIn, RedOut, RedOpen, RedIO, RedPar, RedAmb, RedCong}
 use Rattle.calculus.specs.TreeProcess.{prefix, piece, process}
 use Rattle.calculus.proofs.Congruences.{par-both, par-swap}
-use Rattle.calculus.proofs.Processes.{Distinct, Once, own-times, times-shrinks, put-process, merge-process, alter-process, alter-merge, find-process, settle-process, binds, bindings, own-binds, substitute-process}
+use Rattle.calculus.proofs.Processes.{Distinct, Once, times-shrinks, put-process, merge-process, alter-process, alter-merge, find-process, settle-process, binds, bindings, own-binds, substitute-process}
 
 -- what a count of numbers sees of a part that is found
 counted : (j a : ℕ) (b : Plain) (p : PlainHead × Plain) → find a b ≡ some p → oneIf (eqb j a) + (timesIn j (p .1) + timesIn j (removePart a b)) ≤ timesIn j b

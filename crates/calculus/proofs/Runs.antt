@@ -14,17 +14,17 @@ use Rattle.machine.specs.Bodies.{_>>=_, check, find, removePart, alter, holder}
 use Rattle.machine.specs.Moves.{isNamed, sameName, toEnter, toExit, toOpen, Moved, variableOf, messageOf, quiet, onward, headName, firstOf, spend, enterMove, exitMove, openMove, receiveMove, moveHere, anywhere}
 use Rattle.machine.specs.Moves as moves
 use Rattle.machine.specs.PlainMachine.{substituteBody, plain, settled, settledBy, move}
-use Rattle.slices.proofs.Tests.{byTest}
+use Rattle.slices.proofs.Tests.{byTest, eqb-same}
+use Rattle.scripts.proofs.Numbers.{own-times, one-none}
 use Rattle.machine.proofs.Options.{none≢some, bind-some, bind-none}
 use Rattle.machine.proofs.Inversion.{Opened, Received, Entered, Exited}
 use Rattle.machine.proofs.Sums.{find-none, removePart-none, anywhere-total}
 use Rattle.calculus.specs.Order.{Part, front, behind}
 use Rattle.calculus.specs.Calculus.{Process, _‖_, ambient, _≅_, StructRefl, StructTrans, StructPar, StructAmb}
 use Rattle.calculus.specs.TreeProcess.{prefix, piece, process}
-use Rattle.calculus.proofs.Variables.{eqb-same}
 use Rattle.calculus.proofs.Congruences.{par-both, par-swap}
 use Rattle.calculus.proofs.Picks.{part-total, part-swap}
-use Rattle.calculus.proofs.Processes.{Distinct, own-times, times-other, times-shrinks, settle-process}
+use Rattle.calculus.proofs.Processes.{Distinct, times-shrinks, settle-process}
 use Rattle.calculus.proofs.Reductions.{opened-after, received-after, entered-after, exited-after}
 use Rattle.calculus.proofs.Steps.{Step, opening, taking, entering, leaving, inside}
 
@@ -36,20 +36,20 @@ part-times j p = part-total (λ k h. oneIf (eqb j k)) p
 part-find : {b i c : Plain} {k : ℕ} {h : PlainHead} → Part b k h i c → timesIn k b ≤ 1 → find k b ≡ some (h, i)
 unfolding find total
 part-find (front {k = k}) d = rw (eqb-same k)
-part-find (behind {k = k} {l = l} p) d = rw (times-other k l (omega (arith, part-times k p, own-times k))) (part-find p (omega arith))
+part-find (behind {k = k} {l = l} p) d = rw (one-none (eqb k l) (omega (arith, part-times k p, own-times k))) (part-find p (omega arith))
 
 -- and what is left without it are the others
 part-removePart : {b i c : Plain} {k : ℕ} {h : PlainHead} → Part b k h i c → timesIn k b ≤ 1 → removePart k b ≡ c
 unfolding removePart total
 part-removePart (front {k = k} {r = r}) d = rw (eqb-same k) (removePart-none k r (omega (arith, own-times k)))
 part-removePart (behind {k = k} {l = l} {g = g} {j = j} p) d =
-    rw (times-other k l (omega (arith, part-times k p, own-times k))) (ap (part l g j) (part-removePart p (omega arith)))
+    rw (one-none (eqb k l) (omega (arith, part-times k p, own-times k))) (ap (part l g j) (part-removePart p (omega arith)))
 
 -- what is inside a part is not found beside it
 deeper-none : {b i c : Plain} {k : ℕ} {h : PlainHead} (a : ℕ) → Part b k h i c → timesIn a b ≤ 1 → 1 ≤ timesIn a i → find a b ≡ none
 unfolding find total
-deeper-none a (front {k = k} {r = r}) d n = rw (times-other a k (omega arith)) (find-none a r (omega arith))
-deeper-none a (behind {l = l} p) d n = rw (times-other a l (omega (arith, part-times a p))) (deeper-none a p (omega arith) n)
+deeper-none a (front {k = k} {r = r}) d n = rw (one-none (eqb a k) (omega arith)) (find-none a r (omega arith))
+deeper-none a (behind {l = l} p) d n = rw (one-none (eqb a l) (omega (arith, part-times a p))) (deeper-none a p (omega arith) n)
 
 -- the numbers of a body's own parts are those that are found
 part-tops : {b i c : Plain} {k : ℕ} {h : PlainHead} → Part b k h i c → elem k (tops b) ≡ true
@@ -289,7 +289,7 @@ run-enter {b} {b₁} {b₂} {i} {i₁} {j} {room} {a} {t} {k} {n} {m} {is} d p o
       around = part-find p (d k);
       actor = part-find o (inside-distinct p d a);
       target = part-find (part-swap p q .1) (d t);
-      another = times-other k t (omega (arith, d k, part-times k p, part-times k q, own-times k));
+      another = one-none (eqb k t) (omega (arith, d k, part-times k p, part-times k q, own-times k));
       shell-named = refl;
       asked = refl;
       named = refl;
@@ -325,6 +325,7 @@ run-leave {b} {b₁} {i} {i₁} {j} {room} {room₁} {a} {t} {k} {n} {m} {is} d 
       target = part-find q (d t);
       around = part-find p (e k);
       actor = part-find o (inside-distinct p e a);
+      another = tt;
       shell-named = refl;
       asked = refl;
       named = refl;

@@ -5,15 +5,12 @@ use mathlib.Core.Bool.{true, false, cond}
 use mathlib.Core.Path.{_≡_, refl, sym, ap, ap₂, _∙_, subst}
 use native.Mathlib.Omega.{arith}
 use lib.Dec.{eqb}
-use borrow.Author.Tests.{eqb-true, eqb-false, eq-eqb, ne-eqb}
+use borrow.Author.Tests.{eqb-true, eqb-false, ne-eqb}
 use Rattle.messages.specs.Message.{Message, name, variable, enter, exit, opens, empty, path, mentions}
 use Rattle.messages.specs.Message as message
 use Rattle.messages.proofs.Mentioning.{mentions-none, mentions-other}
-use Rattle.slices.proofs.Tests.{byTest}
+use Rattle.slices.proofs.Tests.{byTest, eqb-same}
 use Rattle.calculus.specs.Calculus.{Process, 𝟎, _‖_, ambient, action, input, output, substitute, occurs}
-
-pub eqb-same : (x : ℕ) → eqb x x ≡ true
-eqb-same x = eq-eqb x x refl
 
 pub eqb-flip : (x y : ℕ) → eqb x y ≡ false → eqb y x ≡ false
 eqb-flip x y e = ne-eqb y x (λ g. eqb-false x y e (sym g))
@@ -98,14 +95,45 @@ pub input-same : (x v : ℕ) (m : Message) (p : Process) → eqb x v ≡ true �
 unfolding substitute
 input-same x v m p t = rw t
 
+-- how often a variable stands free
+unfoldable pub free : ℕ → Process → ℕ
+free v 𝟎 = 0
+free v (p ‖ q) = free v p + free v q
+free v (ambient m p) = mentions v m + free v p
+free v (action m p) = mentions v m + free v p
+free v (input x p) = cond (eqb x v) 0 (free v p)
+free v (output m) = mentions v m
+
+pub free-same : (x v : ℕ) (p : Process) → eqb x v ≡ true → free v (input x p) ≡ 0
+unfolding free
+free-same x v p t = rw t
+
+pub free-other : (x v : ℕ) (p : Process) → eqb x v ≡ false → free v (input x p) ≡ free v p
+unfolding free
+free-other x v p t = rw t
+
+pub free-occurs : (v : ℕ) (p : Process) → free v p ≤ occurs v p
+unfolding free occurs
+free-occurs v 𝟎 = omega arith
+free-occurs v (p ‖ q) = omega (arith, free-occurs v p, free-occurs v q)
+free-occurs v (ambient m p) = omega (arith, free-occurs v p)
+free-occurs v (action m p) = omega (arith, free-occurs v p)
+free-occurs v (input x p) = byTest (eqb x v) (λ t. rw t (omega arith)) (λ t. rw t (free-occurs v p))
+free-occurs v (output m) = omega arith
+
+pub substitute-free : (x : ℕ) (r : Message) (p : Process) → free x p ≡ 0 → substitute x r p ≡ p
+unfolding substitute free
+substitute-free x r 𝟎 z = refl
+substitute-free x r (p ‖ q) z = ap₂ _‖_ (substitute-free x r p (omega arith)) (substitute-free x r q (omega arith))
+substitute-free x r (ambient m p) z = ap₂ ambient (message-absent x r m (omega arith)) (substitute-free x r p (omega arith))
+substitute-free x r (action m p) z = ap₂ action (message-absent x r m (omega arith)) (substitute-free x r p (omega arith))
+substitute-free x r (input u p) z = byTest (eqb u x)
+    (λ t. input-same u x r p t)
+    (λ t. input-other u x r p t ∙ ap (input u) (substitute-free x r p (sym (free-other u x p t) ∙ z)))
+substitute-free x r (output m) z = ap output (message-absent x r m z)
+
 pub substitute-absent : (y : ℕ) (r : Message) (p : Process) → occurs y p ≡ 0 → substitute y r p ≡ p
-unfolding substitute occurs
-substitute-absent y r 𝟎 z = refl
-substitute-absent y r (p ‖ q) z = ap₂ _‖_ (substitute-absent y r p (omega arith)) (substitute-absent y r q (omega arith))
-substitute-absent y r (ambient m p) z = ap₂ ambient (message-absent y r m (omega arith)) (substitute-absent y r p (omega arith))
-substitute-absent y r (action m p) z = ap₂ action (message-absent y r m (omega arith)) (substitute-absent y r p (omega arith))
-substitute-absent y r (input x p) z = let w = occurs-input x y p z in input-other x y r p (w .0) ∙ ap (input x) (substitute-absent y r p (w .1))
-substitute-absent y r (output m) z = ap output (message-absent y r m z)
+substitute-absent y r p z = substitute-free y r p (omega (arith, free-occurs y p))
 
 pub substitute-twice : (x y : ℕ) (r : Message) (p : Process) → occurs y p ≡ 0 → substitute y r (substitute x (variable y) p) ≡ substitute x r p
 unfolding substitute occurs
@@ -148,34 +176,8 @@ occurs-less v x r (input u p) z = byTest (eqb u x)
     (λ t. rw (input-other u x r p t) (occurs-input-less u v (substitute x r p) p (occurs-less v x r p z)))
 occurs-less v x r (output m) z = message-less v x r m z
 
--- how often a variable stands free
-unfoldable pub free : ℕ → Process → ℕ
-free v 𝟎 = 0
-free v (p ‖ q) = free v p + free v q
-free v (ambient m p) = mentions v m + free v p
-free v (action m p) = mentions v m + free v p
-free v (input x p) = cond (eqb x v) 0 (free v p)
-free v (output m) = mentions v m
-
-pub free-same : (x v : ℕ) (p : Process) → eqb x v ≡ true → free v (input x p) ≡ 0
-unfolding free
-free-same x v p t = rw t
-
-pub free-other : (x v : ℕ) (p : Process) → eqb x v ≡ false → free v (input x p) ≡ free v p
-unfolding free
-free-other x v p t = rw t
-
 free-input-less : (u v : ℕ) (p q : Process) → free v p ≤ free v q → free v (input u p) ≤ free v (input u q)
 free-input-less u v p q h = byTest (eqb u v) (λ t. omega (arith, free-same u v p t)) (λ t. omega (arith, free-other u v p t, free-other u v q t))
-
-pub free-occurs : (v : ℕ) (p : Process) → free v p ≤ occurs v p
-unfolding free occurs
-free-occurs v 𝟎 = omega arith
-free-occurs v (p ‖ q) = omega (arith, free-occurs v p, free-occurs v q)
-free-occurs v (ambient m p) = omega (arith, free-occurs v p)
-free-occurs v (action m p) = omega (arith, free-occurs v p)
-free-occurs v (input x p) = byTest (eqb x v) (λ t. rw t (omega arith)) (λ t. rw t (free-occurs v p))
-free-occurs v (output m) = omega arith
 
 pub free-gone : (x : ℕ) (r : Message) (p : Process) → mentions x r ≡ 0 → free x (substitute x r p) ≡ 0
 unfolding substitute free
@@ -209,14 +211,3 @@ free-more v x r (input u p) z = byTest (eqb u x)
     (λ t. rw (input-same u x r p t) (omega arith))
     (λ t. rw (input-other u x r p t) (free-input-less u v p (substitute x r p) (free-more v x r p z)))
 free-more v x r (output m) z = message-more v x r m z
-
-pub substitute-free : (x : ℕ) (r : Message) (p : Process) → free x p ≡ 0 → substitute x r p ≡ p
-unfolding substitute free
-substitute-free x r 𝟎 z = refl
-substitute-free x r (p ‖ q) z = ap₂ _‖_ (substitute-free x r p (omega arith)) (substitute-free x r q (omega arith))
-substitute-free x r (ambient m p) z = ap₂ ambient (message-absent x r m (omega arith)) (substitute-free x r p (omega arith))
-substitute-free x r (action m p) z = ap₂ action (message-absent x r m (omega arith)) (substitute-free x r p (omega arith))
-substitute-free x r (input u p) z = byTest (eqb u x)
-    (λ t. input-same u x r p t)
-    (λ t. input-other u x r p t ∙ ap (input u) (substitute-free x r p (sym (free-other u x p t) ∙ z)))
-substitute-free x r (output m) z = ap output (message-absent x r m z)

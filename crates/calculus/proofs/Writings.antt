@@ -42,7 +42,7 @@ leads-congruent {o = o} h x = sooner h (x .1) (x .2)
 pub leads-step : {n : ℕ} {p q r : Process} → p ⟶ q → Leads n q r → Leads (suc n) p r
 leads-step x y = (y .0, step x (y .1), y .2)
 
--- counted or not
+-- THEOREM: reductions that are counted are the paper's.
 pub steps-reduce : {n : ℕ} {p q : Process} → Steps n p q → p ⟶* q
 steps-reduce stop = calculus.stop
 steps-reduce (step x y) = calculus.step x (steps-reduce y)

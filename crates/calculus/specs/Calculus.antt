@@ -99,8 +99,3 @@ Satisfies e p (some-name i a) = (m : ℕ) × (1 ≤ m) × Satisfies ((i, m) ∷ 
 Satisfies e p (sometime i a) = (q : Process) × (p ⟶* q) × Satisfies e q a
 Satisfies e p (somewhere i a) = (q : Process) × (p ↓* q) × Satisfies e q a
 Satisfies e p (placed i j t a) = Satisfies e (ambient (name (termName e t)) p) a
-
--- To unfold this is to unfold every definition of this module: for a proof by computation.
-unfoldable pub computing : Unit {0}
-unfolding substitute occurs Satisfies
-computing = tt

@@ -56,8 +56,3 @@ Sat n e (some-name i r) b = (m : ℕ) × (1 ≤ m) × Sat n ((i, m) ∷ e) r b
 Sat n e (sometime i r) b = (c : Plain) × Reaches b c × Sat n e r c
 Sat n e (somewhere i r) b = (c : Plain) × Within b c × Sat n e r c
 Sat n e (placed i j t r) b = Sat n e r (wrapped (n + j) (termName e t) b)
-
--- To unfold this is to unfold every definition of this module: for a proof by computation.
-unfoldable pub computing : Unit {0}
-unfolding Sat
-computing = tt

@@ -22,8 +22,3 @@ piece (Head.output m) p = output m
 unfoldable pub process : Plain → Process
 process close = 𝟎
 process (part k h b r) = piece h (process b) ‖ process r
-
--- To unfold this is to unfold every definition of this module: for a proof by computation.
-unfoldable pub computing : Unit {0}
-unfolding prefix piece process
-computing = tt

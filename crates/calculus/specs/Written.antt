@@ -28,8 +28,3 @@ pub data Steps : ℕ → Process → Process → Type 0 where
 -- "Structural Congruence": the same, where the last process is the given one up to it
 abbrev pub Leads : ℕ → Process → Process → Type 0
 Leads n p q = (r : Process) × Steps n p r × (r ≅ q)
-
--- To unfold this is to unfold every definition of this module: for a proof by computation.
-unfoldable pub computing : Unit {0}
-unfolding writtenPart written
-computing = tt

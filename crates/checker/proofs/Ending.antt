@@ -1,10 +1,9 @@
 -- The end of a call: question 19, and what is counted and written where it is answered by yes. Assumes nothing.
-use Prim.Native.Nat.{ℕ, suc, _+_, _*_, _-_, min}
+use Prim.Native.Nat.{ℕ, suc, _+_, _*_, _-_}
 use mathlib.Core.Bool.{Bool, true, false, cond}
-use mathlib.Core.List.{List, [], _∷_, _++_}
+use mathlib.Core.List.{List, [], _∷_}
 use mathlib.Core.Path.{_≡_, refl, sym, ap, _∙_}
 use native.Mathlib.Omega.{arith}
-use lib.Dec.{leb}
 use lib.ListN.{length, drop, length-drop}
 use Rattle.scripts.specs.Tree.{parts}
 use Rattle.bindings.specs.Resolve.{bindingsIn}
@@ -19,7 +18,7 @@ use Rattle.writer.specs.Room.{room, answered, buffered}
 use Rattle.writer.specs.declared.Fitting.{Fitting}
 use Rattle.writer.specs.declared.Fitting.the-variants.{Words, Refused}
 use Rattle.decision.specs.Walk.{Count}
-use Rattle.plain_call.specs.Call.{Call, accepted, refusal, written, finish}
+use Rattle.plain_call.specs.Call.{Call, accepted, refusal, written, finish, roomy, accepting}
 use Rattle.plain_call.specs.Call as plain
 use Rattle.checker.specs.Answering.{verdictOf, answerOf}
 use Rattle.checker.specs.declared.Answer.{Answer}
@@ -41,18 +40,7 @@ wordsOf (Refused q p) = 0
 module _ (c : Call) (m : Machine) (a : Bool) (n : Count) (r : Answer) (after : List ℕ) where
   -- what the call's end comes to, u saying whether the tree fits
   abbrev ended : Bool → plain.Answer
-  ended u =
-      cond u
-      (record {
-        verdict = accepted a;
-        moves = length (c .moves);
-        visits = n .visits;
-        deepest = n .deepest;
-        weight = weightOf m;
-        words = length (written m);
-        buffer = written m ++ drop (length (written m)) (c .buffer);
-      })
-      (refusal 19 0 (length (c .moves)) (n .visits) (c .buffer))
+  ended u = cond u (accepting c m a n) (refusal 19 0 (length (c .moves)) (n .visits) (c .buffer))
 
   unfit : (u : Bool) (q p k : ℕ) → k ≡ length (c .moves) → Refused q p ≡ cond u (Words (length (written m))) (Refused 19 0) → after ≡ cond u (over (written m) (c .buffer)) (c .buffer)
       → ((b : List ℕ) → answerOf r b ≡ refusal q p k (n .visits) b) → answerOf r after ≡ ended u
@@ -74,12 +62,12 @@ module _ (c : Call) (m : Machine) (a : Bool) (n : Count) (r : Answer) (after : L
   module _ (wrote : after ≡ buffered (written m) (c .buffer)) where
     pub ends-refused : (q p k : ℕ) → k ≡ length (c .moves) → Refused q p ≡ answered (written m) (c .buffer) → ((b : List ℕ) → answerOf r b ≡ refusal q p k (n .visits) b) → answerOf r after ≡ finish c m a n
     unfolding finish answered buffered room
-    ends-refused q p k em e d = unfit (leb (length (written m)) (min (length (c .buffer)) 268435456)) q p k em e wrote d
+    ends-refused q p k em e d = unfit (roomy c m) q p k em e wrote d
 
     pub ends-words : (k : ℕ) → Words k ≡ answered (written m) (c .buffer) → verdictOf (r .verdict) ≡ accepted a → r .moves ≡ length (c .moves) → r .visits ≡ n .visits → r .deepest ≡ n .deepest
         → r .weight ≡ weightOf m → r .words ≡ k → answerOf r after ≡ finish c m a n
     unfolding finish answered buffered room
-    ends-words k e ev em es ed ew ek = fit (leb (length (written m)) (min (length (c .buffer)) 268435456)) k e wrote ev em es ed ew ek
+    ends-words k e ev em es ed ew ek = fit (roomy c m) k e wrote ev em es ed ew ek
 
 -- ---- the weight
 

@@ -37,8 +37,3 @@ askedOf (got u) = outcome.Read 0
 -- what a call is lent
 abbrev pub callOf : (script moves rule : List ℕ) (patience : ℕ) (buffer : List ℕ) → Call
 callOf script moves rule patience buffer = record { script = script; moves = moves; rule = rule; patience = patience; buffer = buffer }
-
--- To unfold this is to unfold every definition of this module: for a proof by computation.
-unfoldable pub computing : Unit {0}
-unfolding verdictOf answerOf askedOf
-computing = tt

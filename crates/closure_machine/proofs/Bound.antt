@@ -282,41 +282,27 @@ move-costs s r σ a t b m e x =
 
 -- ---- when the script begins
 
-due-start : (n : ℕ) (h : Head Message) → due n (wholeHead h) ≡ isReceipt h + isAction h * n
+head-start : (n : ℕ) (h : Head Message) → (due n (wholeHead h) ≡ isReceipt h + isAction h * n) × (isReceived (wholeHead h) ≡ isReceipt h) × (longIn (wholeHead h) ≡ itemsOf h)
 unfolding wholeHead
-due-start n (ambient m) = omega arith
-due-start n (action m) = omega arith
-due-start n (receipt v) = omega arith
-due-start n (output m) = omega arith
-
-received-start : (h : Head Message) → isReceived (wholeHead h) ≡ isReceipt h
-unfolding wholeHead
-received-start (ambient m) = refl
-received-start (action m) = refl
-received-start (receipt v) = refl
-received-start (output m) = refl
-
-long-start : (h : Head Message) → longIn (wholeHead h) ≡ itemsOf h
-unfolding wholeHead
-long-start (ambient m) = refl
-long-start (action m) = refl
-long-start (receipt v) = refl
-long-start (output m) = refl
+head-start n (ambient m) = (omega arith, refl, refl)
+head-start n (action m) = (omega arith, refl, refl)
+head-start n (receipt v) = (omega arith, refl, refl)
+head-start n (output m) = (omega arith, refl, refl)
 
 pub budget-start : (n : ℕ) (b : Script) → of (budget n) (closureOf b) ≡ receiptsIn b + actionsIn b * n
 unfolding of closureOf mapHeads receiptsIn actionsIn total
 budget-start n close = omega arith
-budget-start n (part i w b r) = omega (arith, due-start n (w .head), budget-start n b, budget-start n r)
+budget-start n (part i w b r) = omega (arith, head-start n (w .head) .0, budget-start n b, budget-start n r)
 
 receiving-start : (b : Script) → of receiving (closureOf b) ≡ receiptsIn b
 unfolding of closureOf mapHeads receiptsIn total
 receiving-start close = refl
-receiving-start (part i w b r) = omega (arith, received-start (w .head), receiving-start b, receiving-start r)
+receiving-start (part i w b r) = omega (arith, head-start 0 (w .head) .1, receiving-start b, receiving-start r)
 
 short-start : (s : ℕ) (b : Script) → mostItems b ≤ s → of (excess s) (closureOf b) ≡ 0
 unfolding of closureOf mapHeads mostItems greatest
 short-start s close l = refl
-short-start s (part i w b r) l = omega (arith, long-start (w .head), short-start s b (omega arith), short-start s r (omega arith))
+short-start s (part i w b r) l = omega (arith, head-start 0 (w .head) .2, short-start s b (omega arith), short-start s r (omega arith))
 
 -- THEOREM: the closure that a script begins with, settled, has a budget of r + a × s ^ (r + 1) at the most.
 pub started-bounded : (ws : List ℕ) (p : Script × Cursor) → readScript ws ≡ got p → Bounded (mostItems (p .0)) (receiptsIn (p .0)) [] (settleUnder [] (closureOf (p .0)))

@@ -1,14 +1,16 @@
 -- The invariant of a closure under bindings: a receipt is the only one of its variable, the variable is used nowhere outside
 -- the receipt and is new to the bindings, and no action inside a receipt has spent an item. Moves keep it. Assumes nothing.
 use Prim.Native.Nat.{ℕ, _+_, _≤_}
-use mathlib.Core.Bool.{Bool, true, false}
+use mathlib.Core.Bool.{false}
 use mathlib.Core.List.{_∷_, _++_}
-use mathlib.Core.Path.{_≡_, refl, sym, ap}
+use mathlib.Core.Path.{_≡_, refl, sym}
 use mathlib.Core.Option.{some}
 use native.Mathlib.Omega.{arith}
 use lib.Dec.{eqb}
-use borrow.Author.Tests.{eqb-false, eq-eqb}
+use borrow.Author.Tests.{eqb-false}
 use Rattle.messages.specs.Message.{Message, name, variable, enter, exit, opens, empty, path, mentions}
+use Rattle.scripts.proofs.Numbers.{own-times, one-none}
+use Rattle.scripts.proofs.Scopes.{receives}
 use Rattle.messages.proofs.Mentioning.{mentions-none}
 use Rattle.messages.specs.declared.Named.the-variants.{Called}
 use Rattle.scripts.specs.Tree.{ambient, action, receipt, output, part, oneIf}
@@ -16,10 +18,6 @@ use Rattle.machine.specs.Moves.{Moved, headName}
 use Rattle.bindings.proofs.Substitution.{Fresh, New}
 use Rattle.closure_machine.specs.Closure.{Action, ClosureHead, Closure, Bindings, viewUnder, settleUnder, closureMove}
 use Rattle.closure_machine.proofs.Tallies.{Tally, of, of-part, named-open, of-settle, Takes, Step, spends, takes, move-step}
-
-one-none : (t : Bool) → oneIf t ≡ 0 → t ≡ false
-one-none true e = absurd (omega arith)
-one-none false e = refl
 
 pub mentions-fresh : (v : ℕ) (m : Message) → mentions v m ≡ 0 → Fresh v m
 unfolding mentions Fresh
@@ -36,13 +34,6 @@ mentionsIn v (ambient m) = mentions v m
 mentionsIn v (action a) = mentions v (a .message)
 mentionsIn v (receipt u) = 0
 mentionsIn v (output m) = mentions v m
-
--- a receipt of that variable
-abbrev pub receives : ℕ → ClosureHead → Bool
-receives v (ambient m) = false
-receives v (action a) = false
-receives v (receipt u) = eqb v u
-receives v (output m) = false
 
 -- the items that are spent
 abbrev pub spentIn : ClosureHead → ℕ
@@ -78,12 +69,6 @@ pub record Good (σ : Bindings) (b : Closure) : Type 0 where
   pub apart : (v : ℕ) → 1 ≤ of (receipts v) b → of (loose v) b ≡ 0
   pub new : (v : ℕ) → 1 ≤ of (receipts v) b → New v σ
 
-pub not-received : (v : ℕ) (h : ClosureHead) → oneIf (receives v h) ≡ 0 → receives v h ≡ false
-not-received v h e = one-none (receives v h) e
-
-pub received-self : (v : ℕ) → eqb v v ≡ true
-received-self v = eq-eqb v v refl
-
 -- with less in it, a closure is good too
 pub good-less : (σ : Bindings) (b c : Closure) → ((T : Tally) → of T c ≤ of T b) → Good σ b → Good σ c
 good-less σ b c f G = record {
@@ -108,7 +93,7 @@ module _ (b c : Closure) (news : Bindings) (x : Takes b c news) where
   receipts-taken u = omega (arith, x .law (receipts u))
 
   pub bound-received : 1 ≤ of (receipts (x .bound)) b
-  bound-received = omega (arith, ap oneIf (received-self (x .bound)), receipts-taken (x .bound))
+  bound-received = omega (arith, own-times (x .bound), receipts-taken (x .bound))
 
   loose-taken : (u : ℕ) → eqb u (x .bound) ≡ false → of (loose u) c + mentions u (x .sent) ≤ of (loose u) b
   loose-taken u t = omega (arith, rw t at (x .law (loose u)))

@@ -10,20 +10,20 @@ use lib.Dec.{eqb, leb}
 use lib.ListN.{length, drop}
 use borrow.Author.Tests.{le-leb, lt-leb}
 use Rattle.messages.specs.Message.{Message, items, nameOf, firstItem, substitute, mentions}
-use Rattle.messages.specs.declared.Named.{Named}
-use Rattle.messages.specs.declared.Named.the-variants.{Called, Nameless}
-use Rattle.messages.specs.declared.First.{First}
-use Rattle.messages.specs.declared.First.the-variants.{Nothing, Enter, Exit, Open, Other}
+use Rattle.messages.specs.declared.Named.the-variants.{Called}
 use Rattle.scripts.specs.Tree.{ambient, action, receipt, output, close, part, oneIf, total, merge, mapHeads, noItems, bare, settle, PlainHead, Plain}
 use Rattle.bindings.specs.Resolve.{resolve}
+use Rattle.slices.proofs.Tests.{eqb-same}
+use Rattle.scripts.proofs.Numbers.{one-none}
+use Rattle.scripts.proofs.Scopes.{receives}
 use Rattle.bindings.proofs.Substitution.{New, substitute-fresh, resolve-substitute, items-substitute}
 use Rattle.machine.specs.Bodies.{find, removePart}
 use Rattle.machine.specs.Moves.{Moved, headName, moveHere, anywhere}
 use Rattle.machine.specs.PlainMachine.{rest, substituteHead, substituteBody, plain, settledBy, move}
-use Rattle.machine.proofs.Naturality.{renamed, asked, mapHead, isAmbient-map, Translates, named-map, merge-map, settle-map, receive-map, here-map, anywhere-map}
+use Rattle.machine.proofs.Naturality.{renamed-same, asked-same, mapHead, isAmbient-map, Translates, named-map, merge-map, settle-map, receive-map, here-map, anywhere-map}
 use Rattle.closure_machine.specs.Closure.{Action, ClosureHead, Closure, Bindings, itemsLeft, viewUnder, allSpent, settleUnder, settledUnder, closureMove, unfoldHead, unfolded, plainNews, unfoldedMove}
 use Rattle.closure_machine.proofs.Tallies.{of, of-removePart, of-find, of-part, named-open, Step, spends, takes, makes-step}
-use Rattle.closure_machine.proofs.Invariant.{mentions-fresh, mentionsIn, receives, spentIn, receipts, loose, Good, not-received, received-self, good-inside, good-rest, bound-received}
+use Rattle.closure_machine.proofs.Invariant.{mentions-fresh, mentionsIn, spentIn, receipts, loose, Good, good-inside, good-rest, bound-received}
 
 -- Unfolding is a change of heads as Naturality has them.
 abbrev U : Bindings → ClosureHead → PlainHead
@@ -54,24 +54,13 @@ none-left (suc o) [] = sym (le-leb 0 (suc o) (omega arith))
 none-left zero (m ∷ l) = sym (lt-leb (length (m ∷ l)) 0 (omega arith))
 none-left (suc o) (m ∷ l) = rw (compare·suc-suc (length l) o) (none-left o l)
 
-renamed-same : (x : Named) → renamed (λ n. n) x ≡ x
-renamed-same (Called n) = refl
-renamed-same Nameless = refl
-
-asked-same : (x : First) → asked (λ n. n) x ≡ x
-asked-same Nothing = refl
-asked-same (Enter x) = ap Enter (renamed-same x)
-asked-same (Exit x) = ap Exit (renamed-same x)
-asked-same (Open x) = ap Open (renamed-same x)
-asked-same Other = refl
-
 -- the plain machine reads what is unfolded as the closure machine reads the closure
 translates : (σ : Bindings) → Translates (viewUnder σ) plain (itemsLeft σ) (resolve σ) (λ n. n)
 unfolding itemsLeft
 translates σ = record {
   injective = λ m n. refl;
-  named = λ m. sym (renamed-same (nameOf (resolve σ m)));
-  first = λ a. sym (asked-same (firstItem (itemsLeft σ a)));
+  named = λ m. renamed-same (nameOf (resolve σ m));
+  first = λ a. asked-same (firstItem (itemsLeft σ a));
   spent = λ a. rest-drop (a .offset) (items (resolve σ (a .message)));
 }
 
@@ -93,7 +82,7 @@ module _ (v : ℕ) (r : Message) (σ : Bindings) where
   unfolding mapHeads of
   still-body close c z = refl
   still-body (part i h b s) c z =
-      let o : receives v h ≡ false = not-received v h (omega arith) in
+      let o : receives v h ≡ false = one-none (receives v h) (omega arith) in
       let w : mentionsIn v h + (of (loose v) b + of (loose v) s) ≡ 0 = rw o at z in
       rw (still-head h (omega arith), still-body b (omega arith) (omega arith), still-body s (omega arith) (omega arith))
 
@@ -125,10 +114,10 @@ module _ (σ : Bindings) where
       merge (substituteBody v (resolve σ m) (mapHeads (U σ) s)) (mapHeads (U σ) (removePart t (removePart a b))) ≡ mapHeads (U ((v, m) ∷ σ)) (merge s (removePart t (removePart a b)))
   received a v m b s G e t =
       let f = of-find (receipts v) a b (receipt v, s) e in
-      let k : oneIf (eqb v v) ≡ 1 = ap oneIf (received-self v) in
+      let k : oneIf (eqb v v) ≡ 1 = ap oneIf (eqb-same v) in
       let n : 1 ≤ of (receipts v) b = omega arith in
       let c : of (receipts v) (removePart t (removePart a b)) ≡ 0 = omega (arith, G .once v, of-removePart (receipts v) t (removePart a b)) in
-      let l : total (λ i h. spentIn h) s + of (loose v) (removePart a b) ≤ of (loose v) b = omega (arith, rw (received-self v) at (of-find (loose v) a b (receipt v, s) e)) in
+      let l : total (λ i h. spentIn h) s + of (loose v) (removePart a b) ≤ of (loose v) b = omega (arith, rw (eqb-same v) at (of-find (loose v) a b (receipt v, s) e)) in
       let z : of (loose v) (removePart t (removePart a b)) ≡ 0 = omega (arith, G .apart v n, of-removePart (loose v) t (removePart a b)) in
       let o : total (λ i h. spentIn h) s ≡ 0 = omega (arith, G .apart v n) in
       ap₂ merge (sym (filled-body v m σ (G .new v n) s o)) (sym (still-body v m σ (removePart t (removePart a b)) c z)) ∙ merge-map (U ((v, m) ∷ σ)) s (removePart t (removePart a b))
@@ -161,7 +150,7 @@ module _ (σ : Bindings) where
       let y = bound-received r c news x in
       let z = G .once v in
       let w = G .apart v (omega arith) in
-      let o : receives v h ≡ false = not-received v h (omega arith) in
+      let o : receives v h ≡ false = one-none (receives v h) (omega arith) in
       let u : mentionsIn v h + (of (loose v) b + of (loose v) r) ≡ 0 = rw o at w in
       rw (x .told) (sym (still-head v (x .sent) σ h (omega arith)), sym (still-body v (x .sent) σ b (omega arith) (omega arith)))
 

@@ -96,8 +96,3 @@ wholeHead (output m) = output m
 
 unfoldable pub closureOf : Script → Closure
 closureOf b = mapHeads (λ w. wholeHead (w .head)) b
-
--- To unfold this is to unfold every definition of this module: for a proof by computation.
-unfoldable pub computing : Unit {0}
-unfolding itemsLeft allSpent settledUnder closureMove unfoldHead unfolded unfoldedMove unfoldMachine wholeHead closureOf
-computing = tt

@@ -14,9 +14,10 @@ use Rattle.scripts.specs.Tree.{close, part, oneIf, tops, total, timesIn}
 use Rattle.scripts.specs.Represents.{Held}
 use Rattle.machine.specs.Moves.{Moved, isNamed, headName, onward, inside, anywhere}
 use Rattle.slices.proofs.Tests.{byTest}
+use Rattle.scripts.proofs.Numbers.{own-times}
 use Rattle.closure_machine.specs.Closure.{Action, ClosureHead, Closure, Bindings, viewUnder}
 use Rattle.closures.specs.Searches.{firstPlace, placeBelow, place}
-use Rattle.closures.proofs.Holding.{numbersTotal, self, in-times, not-in, numbers-differ, frame}
+use Rattle.closures.proofs.Holding.{numbersTotal, in-times, not-in, numbers-differ, frame}
 
 -- the search in one part of a body and in those beside it: u says whether the part has a name
 abbrev around : ℕ → ClosureHead → (b r : Closure) → (u : Bool) → (x z : Option (Moved Action)) → Option (Moved Action)
@@ -127,7 +128,7 @@ module _ (σ : Bindings) (k : ℕ → List ℕ) (w : ℕ → ClosureHead) (t : �
           λ n k′ w′ e C.
           let (M, o) = F .makes n k′ w′ e C in
           let a = outside r b z F k′ w′ n C in
-          let ai = a i (omega (arith, once i, self i)) in (
+          let ai = a i (omega (arith, once i, own-times i)) in (
             record {
               moved = record { body = part i h s (M .moved .body); news = M .moved .news };
               is = around-beside i h s r (M .moved) u x z d (M .is);
@@ -160,7 +161,7 @@ module _ (σ : Bindings) (k : ℕ → List ℕ) (w : ℕ → ClosureHead) (t : �
           λ n k′ w′ e C.
           let (M, o) = F .makes n k′ w′ e C in
           let a = outside s b x F k′ w′ n C in
-          let ai = a i (omega (arith, once i, self i)) in (
+          let ai = a i (omega (arith, once i, own-times i)) in (
             record {
               moved = record { body = part i h (M .moved .body) r; news = M .moved .news };
               is = around-in i h s r (M .moved) x _ (M .is);
@@ -185,8 +186,8 @@ module _ (σ : Bindings) (k : ℕ → List ℕ) (w : ℕ → ClosureHead) (t : �
       body = p .0;
       held = p .2;
       less = λ v. omega arith;
-      apart = omega (arith, once i, self i);
-      within = omega (arith, self i);
+      apart = omega (arith, once i, own-times i);
+      within = omega (arith, own-times i);
       works = λ n z. (record { body = part i h (n .body) r; news = n .news }, around-in i h s r n x _ (q ∙ z));
       fails = λ z. around-none i h s r true x _ (q ∙ z) (inside-out r (omega (arith, once t, in-times t s e)));
       makes =
@@ -198,7 +199,7 @@ module _ (σ : Bindings) (k : ℕ → List ℕ) (w : ℕ → ClosureHead) (t : �
                 C .own,
                 sym (C .head) ∙ p .1,
                 C .held,
-                frame k k′ w w′ r (p .3) (λ j l. C .rest j (λ v. numbers-differ j i r l (omega (arith, once i, self i)) v) (omega (arith, once j))),
+                frame k k′ w w′ r (p .3) (λ j l. C .rest j (λ v. numbers-differ j i r l (omega (arith, once i, own-times i)) v) (omega (arith, once j))),
               );
               totals = λ v. omega arith;
               news = refl;
@@ -226,7 +227,7 @@ module _ (σ : Bindings) (k : ℕ → List ℕ) (w : ℕ → ClosureHead) (t : �
       (focus r (λ j. omega (arith, once j)) (λ j l. omega (arith, low j l)) (held .3))
     where
       small : i < 64
-      small = byTest (ltb i 64) (λ u. ltb-true i 64 u) (λ u. absurd (let z : ⊥ = omega (arith, low i (ltb-false i 64 u), self i) in z))
+      small = byTest (ltb i 64) (λ u. ltb-true i 64 u) (λ u. absurd (let z : ⊥ = omega (arith, low i (ltb-false i 64 u), own-times i) in z))
 
       look : Bool → Option (Moved Action) → Option (Moved Action)
       look u x = around i h s r u x (inside (viewUnder σ) g r)

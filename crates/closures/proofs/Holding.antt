@@ -13,15 +13,13 @@ use Rattle.scripts.specs.Tree.{Body, close, part, oneIf, tops, total, timesIn, 
 use Rattle.scripts.specs.Represents.{Held}
 use Rattle.machine.specs.Bodies.{find, removePart, alter, holder}
 use Rattle.slices.proofs.Tests.{byTest}
+use Rattle.scripts.proofs.Numbers.{own-times}
 use Rattle.machine.proofs.Options.{some-is, none≢some}
 use Rattle.machine.proofs.Sums.{removePart-none, find-total}
 
 -- a sum over the numbers of all parts, at any depth
 abbrev pub numbersTotal : {H : Type 0} → (ℕ → ℕ) → Body H → ℕ
 numbersTotal v b = total (λ i h. v i) b
-
-pub self : (i : ℕ) → oneIf (eqb i i) ≡ 1
-self i = ap oneIf (eq-eqb i i refl)
 
 pub no-cons : (x : ℕ) (l : List ℕ) → x ∷ l ≡ [] → ⊥
 no-cons x l e = true≢false (sym (ap isNone e))
@@ -72,7 +70,7 @@ pub frame : {H : Type 0} (k k′ : ℕ → List ℕ) (w w′ : ℕ → H) (b : B
 unfolding total
 frame k k′ w w′ close p a = tt
 frame k k′ w w′ (part i h b r) p a =
-    let e = a i (omega (arith, self i)) in (
+    let e = a i (omega (arith, own-times i)) in (
       sym (e .0) ∙ p .0,
       sym (e .1) ∙ p .1,
       frame k k′ w w′ b (p .2) (λ j m. a j (omega arith)),
@@ -177,7 +175,7 @@ module _ {H : Type 0} where
       ))
       (λ t.
       let c : (j : ℕ) → 1 ≤ oneIf (eqb j i) + (timesIn j b + timesIn j (removePart n r)) → (k j ≡ k′ j) × (w j ≡ w′ j) = rw t at a in
-      let d = c i (omega (arith, self i)) in
+      let d = c i (omega (arith, own-times i)) in
       rw t (
         sym (d .0) ∙ p .0,
         sym (d .1) ∙ p .1,

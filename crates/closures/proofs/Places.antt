@@ -13,9 +13,10 @@ use Rattle.scripts.specs.Tree.{close, part, oneIf, tops, total, timesIn}
 use Rattle.scripts.specs.Represents.{Held}
 use Rattle.machine.specs.Moves.{isNamed, headName}
 use Rattle.slices.proofs.Tests.{byTest}
+use Rattle.scripts.proofs.Numbers.{own-times}
 use Rattle.closure_machine.specs.Closure.{ClosureHead, Closure, Bindings, viewUnder}
 use Rattle.closures.specs.Searches.{firstPlace, placeBelow, place, Stands}
-use Rattle.closures.proofs.Holding.{self, in-times, not-in}
+use Rattle.closures.proofs.Holding.{in-times, not-in}
 
 abbrev named : Bindings → ClosureHead → Type 0
 named σ h = isNamed (headName (viewUnder σ) h) ≡ true
@@ -30,7 +31,7 @@ data Inside (σ : Bindings) (x : ℕ) : (b : ℕ) → Closure → Type 0 where
 
 inside-times : (σ : Bindings) (x b : ℕ) {f : Closure} → Inside σ x b f → (1 ≤ timesIn x f) × (1 ≤ timesIn b f)
 unfolding total
-inside-times σ x b (directly {s = s} n e) = (omega (arith, in-times x s e), omega (arith, self b))
+inside-times σ x b (directly {s = s} n e) = (omega (arith, in-times x s e), omega (arith, own-times b))
 inside-times σ x b (deeper n p) = let c = inside-times σ x b p in (omega (arith, c .0), omega (arith, c .1))
 inside-times σ x b (beside p) = let c = inside-times σ x b p in (omega (arith, c .0), omega (arith, c .1))
 
@@ -86,7 +87,7 @@ module _ (σ : Bindings) (x : ℕ) where
   inside-place : (b : ℕ) {f : Closure} → Inside σ x b f → timesIn x f ≤ 1 → ((j : ℕ) → 64 ≤ j → timesIn j f ≡ 0) → placeBelow σ x f ≡ b
   unfolding total placeBelow
   inside-place b (directly {i = i} {h = h} {s = s} {r = r} n e) m low =
-      rw (n, e, lt-ltb i 65 (let l : i < 64 = below i (part i h s r) low (omega (arith, self i)) in omega arith))
+      rw (n, e, lt-ltb i 65 (let l : i < 64 = below i (part i h s r) low (omega (arith, own-times i)) in omega arith))
   inside-place b (deeper {i = i} {h = h} {s = s} {r = r} n p) m low =
       let c = inside-times σ x b p in
       let q = inside-place b p (omega arith) (λ j l. omega (arith, low j l)) in

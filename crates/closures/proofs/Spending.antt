@@ -11,9 +11,10 @@ use Rattle.scripts.specs.Tree.{oneIf, tops, timesIn}
 use Rattle.scripts.specs.Represents.{Held}
 use Rattle.machine.specs.Bodies.{removePart}
 use Rattle.machine.specs.Moves.{spentHead, spend}
+use Rattle.scripts.proofs.Numbers.{own-times}
 use Rattle.machine.proofs.Sums.{removePart-exact}
 use Rattle.closure_machine.specs.Closure.{ClosureHead, Closure, Bindings, viewUnder}
-use Rattle.closures.proofs.Holding.{self, in-times, numbers-differ, frame, held-alter, found-in}
+use Rattle.closures.proofs.Holding.{in-times, numbers-differ, frame, held-alter, found-in}
 
 -- the heads w′ are w with the first item of a spent
 pub record Spent (σ : Bindings) (w w′ : ℕ → ClosureHead) (a : ℕ) : Type 0 where
@@ -26,7 +27,7 @@ held-spend σ k k′ w w′ a b S held stands once bodies =
     let A = found-in k w a b held stands in
     let all : (i : ℕ) → timesIn i b ≡ oneIf (eqb i a) + (timesIn i (A .room) + timesIn i (removePart a b)) = λ i. removePart-exact (λ j h. oneIf (eqb i j)) a b (w a, A .room) once (A .found) in
     held-alter k k′ w w′ a (spentHead (viewUnder σ)) (λ s. s) b (A .room) (A .found) once held
-    (λ i l. (bodies i (omega (arith, all i)), S .others i (numbers-differ i a (removePart a b) l (omega (arith, all a, self a)))))
+    (λ i l. (bodies i (omega (arith, all i)), S .others i (numbers-differ i a (removePart a b) l (omega (arith, all a, own-times a)))))
     (sym (bodies a (in-times a b stands)) ∙ A .own)
     (S .spends)
-    (frame k k′ w w′ (A .room) (A .held) (λ i l. (bodies i (omega (arith, all i)), S .others i (numbers-differ i a (A .room) l (omega (arith, all a, self a))))))
+    (frame k k′ w w′ (A .room) (A .held) (λ i l. (bodies i (omega (arith, all i)), S .others i (numbers-differ i a (A .room) l (omega (arith, all a, own-times a))))))

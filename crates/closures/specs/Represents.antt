@@ -50,8 +50,3 @@ pub record Represents (script kinds starts : List ℕ) (weight spent : ℕ) (s :
   pub light : weight ≤ 64
   pub weighs : parts b + 2 * (32 - s .bindings .first) ≤ weight
   pub spends : (i : ℕ) → getD (s .offsets) i 0 ≤ spent
-
--- To unfold this is to unfold every definition of this module: for a proof by computation.
-unfoldable pub computing : Unit {0}
-unfolding headOf
-computing = tt

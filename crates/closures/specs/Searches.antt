@@ -70,8 +70,3 @@ SettlesBy busy kinds bodies after left r fuel =
 -- r is the number of parts of every closure whose top parts are `left`, whatever the heads, if it has at most `fuel` of them
 abbrev pub CountsParts : (bodies : ℕ → List ℕ) (left : List ℕ) (fuel r : ℕ) → Type 0
 CountsParts bodies left fuel r = (heads : ℕ → ClosureHead) (b : Closure) → left ≡ tops b → Held bodies heads b → parts b ≤ fuel → r ≡ parts b
-
--- To unfold this is to unfold every definition of this module: for a proof by computation.
-unfoldable pub computing : Unit {0}
-unfolding placeBelow place
-computing = tt

@@ -107,8 +107,3 @@ Ambients w kinds = (i : ℕ) → i < 64 → eqb (getD kinds i 0) 1 ≡ isAmbient
 -- l has the parts that have a name
 abbrev pub Names : Bindings → (ℕ → ClosureHead) → List ℕ → Type 0
 Names σ w l = (i : ℕ) → i < 64 → elem i l ≡ isNamed (headName (viewUnder σ) (w i))
-
--- To unfold this is to unfold every definition of this module: for a proof by computation.
-unfoldable pub computing : Unit {0}
-unfolding nameIn itemAct itemName isNothing actOf aimOf busyOf isOutput actUnder aimUnder busyUnder
-computing = tt

@@ -158,7 +158,7 @@ term-all P z e (chosen i) x y = chosenName-all P z e i x
 
 -- weaker properties
 module _ (P Q : ℕ → Type 0) (f : (n : ℕ) → P n → Q n) where
-  message-more : (m : Message) → MessageAll P m → MessageAll Q m
+  pub message-more : (m : Message) → MessageAll P m → MessageAll Q m
   message-more (name n) x = f n x
   message-more (variable v) x = tt
   message-more (enter m) x = message-more m x

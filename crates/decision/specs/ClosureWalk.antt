@@ -60,8 +60,3 @@ closureSpace limit = record {
   insides = λ m. insides (m .bindings) (m .tree);
   wrap = λ k n m. beside (m .bindings) (part k (ambient (name n)) (m .tree) close);
 }
-
--- To unfold this is to unfold every definition of this module: for a proof by computation.
-unfoldable pub computing : Unit {0}
-unfolding isVoid withEither divisions only insides nexts
-computing = tt

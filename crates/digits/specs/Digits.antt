@@ -38,8 +38,3 @@ decimal n = decimalBy 20 n
 pub record Puts (old new : List ℕ) (at next : ℕ) (piece : List ℕ) : Type 0 where
   pub kept : length new ≡ length old
   pub put : at + length piece ≤ length old → (next ≡ at + length piece) × (take next new ≡ take at old ++ piece)
-
--- To unfold this is to unfold every definition of this module: for a proof by computation.
-unfoldable pub computing : Unit {0}
-unfolding digit hexadecimal line lines decimalBy
-computing = tt

@@ -26,8 +26,3 @@ bindingsOf script b = bindingsIn script (drop (b .first) (b .variables)) (drop (
 pub record Held (script : List ℕ) (b : Bindings) : Type 0 where
   pub within : b .first ≤ 32
   pub cached : Cached script (drop (b .first) (b .variables)) (drop (b .first) (b .places)) (drop (b .first) (b .counts)) (drop (b .first) (b .sizes)) (drop (b .first) (b .bulks))
-
--- To unfold this is to unfold every definition of this module: for a proof by computation.
-unfoldable pub computing : Unit {0}
-unfolding bindingsOf
-computing = tt

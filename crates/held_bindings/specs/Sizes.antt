@@ -57,8 +57,3 @@ pub record Cached (script variables places counts sizes bulks : List ℕ) : Type
   pub counted : Kept itemCount script variables places counts
   pub sized : Kept size script variables places sizes
   pub bulked : Kept itemBulk script variables places bulks
-
--- To unfold this is to unfold every definition of this module: for a proof by computation.
-unfoldable pub computing : Unit {0}
-unfolding size itemsSize bulk cappedItems allSizes ownSize
-computing = tt

@@ -6,7 +6,7 @@ use mathlib.Core.Path.{_≡_, refl, sym, ap, _∙_, subst, transport}
 use native.Mathlib.Omega.{arith}
 use lib.Dec.{eqb, ltb}
 use lib.ListN.{getD, set, length, length-set}
-use lib.Seq.{getD-set-same, getD-set-other}
+use lib.Seq.{getD-set-same, getD-set-other, set-getD}
 use borrow.Author.Tests.{eqb-true, eqb-false, ltb-true, ltb-false}
 use Rattle.messages.specs.declared.First.{First}
 use Rattle.sets.specs.Sets.{members, elem, inserted, remove}
@@ -23,14 +23,14 @@ use Rattle.arrays.specs.Stretches.{stretch}
 use Rattle.lent_states.specs.Lent.{kindsIn, startsIn, bindingsAt, stateIn, standing, Small, Lends}
 use Rattle.closures.specs.declared.State.{State}
 use Rattle.closures.specs.declared.Deed.{Deed}
-use Rattle.arrays.proofs.Copying.{length-stretch, getD-stretch, set-same, stretch-same, stretch-set}
+use Rattle.arrays.proofs.Copying.{length-stretch, getD-stretch, stretch-same, stretch-set}
 use Rattle.closures.proofs.Deeds.{kept-set, kept-other, seen-spent, lower, raised-low}
 
 -- ---- the bodies
 
 pub standing-kids : (sets : List ℕ) → set (stretch 0 65 sets) 64 (getD sets 64 0) ≡ stretch 0 65 sets
 standing-kids sets =
-    ap (set (stretch 0 65 sets) 64) (sym (getD-stretch 0 65 64 sets (omega arith))) ∙ set-same (stretch 0 65 sets) 64 (omega (arith, length-stretch 0 65 sets))
+    ap (set (stretch 0 65 sets) 64) (sym (getD-stretch 0 65 64 sets (omega arith))) ∙ set-getD (stretch 0 65 sets) 64 0
 
 -- the entries of the sets are the bodies
 pub body-in : (sets : List ℕ) (i : ℕ) → i < 65 → bodyIn (set (stretch 0 65 sets) 64 (getD sets 64 0)) i ≡ bodyIn sets i

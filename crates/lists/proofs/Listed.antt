@@ -1,12 +1,13 @@
 -- The engine's run of a list of moves, turn by turn. Assumes nothing.
-use Prim.Native.Nat.{ℕ, zero, suc, _+_, _≤_, _<_}
+use Prim.Native.Nat.{ℕ, suc, _+_, _≤_, _<_}
 use mathlib.Core.Bool.{Bool, true, false, true≢false, and-eq-true-iff}
-use mathlib.Core.List.{List, [], _∷_, _++_, append-nil}
+use mathlib.Core.List.{List, [], _∷_, _++_, append-nil, append-assoc}
 use mathlib.Core.Option.{Option, none, some}
 use mathlib.Core.Path.{_≡_, refl, sym, ap, _∙_, subst}
 use native.Mathlib.Omega.{arith}
 use lib.Dec.{ltb, eqb}
-use lib.ListN.{getD, take, drop, length, take-append-drop}
+use lib.ListN.{getD, take, drop, length, take-append-drop, drop-of-length-le}
+use lib.Seq.{drop-cons, take-suc}
 use borrow.Author.Tests.{ltb-true}
 use Rattle.messages.specs.Words.{kind, operand}
 use Rattle.closure_machine.specs.Closure.{Closure, Bindings, closureMove, ClosureMachine}
@@ -20,24 +21,11 @@ use Rattle.lists.specs.Running.{endedOf, Left, Runs}
 use Rattle.lists.specs.declared.Ended.the-variants.{Made, Halted}
 
 -- the word at an index, and those behind it
-drop-next : (l : List ℕ) (i : ℕ) → i < length l → drop i l ≡ getD l i 0 ∷ drop (suc i) l
-drop-next [] i m = absurd (let z : ⊥ = omega arith in z)
-drop-next (x ∷ l) zero m = refl
-drop-next (x ∷ l) (suc i) m = drop-next l i (omega arith)
-
 drop-word : (l : List ℕ) (i : ℕ) → i < length l → drop i l ≡ getD l i 0 ∷ drop (i + 1) l
-drop-word l i m = drop-next l i m ∙ ap (λ (j : ℕ). getD l i 0 ∷ drop j l) (let e : suc i ≡ i + 1 = omega arith in e)
-
-drop-end : (l : List ℕ) (i : ℕ) → length l ≤ i → drop i l ≡ []
-drop-end [] zero m = refl
-drop-end [] (suc i) m = refl
-drop-end (x ∷ l) zero m = absurd (let z : ⊥ = omega arith in z)
-drop-end (x ∷ l) (suc i) m = drop-end l i (omega arith)
+drop-word l i m = drop-cons l i 0 m ∙ ap (λ (j : ℕ). getD l i 0 ∷ drop j l) (let e : suc i ≡ i + 1 = omega arith in e)
 
 take-next : (l : List ℕ) (i : ℕ) (ws : List ℕ) → i < length l → take (suc i) l ++ ws ≡ take i l ++ (getD l i 0 ∷ ws)
-take-next [] i ws m = absurd (let z : ⊥ = omega arith in z)
-take-next (x ∷ l) zero ws m = refl
-take-next (x ∷ l) (suc i) ws m = ap (λ (k : List ℕ). x ∷ k) (take-next l i ws (omega arith))
+take-next l i ws m = ap (λ (k : List ℕ). k ++ ws) (take-suc l i 0 m) ∙ append-assoc (take i l) (getD l i 0 ∷ []) ws
 
 no-some : {A : Type 0} (x : Option A) → isSome x ≡ false → x ≡ none
 unfolding isSome
@@ -84,7 +72,7 @@ module _ (script kinds starts : List ℕ) (n : ℕ) (moves : List ℕ) (s : Stat
     unfolding closureRun endedOf
     going-ends m l weight spent b few R =
         let q = G weight spent b few R in
-        let e : closureRun n 0 moves (from b) ≡ moved (q .machine) = whole weight spent b q ∙ ap (λ (ws : List ℕ). closureRun n i ws (q .machine)) (drop-end moves i m) in
+        let e : closureRun n 0 moves (from b) ≡ moved (q .machine) = whole weight spent b q ∙ ap (λ (ws : List ℕ). closureRun n i ws (q .machine)) (drop-of-length-le moves m) in
         let d : i ≡ length moves = omega arith in
         (sym (ap endedOf e), subst (λ (k : ℕ). Left script kinds starts r weight (spent + k) (closureRun n 0 (take k moves) (from b))) d (left weight spent b q))
 

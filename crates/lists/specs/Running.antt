@@ -33,8 +33,3 @@ module _ (script kinds starts : List ℕ) where
       (weight spent : ℕ) (b : Closure) → spent + length moves < 4294967295 → Represents script kinds starts weight spent s b
       → (e ≡ endedOf (closureRun n 0 moves (record { tree = b; bindings = boundIn script s })))
       × Left r weight (spent + madeOf moves e) (closureRun n 0 (take (madeOf moves e) moves) (record { tree = b; bindings = boundIn script s }))
-
--- To unfold this is to unfold every definition of this module: for a proof by computation.
-unfoldable pub computing : Unit {0}
-unfolding endedOf
-computing = tt

@@ -1,7 +1,7 @@
 -- What a move that is made says: which parts were found where, which names they had, and the tree that stands after it.
 -- Over any view; then what names and first items are in the plain machine. Assumes nothing.
 use Prim.Native.Nat.{ℕ}
-use mathlib.Core.Bool.{true, false, not, false≢true, and-eq-true-iff}
+use mathlib.Core.Bool.{true, false, not, _&&_, false≢true, and-eq-true-iff}
 use mathlib.Core.List.{List, [], _∷_}
 use mathlib.Core.Path.{_≡_, refl, sym, ap, _∙_, subst, subst₂}
 use mathlib.Core.Logic.{inl, inr}
@@ -109,8 +109,9 @@ module _ {A : Type 0} (view : View A) where
     pub told : news ≡ (bound, sent) ∷ []
     pub result : c ≡ merge (view .delivered bound sent after) (removePart t (removePart a b))
 
-  -- IN: the ambient that moves and the target, both in b, and the actor in the ambient that moves
-  pub record Entered (a t : ℕ) (b c : Body (Head A)) : Type 0 where
+  -- IN and EXIT, by what the actor asks for: the target in b, the ambient that moves in the body that `home` says of the target's,
+  -- and in it the actor
+  pub record Carried (a t : ℕ) (b c : Body (Head A)) (verb : Named → First) (home : Body (Head A) → Body (Head A)) (Apart : ℕ → Type 0) (made : ℕ → Head A → Body (Head A) → Body (Head A)) : Type 0 where
     pub place : ℕ
     pub own : ℕ
     pub mover : ℕ
@@ -120,33 +121,22 @@ module _ {A : Type 0} (view : View A) where
     pub after : Body (Head A)
     pub goal : Head A
     pub room : Body (Head A)
-    pub around : find mover b ≡ some (shell, inside)
-    pub actor : find a inside ≡ some (doer, after)
     pub target : find t b ≡ some (goal, room)
-    pub another : eqb mover t ≡ false
+    pub around : find mover (home room) ≡ some (shell, inside)
+    pub actor : find a inside ≡ some (doer, after)
+    pub another : Apart mover
     pub shell-named : headName view shell ≡ Called own
-    pub asked : firstOf view doer ≡ Enter (Called place)
+    pub asked : firstOf view doer ≡ verb (Called place)
     pub named : headName view goal ≡ Called place
-    pub result : c ≡ alter t (λ e. e) (put mover shell (spend view a inside)) (removePart mover b)
+    pub result : c ≡ made mover shell inside
 
-  -- EXIT: the target in b, in it the ambient that moves, and in that the actor
-  pub record Exited (a t : ℕ) (b c : Body (Head A)) : Type 0 where
-    pub place : ℕ
-    pub own : ℕ
-    pub mover : ℕ
-    pub shell : Head A
-    pub inside : Body (Head A)
-    pub doer : Head A
-    pub after : Body (Head A)
-    pub goal : Head A
-    pub room : Body (Head A)
-    pub target : find t b ≡ some (goal, room)
-    pub around : find mover room ≡ some (shell, inside)
-    pub actor : find a inside ≡ some (doer, after)
-    pub shell-named : headName view shell ≡ Called own
-    pub asked : firstOf view doer ≡ Exit (Called place)
-    pub named : headName view goal ≡ Called place
-    pub result : c ≡ put mover shell (spend view a inside) (alter t (λ e. e) (removePart mover) b)
+  -- IN: the ambient that moves stands in b too, and is not the target
+  abbrev pub Entered : (a t : ℕ) (b c : Body (Head A)) → Type 0
+  Entered a t b c = Carried a t b c Enter (λ room. b) (λ mover. eqb mover t ≡ false) (λ mover shell inside. alter t (λ e. e) (put mover shell (spend view a inside)) (removePart mover b))
+
+  -- EXIT: the ambient that moves stands in the target
+  abbrev pub Exited : (a t : ℕ) (b c : Body (Head A)) → Type 0
+  Exited a t b c = Carried a t b c Exit (λ room. room) (λ mover. Unit {0}) (λ mover shell inside. put mover shell (spend view a inside) (alter t (λ e. e) (removePart mover) b))
 
   -- a move made whose target stands in b
   pub data Here (a t : ℕ) (b c : Body (Head A)) (news : List (ℕ × Message)) : Type 0 where
@@ -199,6 +189,34 @@ module _ {A : Type 0} (view : View A) where
         result = ap (λ (l : Moved A). l .body) (sym f);
       })
 
+  module _ (verb : Named → First) (to : First → Named) (to-inv : (x : First) (n : ℕ) → to x ≡ Called n → x ≡ verb (Called n)) where
+    carried : {a t : ℕ} {b c : Body (Head A)} {home : Body (Head A) → Body (Head A)} {Apart : ℕ → Type 0} {made : ℕ → Head A → Body (Head A) → Body (Head A)} (mover : ℕ) (x y z : Head A × Body (Head A))
+        → find t b ≡ some x → find mover (home (x .1)) ≡ some y → find a (y .1) ≡ some z → Apart mover → (isNamed (headName view (y .0)) && sameName (to (firstOf view (z .0))) (headName view (x .0))) ≡ true
+        → c ≡ made mover (y .0) (y .1) → Carried a t b c verb home Apart made
+    carried mover x y z target around actor another e result =
+        let d = and-eq-true-iff (isNamed (headName view (y .0))) _ .0 e in
+        let n = isNamed-inv (headName view (y .0)) (d .0) in
+        let s = sameName-inv (to (firstOf view (z .0))) (headName view (x .0)) (d .1) in
+        record {
+          place = s .0;
+          own = n .0;
+          mover = mover;
+          shell = y .0;
+          inside = y .1;
+          doer = z .0;
+          after = z .1;
+          goal = x .0;
+          room = x .1;
+          target = target;
+          around = around;
+          actor = actor;
+          another = another;
+          shell-named = n .1;
+          asked = to-inv (firstOf view (z .0)) (s .0) (s .1);
+          named = s .2;
+          result = result;
+        }
+
   pub enter-inv : (a t : ℕ) (b : Body (Head A)) (m : Moved A) → enterMove view a t b ≡ some m → Here a t b (m .body) (m .news)
   unfolding enterMove
   enter-inv a t b m e =
@@ -208,29 +226,8 @@ module _ {A : Type 0} (view : View A) where
       let z = bind-inv _ _ m (y .2) in
       let w = bind-inv _ _ m (z .2) in
       let c = and-eq-true-iff (not (eqb (p .0) t)) _ .0 (check-inv _ (w .0) (w .1)) in
-      let d = and-eq-true-iff (isNamed (headName view (y .0 .0))) _ .0 (c .1) in
-      let n = isNamed-inv (headName view (y .0 .0)) (d .0) in
-      let s = sameName-inv (toEnter (firstOf view (z .0 .0))) (headName view (x .0 .0)) (d .1) in
       let q = is-quiet (w .2) in
-      by-enter (record {
-        place = s .0;
-        own = n .0;
-        mover = p .0;
-        shell = y .0 .0;
-        inside = y .0 .1;
-        doer = z .0 .0;
-        after = z .0 .1;
-        goal = x .0 .0;
-        room = x .0 .1;
-        around = y .1;
-        actor = z .1;
-        target = x .1;
-        another = not-true (eqb (p .0) t) (c .0);
-        shell-named = n .1;
-        asked = toEnter-inv (firstOf view (z .0 .0)) (s .0) (s .1);
-        named = s .2;
-        result = q .0;
-      }) (q .1)
+      by-enter (carried Enter toEnter toEnter-inv (p .0) (x .0) (y .0) (z .0) (x .1) (y .1) (z .1) (not-true (eqb (p .0) t) (c .0)) (c .1) (q .0)) (q .1)
 
   pub exit-inv : (a t : ℕ) (b : Body (Head A)) (m : Moved A) → exitMove view a t b ≡ some m → Here a t b (m .body) (m .news)
   unfolding exitMove
@@ -240,28 +237,8 @@ module _ {A : Type 0} (view : View A) where
       let y = bind-inv _ _ m (p .2) in
       let z = bind-inv _ _ m (y .2) in
       let w = bind-inv _ _ m (z .2) in
-      let d = and-eq-true-iff (isNamed (headName view (y .0 .0))) _ .0 (check-inv _ (w .0) (w .1)) in
-      let n = isNamed-inv (headName view (y .0 .0)) (d .0) in
-      let s = sameName-inv (toExit (firstOf view (z .0 .0))) (headName view (x .0 .0)) (d .1) in
       let q = is-quiet (w .2) in
-      by-exit (record {
-        place = s .0;
-        own = n .0;
-        mover = p .0;
-        shell = y .0 .0;
-        inside = y .0 .1;
-        doer = z .0 .0;
-        after = z .0 .1;
-        goal = x .0 .0;
-        room = x .0 .1;
-        target = x .1;
-        around = y .1;
-        actor = z .1;
-        shell-named = n .1;
-        asked = toExit-inv (firstOf view (z .0 .0)) (s .0) (s .1);
-        named = s .2;
-        result = q .0;
-      }) (q .1)
+      by-exit (carried Exit toExit toExit-inv (p .0) (x .0) (y .0) (z .0) (x .1) (y .1) (z .1) tt (check-inv _ (w .0) (w .1)) (q .0)) (q .1)
 
   pub here-inv : (a t : ℕ) (b : Body (Head A)) (m : Moved A) → moveHere view a t b ≡ some m → Here a t b (m .body) (m .news)
   unfolding moveHere

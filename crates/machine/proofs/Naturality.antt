@@ -3,19 +3,20 @@
 -- changed trees. Renaming names and unfolding closures are two such changes. Assumes nothing.
 use Prim.Native.Nat.{ℕ}
 use mathlib.Core.Bool.{Bool, not, _&&_}
-use mathlib.Core.List.{List, [], _∷_, map}
+use mathlib.Core.List.{[], _∷_, map}
 use mathlib.Core.Path.{_≡_, refl, ap, ap₂, _∙_}
 use mathlib.Core.Option.{Option, some, Option·map, orElse}
 use lib.Dec.{eqb, ltb}
 use Rattle.messages.specs.Message.{Message}
 use Rattle.messages.specs.declared.Named.{Named}
 use Rattle.messages.specs.declared.Named.the-variants.{Called, Nameless}
-use Rattle.scripts.specs.Tree.{Head, ambient, action, receipt, output, isAmbient, Body, close, part, tops, put, merge, mapHeads, settleBy}
+use Rattle.scripts.specs.Tree.{Head, ambient, action, receipt, output, isAmbient, Body, close, part, put, merge, mapHeads, settleBy}
 use Rattle.machine.specs.Bodies.{check, find, removePart, alter, holder}
 use Rattle.machine.specs.Moves.{View, isNamed, sameName, toEnter, toExit, toOpen, Moved, variableOf, messageOf, quiet, onward, headName, firstOf, spentHead, spend, enterMove, exitMove, openMove, receiveMove, moveHere, inside, anywhere}
 use Rattle.messages.specs.declared.First.{First}
 use Rattle.messages.specs.declared.First.the-variants.{Nothing, Enter, Exit, Open, Other}
 use Rattle.slices.proofs.Tests.{byTest}
+use Rattle.scripts.proofs.Tabled.{tops-map}
 use Rattle.machine.proofs.Options.{bind-map, bind-same, orElse-map, cond-inv, cond-map, onward-map}
 use Rattle.machine.proofs.Inversion.{isNamed-inv, variableOf-inv, messageOf-inv, found, Makes, inside-inv, anywhere-inv}
 
@@ -54,15 +55,10 @@ module _ {G H : Type 0} (F : G → H) where
       (λ t. rw (t, e h, g b))
       (λ t. rw t (ap (part i (F h) (mapHeads F b)) (alter-map n p q u v e g r)))
 
-  pub tops-map : (b : Body G) → tops (mapHeads F b) ≡ tops b
-  unfolding tops mapHeads
-  tops-map close = refl
-  tops-map (part i h b r) = ap (λ (l : List ℕ). i ∷ l) (tops-map r)
-
   pub holder-map : (n : ℕ) (b : Body G) → holder n (mapHeads F b) ≡ holder n b
   unfolding holder mapHeads
   holder-map n close = refl
-  holder-map n (part i h b r) = rw (tops-map b, holder-map n r)
+  holder-map n (part i h b r) = rw (tops-map F b, holder-map n r)
 
 -- heads changed twice, and in two ways that come to the same
 pub mapHeads-twice : {G H I J : Type 0} (F : H → J) (K : G → H) (L : I → J) (N : G → I) → ((h : G) → F (K h) ≡ L (N h)) →
@@ -173,11 +169,11 @@ pub record Translates {A B : Type 0} (old : View A) (new : View B) (onAction : A
   pub first : (a : A) → new .first (onAction a) ≡ asked ρ (old .first a)
   pub spent : (a : A) → new .spent (onAction a) ≡ onAction (old .spent a)
 
-renamed-same : (x : Named) → x ≡ renamed (λ n. n) x
+pub renamed-same : (x : Named) → x ≡ renamed (λ n. n) x
 renamed-same (Called n) = refl
 renamed-same Nameless = refl
 
-asked-same : (x : First) → x ≡ asked (λ n. n) x
+pub asked-same : (x : First) → x ≡ asked (λ n. n) x
 asked-same Nothing = refl
 asked-same (Enter x) = ap Enter (renamed-same x)
 asked-same (Exit x) = ap Exit (renamed-same x)

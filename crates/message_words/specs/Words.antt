@@ -75,8 +75,3 @@ plainItem Open i = AskOpen i
 plainItem Empty i = Other
 plainItem Path i = Other
 plainItem Unfit i = Other
-
--- To unfold this is to unfold every definition of this module: for a proof by computation.
-unfoldable pub computing : Unit {0}
-unfolding firstWord shapeOf place boundAt plainName plainItem
-computing = tt

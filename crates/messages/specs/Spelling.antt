@@ -32,8 +32,3 @@ spelled (w ∷ ws) = push (messageWord w) (spelled ws)
 -- the message at the first of the words
 unfoldable pub messageAt : List ℕ → Message
 messageAt ws = top (spelled ws)
-
--- To unfold this is to unfold every definition of this module: for a proof by computation.
-unfoldable pub computing : Unit {0}
-unfolding top push spelled messageAt
-computing = tt

@@ -1,37 +1,18 @@
 -- The answer taken apart, once for all: the ways in which a call ends. So a call that is accepted stands, and its walk says
 -- its answer. Assumes nothing.
-use Prim.Native.Nat.{ℕ, min}
+use Prim.Native.Nat.{ℕ}
 use mathlib.Core.Bool.{Bool, true, false}
-use mathlib.Core.List.{_++_}
 use mathlib.Core.Path.{_≡_, refl, sym, ap, _∙_}
 use native.Mathlib.Omega.{arith}
-use lib.Dec.{leb}
-use lib.ListN.{length, drop}
+use lib.ListN.{length}
 use Rattle.messages.specs.Reading.{Cursor, Reading, refuse, got}
 use Rattle.messages.proofs.Readings.{got-inj}
-use Rattle.machine.specs.PlainMachine.{Machine, weightOf}
 use Rattle.slices.proofs.Tests.{byTest}
 use Rattle.rules.specs.Rule.{Rule}
 use Rattle.decision.specs.Walk.{Count, Walked, stopped, says}
-use Rattle.plain_call.specs.Call.{Call, Answer, accepted, refused, refusal, Ran, halted, moved, run, written, finish, walked, Start, partsOf, walkedOn, ruleRun, starting, door, opened, onward, begins, answer}
+use Rattle.plain_call.specs.Call.{Call, Answer, accepted, refused, refusal, Ran, halted, moved, run, finish, walked, Start, partsOf, walkedOn, ruleRun, starting, door, opened, onward, begins, answer, roomy, accepting}
 use Rattle.plain_call.specs.Standing.{Standing}
 use Rattle.plain_call.proofs.Runs.{moved-is}
-
--- question 19
-abbrev pub roomy : Call → Machine → Bool
-roomy c m = leb (length (written m)) (min (length (c .buffer)) 268435456)
-
--- what a call answers that is accepted
-abbrev pub accepting : Call → Machine → Bool → Count → Answer
-accepting c m a n = record {
-  verdict = accepted a;
-  moves = length (c .moves);
-  visits = n .visits;
-  deepest = n .deepest;
-  weight = weightOf m;
-  words = length (written m);
-  buffer = written m ++ drop (length (written m)) (c .buffer);
-}
 
 -- the walk of a call that stands
 abbrev pub walkOf : (c : Call) → Standing c → Walked

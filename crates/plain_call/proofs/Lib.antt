@@ -13,6 +13,7 @@ pub mod Called
 pub mod Small
 pub mod Reducing
 pub mod Risen
+pub mod Parts
 pub mod Rereading
 pub mod Returning
 pub mod Readmitting

@@ -2,7 +2,7 @@
 -- fit, each VAR names a REC around it, the body ends at the last word, and there are no more parts than the script has. And
 -- these two are just where there are more than 1,024 words, or where the tree's nesting is above 64. Assumes nothing.
 use Prim.Native.Nat.{ℕ, zero, suc, _+_, _*_, _≤_, _<_, max}
-use mathlib.Core.Bool.{Bool, true, false, _&&_, _||_, false≢true}
+use mathlib.Core.Bool.{Bool, true, _&&_, false≢true}
 use mathlib.Core.List.{List, [], _∷_, _++_, append-nil, append-assoc}
 use mathlib.Core.Path.{_≡_, refl, sym, ap, _∙_, subst}
 use mathlib.Core.Logic.{inl, inr}
@@ -19,32 +19,33 @@ use Rattle.messages.specs.declared.MessageWord.the-variants.{Name, Variable, En
 use Rattle.messages.proofs.Readings.{refuse≢got, bind-all, bind-got, bind-refuse, got-all, ask-yes, ask-no}
 use Rattle.messages.proofs.Cases as message
 use Rattle.scripts.specs.Tree.{Head, close, part, parts, bare, settle, PlainHead, Plain}
-use Rattle.scripts.specs.Script.{Written, Script, partWord, guardedFrom, partFrom, orClose, readBody, readScript, holdHead, hold, started}
+use Rattle.scripts.specs.Script.{Written, Script, partWord, partFrom, orClose, readBody, readScript, holdHead, hold, started}
 use Rattle.scripts.specs.Script as script
 use Rattle.scripts.specs.declared.PartWord.{PartWord}
-use Rattle.scripts.specs.declared.PartWord.the-variants.{Close, Ambient, Action, Receipt, Output}
+use Rattle.scripts.specs.declared.PartWord.the-variants.{Close, Receipt, Output}
 use Rattle.scripts.proofs.Cases as body
 use Rattle.scripts.proofs.Laws.{body-advances}
 use Rattle.scripts.proofs.Tabled.{script-tabled}
 use Rattle.machine.specs.PlainMachine.{Machine, weightOf}
-use Rattle.slices.proofs.Tests.{byTest}
+use Rattle.slices.proofs.Tests.{byTest, eqb-same, or-right}
 use Rattle.machine.proofs.Everywhere.{Everywhere, map-everywhere, settle-everywhere}
-use Rattle.written_trees.specs.Write.{Indices, newIndex, writeMessage, whole, writeHead, within, writeInside, write, writePart}
-use Rattle.written_trees.proofs.Trees.{write-part, some-written, receipt-written, output-written, new-hit, new-miss}
+use Rattle.written_trees.specs.Write.{Indices, newIndex, writeMessage, write}
+use Rattle.written_trees.proofs.Trees.{some-written, receipt-written, output-written, new-hit, new-miss}
 use Rattle.calculus.specs.Calculus.{Process, input}
 use Rattle.calculus.specs.TreeProcess.{piece, process}
-use Rattle.calculus.proofs.Variables.{eqb-same, free, free-other}
+use Rattle.calculus.proofs.Variables.{free, free-other}
 use Rattle.calculus.proofs.Substitutions.{Closed}
 use Rattle.calculus.proofs.Kept.{Good, good-move}
-use Rattle.decision.proofs.Fits.{MessageAll, ItemsAll, Fit, Fits, fits-more, move-fits}
+use Rattle.decision.proofs.Fits.{MessageAll, message-more, Fit, Fits, fits-more, move-fits}
 use Rattle.plain_call.specs.Call.{Call, begun, written}
 use Rattle.plain_call.specs.Nesting.{messageNesting, partNesting, nesting}
 use Rattle.plain_call.specs.Standing.{After, LetIn, Readmits, Admits}
 use Rattle.plain_call.proofs.Runs.{run-keeps, run-weighed}
 use Rattle.plain_call.proofs.Begun.{script-good}
 use Rattle.plain_call.proofs.Door.{Inked, held-all}
+use Rattle.plain_call.proofs.Parts.{behind, Laid, laid, whole-all, IsPart, Guarded, ambient-guarded, action-guarded}
 use Rattle.plain_call.proofs.Rereading.{Fitting, Small, name-word, variable-word, enter-word, exit-word, open-word, empty-word, path-word, message-back}
-use Rattle.plain_call.proofs.Returning.{whole-free, whole-all, close-word, ambient-word, action-word, receipt-word, output-word, IsPart, part-all, AnyBack, body-back, small-more}
+use Rattle.plain_call.proofs.Returning.{close-word, part-all, AnyBack, body-back, small-more}
 
 -- ---- the names
 
@@ -174,13 +175,7 @@ message-first (suc f) nest n o around c w ws e l t u h =
     (λ _ _ m. h f (cursor (suc (c .index)) (c .number) ws) refl s m))))
 
 sound-message : (m : Message) → MessageAll Sound m → MessageAll Fitting m
-sound-message (name n) x = sound-fits n x
-sound-message (variable v) x = tt
-sound-message (enter m) x = sound-message m x
-sound-message (exit m) x = sound-message m x
-sound-message (opens m) x = sound-message m x
-sound-message empty x = tt
-sound-message (path m k) x = (sound-message m (x .0), sound-message k (x .1))
+sound-message m x = message-more Sound Fitting sound-fits m x
 
 -- THEOREM: the words of a message whose variables' receipts stand around are judged by its nesting.
 message-only : (ix : Indices) → Small ix → (around : List ℕ) (m : Message) → MessageAll Sound m → ((v : ℕ) → ¬ (mentions v m ≡ 0) → member (newIndex ix v) around ≡ true)
@@ -271,47 +266,40 @@ guarded-deep : (nest m b r p : ℕ) → p ≡ max m (suc b) → nest + max p r �
 guarded-deep nest m b r p e = omega arith
 
 -- a part that has a message and a body
-module _ (F : Message → Head Message) (h : PlainHead) (m : Message) (wd : ℕ) (W : PartWord) (worded : partWord wd ≡ W) (parted : IsPart W) (fitted : script.fits W ≡ true)
-    (reads : (read : Cursor → Reading (Message × Cursor)) (inside : List ℕ → Cursor → Reading (Script × Cursor)) (around : List ℕ) (i : ℕ) (c : Cursor)
-    → partFrom read inside around W i c ≡ guardedFrom F read inside around i c)
-    (writes : (ix : Indices) (i : ℕ) (b : Plain) → writePart ix i h b ≡ (wd ∷ writeMessage ix m) ++ write ix (i + length (wd ∷ writeMessage ix m)) b)
-    (frees : (v : ℕ) (p : Process) → free v (piece h p) ≡ mentions v m + free v p) (nests : (n : ℕ) → partNesting h n ≡ max (messageNesting m) (suc n)) (names : MessageAll Sound m) where
-  guarded-only : (k : ℕ) (b r : Plain) → AnyBack b → BodyOnly b → BodyOnly r → BodyOnly (part k h b r)
+module _ {h : PlainHead} {m : Message} (G : Guarded h m) where
+  guarded-only : MessageAll Sound m → (k : ℕ) (b r : Plain) → AnyBack b → BodyOnly b → BodyOnly r → BodyOnly (part k h b r)
   unfolding process free nesting
-  guarded-only k b r A B R ix s around sc f nest c i rest ei e l n =
-      part-first f nest (max (nest + messageNesting m) (suc nest + nesting b)) (nest + nesting r) _ deep around c wd (M ++ (inner ++ (outer ++ rest))) spelled n W worded parted fitted
+  guarded-only names k b r A B R ix s around sc f nest c i rest ei e l n =
+      part-first f nest (max (nest + messageNesting m) (suc nest + nesting b)) (nest + nesting r) _ deep around c (G .own) (writeMessage ix m ++ (inner ++ (outer ++ rest))) (L .spelled) n (G .says) (G .worded) (G .parted) (G .fitted)
       (λ g d dl di dn. (
-        subst (Judged _) (sym (reads (readMessage g nest around) (readBody g (suc nest)) around (c .index) d))
+        subst (Judged _) (sym (G .reads (readMessage g nest around) (readBody g (suc nest)) around (c .index) d))
             (judged-then (nest + messageNesting m) (suc nest + nesting b) _ refl (readMessage g nest around d) _
-            (message-only ix s around m names (λ v o. sc v (λ z. o (omega (arith, frees v (process b))))) g nest d (inner ++ (outer ++ rest)) dl dn)
+            (message-only ix s around m names (λ v o. sc v (λ z. o (omega (arith, G .frees v (process b))))) g nest d (inner ++ (outer ++ rest)) dl dn)
             (λ p y _.
             let u = message-back ix s m (sound-message m names) g nest around d (inner ++ (outer ++ rest)) dl p y in
-            judged-last (suc nest + nesting b) _ refl (readBody g (suc nest) around (p .1)) (λ t. ((record { index = c .index; head = F (p .0) }, t .0), t .1))
-            (B ix s around (λ v o. sc v (λ z. o (omega (arith, frees v (process b))))) g (suc nest) (p .1) j₀ (outer ++ rest) (omega (arith, u .1 .index)) (u .1 .left)
-            (subst (λ (v : List ℕ). j₀ + length v ≤ 268435456) (sym (u .1 .left)) room-inside) (omega (arith, ap length (u .1 .left), ap length dl, length-append M (inner ++ (outer ++ rest))))))),
+            judged-last (suc nest + nesting b) _ refl (readBody g (suc nest) around (p .1)) (λ t. ((record { index = c .index; head = G .makes (p .0) }, t .0), t .1))
+            (B ix s around (λ v o. sc v (λ z. o (omega (arith, G .frees v (process b))))) g (suc nest) (p .1) j₀ (outer ++ rest) (omega (arith, u .1 .index)) (u .1 .left)
+            (subst (λ (v : List ℕ). j₀ + length v ≤ 268435456) (sym (u .1 .left)) (L .inside)) (omega (arith, ap length (u .1 .left), ap length dl, length-append (writeMessage ix m) (inner ++ (outer ++ rest))))))),
         (λ x xe. bind-all (Q g) (readMessage g nest around d) _
             (λ p y. bind-all (Q g) (readBody g (suc nest) around (p .1)) _
             (λ t z. got-all (Q g) _
             (let u = message-back ix s m (sound-message m names) g nest around d (inner ++ (outer ++ rest)) dl p y in
-            let pl : j₀ + length (p .1 .left) ≤ 268435456 = subst (λ (v : List ℕ). j₀ + length v ≤ 268435456) (sym (u .1 .left)) room-inside in
+            let pl : j₀ + length (p .1 .left) ≤ 268435456 = subst (λ (v : List ℕ). j₀ + length v ≤ 268435456) (sym (u .1 .left)) (L .inside) in
             let b₁ = A ix s g (suc nest) around (p .1) j₀ (outer ++ rest) (omega (arith, u .1 .index)) (u .1 .left) pl t z in
-            R ix s around (λ v o. sc v (λ w. o (omega arith))) g nest (t .1) o₀ rest (omega (arith, b₁ .behind .index, long)) (b₁ .behind .left)
-            (subst (λ (v : List ℕ). o₀ + length v ≤ 268435456) (sym (b₁ .behind .left)) room-beside)
-            (omega (arith, ap length (b₁ .behind .left), ap length dl, length-append M (inner ++ (outer ++ rest)), length-append inner (outer ++ rest)))))) x
-            (sym (reads (readMessage g nest around) (readBody g (suc nest)) around (c .index) d) ∙ xe)),
+            R ix s around (λ v o. sc v (λ w. o (omega arith))) g nest (t .1) o₀ rest (omega (arith, b₁ .behind .index, L .long)) (b₁ .behind .left)
+            (subst (λ (v : List ℕ). o₀ + length v ≤ 268435456) (sym (b₁ .behind .left)) (L .beside))
+            (omega (arith, ap length (b₁ .behind .left), ap length dl, length-append (writeMessage ix m) (inner ++ (outer ++ rest)), length-append inner (outer ++ rest)))))) x
+            (sym (G .reads (readMessage g nest around) (readBody g (suc nest)) around (c .index) d) ∙ xe)),
       ))
     where
-      M : List ℕ
-      M = writeMessage ix m
-
       j₀ : ℕ
-      j₀ = i + length (wd ∷ M)
+      j₀ = i + length (G .own ∷ writeMessage ix m)
 
       inner : List ℕ
       inner = write ix j₀ b
 
       o₀ : ℕ
-      o₀ = i + length (writePart ix i h b)
+      o₀ = behind ix i h b
 
       outer : List ℕ
       outer = write ix o₀ r
@@ -320,30 +308,12 @@ module _ (F : Message → Head Message) (h : PlainHead) (m : Message) (wd : ℕ)
       Q g x = Judged (nest + nesting r) (readBody g nest around (x .1))
 
       deep : nest + nesting (part k h b r) ≡ max nest (max (max (nest + messageNesting m) (suc nest + nesting b)) (nest + nesting r))
-      deep = guarded-deep nest (messageNesting m) (nesting b) (nesting r) (partNesting h (nesting b)) (nests (nesting b))
+      deep = guarded-deep nest (messageNesting m) (nesting b) (nesting r) (partNesting h (nesting b)) (G .nests (nesting b))
 
-      spelled : c .left ≡ wd ∷ (M ++ (inner ++ (outer ++ rest)))
-      spelled =
-          e ∙ ap (λ (v : List ℕ). v ++ rest) (sym (write-part ix i k h b r)) ∙ append-assoc (writePart ix i h b) outer rest
-          ∙ ap (λ (v : List ℕ). v ++ (outer ++ rest)) (writes ix i b) ∙ append-assoc (wd ∷ M) inner (outer ++ rest)
-
-      long : length (writePart ix i h b) ≡ length (wd ∷ M) + length inner
-      long = ap length (writes ix i b) ∙ length-append (wd ∷ M) inner
-
-      all : length (c .left) ≡ suc (length M + (length inner + length (outer ++ rest)))
-      all = ap length spelled ∙ ap suc (length-append M (inner ++ (outer ++ rest)) ∙ ap (λ (v : ℕ). length M + v) (length-append inner (outer ++ rest)))
-
-      room-inside : j₀ + length (inner ++ (outer ++ rest)) ≤ 268435456
-      room-inside = omega (arith, all, length-append inner (outer ++ rest))
-
-      room-beside : o₀ + length (outer ++ rest) ≤ 268435456
-      room-beside = omega (arith, all, long)
+      L : Laid ix i k h b r (G .own ∷ writeMessage ix m) inner rest (c .left)
+      L = laid ix i k h b r (G .own ∷ writeMessage ix m) inner rest (c .left) (G .writes ix i b) e l
 
 -- a receipt
-or-right : (a b : Bool) → b ≡ true → (a || b) ≡ true
-or-right true b e = refl
-or-right false b e = e
-
 member-own : (i : ℕ) (around : List ℕ) → member i (i ∷ around) ≡ true
 unfolding member
 member-own i around = rw (eqb-same i)
@@ -358,11 +328,11 @@ receipt-scoped ix around v i p sc u d = byTest (eqb v u)
     (λ t. subst (λ (o : ℕ). member o (i ∷ around) ≡ true) (sym (new-miss v u i ix t)) (member-more (newIndex ix u) i around (sc u (λ z. d (sym (free-other v u p t) ∙ z)))))
 
 receipt-only : (v k : ℕ) (b r : Plain) → AnyBack b → BodyOnly b → BodyOnly r → BodyOnly (part k (Head.receipt v) b r)
-unfolding process piece free partFrom script.fits nesting partNesting
+unfolding process piece free partFrom script.fits nesting partNesting partWord kind operand word
 receipt-only v k b r A B R ix s around sc f nest c i rest ei e l n =
-    part-first f nest (suc nest + nesting b) (nest + nesting r) _ deep around c (word 3 0) (inner ++ (outer ++ rest)) spelled n Receipt receipt-word tt refl
+    part-first f nest (suc nest + nesting b) (nest + nesting r) _ deep around c (word 3 0) (inner ++ (outer ++ rest)) (L .spelled) n Receipt refl tt refl
     (λ g d dl di dn.
-    let room : j₀ + length (d .left) ≤ 268435456 = subst (λ (o : List ℕ). j₀ + length o ≤ 268435456) (sym dl) room-inside in
+    let room : j₀ + length (d .left) ≤ 268435456 = subst (λ (o : List ℕ). j₀ + length o ≤ 268435456) (sym dl) (L .inside) in
     let dj : d .index ≡ j₀ = omega (arith, di, ei) in (
       judged-last (suc nest + nesting b) _ refl (readBody g (suc nest) (c .index ∷ around) d) (λ t. ((record { index = c .index; head = Head.receipt (c .index) }, t .0), t .1))
           (B ((v, i) ∷ ix) (small-more v i ix fitting s) (c .index ∷ around)
@@ -371,8 +341,8 @@ receipt-only v k b r A B R ix s around sc f nest c i rest ei e l n =
       (λ x xe. bind-all (Q g) (readBody g (suc nest) (c .index ∷ around) d) _
           (λ t z. got-all (Q g) _
           (let b₁ = A ((v, i) ∷ ix) (small-more v i ix fitting s) g (suc nest) (c .index ∷ around) d j₀ (outer ++ rest) dj dl room t z in
-          R ix s around (λ u o. sc u (λ w. o (omega arith))) g nest (t .1) o₀ rest (omega (arith, b₁ .behind .index, long)) (b₁ .behind .left)
-          (subst (λ (o : List ℕ). o₀ + length o ≤ 268435456) (sym (b₁ .behind .left)) room-beside)
+          R ix s around (λ u o. sc u (λ w. o (omega arith))) g nest (t .1) o₀ rest (omega (arith, b₁ .behind .index, L .long)) (b₁ .behind .left)
+          (subst (λ (o : List ℕ). o₀ + length o ≤ 268435456) (sym (b₁ .behind .left)) (L .beside))
           (omega (arith, ap length (b₁ .behind .left), ap length dl, length-append inner (outer ++ rest))))) x xe),
     ))
   where
@@ -383,7 +353,7 @@ receipt-only v k b r A B R ix s around sc f nest c i rest ei e l n =
     inner = write ((v, i) ∷ ix) j₀ b
 
     o₀ : ℕ
-    o₀ = i + length (writePart ix i (Head.receipt v) b)
+    o₀ = behind ix i (Head.receipt v) b
 
     outer : List ℕ
     outer = write ix o₀ r
@@ -394,47 +364,30 @@ receipt-only v k b r A B R ix s around sc f nest c i rest ei e l n =
     deep : nest + nesting (part k (Head.receipt v) b r) ≡ max nest (max (suc nest + nesting b) (nest + nesting r))
     deep = omega arith
 
-    spelled : c .left ≡ word 3 0 ∷ (inner ++ (outer ++ rest))
-    spelled =
-        e ∙ ap (λ (o : List ℕ). o ++ rest) (sym (write-part ix i k (Head.receipt v) b r)) ∙ append-assoc (writePart ix i (Head.receipt v) b) outer rest
-        ∙ ap (λ (o : List ℕ). o ++ (outer ++ rest)) (receipt-written ix i v b)
-
-    long : length (writePart ix i (Head.receipt v) b) ≡ suc (length inner)
-    long = ap length (receipt-written ix i v b)
-
-    all : length (c .left) ≡ suc (length inner + length (outer ++ rest))
-    all = ap length spelled ∙ ap suc (length-append inner (outer ++ rest))
+    L : Laid ix i k (Head.receipt v) b r (word 3 0 ∷ []) inner rest (c .left)
+    L = laid ix i k (Head.receipt v) b r (word 3 0 ∷ []) inner rest (c .left) (receipt-written ix i v b) e l
 
     fitting : Fitting i
-    fitting = omega (arith, all)
-
-    room-inside : j₀ + length (inner ++ (outer ++ rest)) ≤ 268435456
-    room-inside = omega (arith, all, length-append inner (outer ++ rest))
-
-    room-beside : o₀ + length (outer ++ rest) ≤ 268435456
-    room-beside = omega (arith, all, long)
+    fitting = omega (arith, ap length (L .spelled))
 
 -- an output
 output-only : (m : Message) → MessageAll Sound m → (k : ℕ) (b r : Plain) → BodyOnly r → BodyOnly (part k (Head.output m) b r)
-unfolding process piece free partFrom script.fits nesting partNesting
+unfolding process piece free partFrom script.fits nesting partNesting partWord kind operand word
 output-only m names k b r R ix s around sc f nest c i rest ei e l n =
-    part-first f nest (nest + messageNesting m) (nest + nesting r) _ deep around c (word 4 0) (M ++ (outer ++ rest)) spelled n Output output-word tt refl
+    part-first f nest (nest + messageNesting m) (nest + nesting r) _ deep around c (word 4 0) (writeMessage ix m ++ (outer ++ rest)) (L .spelled) n Output refl tt refl
     (λ g d dl di dn. (
       judged-last (nest + messageNesting m) _ refl (readMessage g nest around d) (λ p. ((record { index = c .index; head = Head.output (p .0) }, close), p .1))
           (message-only ix s around m names (λ v o. sc v (λ z. o (omega arith))) g nest d (outer ++ rest) dl dn),
       (λ x xe. bind-all (Q g) (readMessage g nest around d) _
           (λ p y. got-all (Q g) _
           (let u = message-back ix s m (sound-message m names) g nest around d (outer ++ rest) dl p y in
-          R ix s around (λ v o. sc v (λ w. o (omega arith))) g nest (p .1) o₀ rest (omega (arith, u .1 .index, long)) (u .1 .left)
-          (subst (λ (o : List ℕ). o₀ + length o ≤ 268435456) (sym (u .1 .left)) room-beside)
-          (omega (arith, ap length (u .1 .left), ap length dl, length-append M (outer ++ rest))))) x xe),
+          R ix s around (λ v o. sc v (λ w. o (omega arith))) g nest (p .1) o₀ rest (omega (arith, u .1 .index, L .long)) (u .1 .left)
+          (subst (λ (o : List ℕ). o₀ + length o ≤ 268435456) (sym (u .1 .left)) (L .beside))
+          (omega (arith, ap length (u .1 .left), ap length dl, length-append (writeMessage ix m) (outer ++ rest))))) x xe),
     ))
   where
-    M : List ℕ
-    M = writeMessage ix m
-
     o₀ : ℕ
-    o₀ = i + length (writePart ix i (Head.output m) b)
+    o₀ = behind ix i (Head.output m) b
 
     outer : List ℕ
     outer = write ix o₀ r
@@ -445,66 +398,16 @@ output-only m names k b r R ix s around sc f nest c i rest ei e l n =
     deep : nest + nesting (part k (Head.output m) b r) ≡ max nest (max (nest + messageNesting m) (nest + nesting r))
     deep = omega arith
 
-    spelled : c .left ≡ word 4 0 ∷ (M ++ (outer ++ rest))
-    spelled =
-        e ∙ ap (λ (o : List ℕ). o ++ rest) (sym (write-part ix i k (Head.output m) b r)) ∙ append-assoc (writePart ix i (Head.output m) b) outer rest
-        ∙ ap (λ (o : List ℕ). o ++ (outer ++ rest)) (output-written ix i m b)
-
-    long : length (writePart ix i (Head.output m) b) ≡ suc (length M)
-    long = ap length (output-written ix i m b)
-
-    all : length (c .left) ≡ suc (length M + length (outer ++ rest))
-    all = ap length spelled ∙ ap suc (length-append M (outer ++ rest))
-
-    room-beside : o₀ + length (outer ++ rest) ≤ 268435456
-    room-beside = omega (arith, all, long)
-
--- an ambient and an action
-ambient-only : (m : Message) → MessageAll Sound m → (k : ℕ) (b r : Plain) → AnyBack b → BodyOnly b → BodyOnly r → BodyOnly (part k (Head.ambient m) b r)
-ambient-only m names = guarded-only Head.ambient (Head.ambient m) m (word 1 0) Ambient ambient-word tt fitted reads writes frees nests names
-  where
-    fitted : script.fits Ambient ≡ true
-    fitted = unfold script.fits in refl
-
-    reads : (read : Cursor → Reading (Message × Cursor)) (inside : List ℕ → Cursor → Reading (Script × Cursor)) (around : List ℕ) (i : ℕ) (c : Cursor)
-        → partFrom read inside around Ambient i c ≡ guardedFrom Head.ambient read inside around i c
-    reads read inside around i c = unfold partFrom in refl
-
-    writes : (ix : Indices) (i : ℕ) (b : Plain) → writePart ix i (Head.ambient m) b ≡ (word 1 0 ∷ writeMessage ix m) ++ write ix (i + length (word 1 0 ∷ writeMessage ix m)) b
-    writes ix i b = unfold writePart writeHead writeInside within in refl
-
-    frees : (v : ℕ) (p : Process) → free v (piece (Head.ambient m) p) ≡ mentions v m + free v p
-    frees v p = unfold free piece in refl
-
-    nests : (n : ℕ) → partNesting (Head.ambient m) n ≡ max (messageNesting m) (suc n)
-    nests n = unfold partNesting in refl
-
-action-only : (is : List Message) → ItemsAll Sound is → (k : ℕ) (b r : Plain) → AnyBack b → BodyOnly b → BodyOnly r → BodyOnly (part k (Head.action is) b r)
-action-only is names = guarded-only Head.action (Head.action is) (whole is) (word 2 0) Action action-word tt fitted reads writes frees nests (whole-all Sound is names)
-  where
-    fitted : script.fits Action ≡ true
-    fitted = unfold script.fits in refl
-
-    reads : (read : Cursor → Reading (Message × Cursor)) (inside : List ℕ → Cursor → Reading (Script × Cursor)) (around : List ℕ) (i : ℕ) (c : Cursor)
-        → partFrom read inside around Action i c ≡ guardedFrom Head.action read inside around i c
-    reads read inside around i c = unfold partFrom in refl
-
-    writes : (ix : Indices) (i : ℕ) (b : Plain) → writePart ix i (Head.action is) b ≡ (word 2 0 ∷ writeMessage ix (whole is)) ++ write ix (i + length (word 2 0 ∷ writeMessage ix (whole is))) b
-    writes ix i b = unfold writePart writeHead writeInside within in refl
-
-    frees : (v : ℕ) (p : Process) → free v (piece (Head.action is) p) ≡ mentions v (whole is) + free v p
-    frees v p = unfold piece in whole-free v is p
-
-    nests : (n : ℕ) → partNesting (Head.action is) n ≡ max (messageNesting (whole is)) (suc n)
-    nests n = unfold partNesting in refl
+    L : Laid ix i k (Head.output m) b r (word 4 0 ∷ writeMessage ix m) [] rest (c .left)
+    L = laid ix i k (Head.output m) b r (word 4 0 ∷ writeMessage ix m) [] rest (c .left) (output-written ix i m b) e l
 
 fitting-all : (b : Plain) → Fits Any Sound b → Fits Any Fitting b
 fitting-all b x = fits-more Any Any Sound Fitting (λ n h. h) sound-fits b x
 
 body-only : (b : Plain) → Fits Any Sound b → BodyOnly b
 body-only close x = close-only
-body-only (part k (Head.ambient m) b r) x = ambient-only m (x .0 .1) k b r (body-back Any b (fitting-all b (x .1))) (body-only b (x .1)) (body-only r (x .2))
-body-only (part k (Head.action is) b r) x = action-only is (x .0 .1) k b r (body-back Any b (fitting-all b (x .1))) (body-only b (x .1)) (body-only r (x .2))
+body-only (part k (Head.ambient m) b r) x = guarded-only (ambient-guarded m) (x .0 .1) k b r (body-back Any b (fitting-all b (x .1))) (body-only b (x .1)) (body-only r (x .2))
+body-only (part k (Head.action is) b r) x = guarded-only (action-guarded is) (whole-all Sound is (x .0 .1)) k b r (body-back Any b (fitting-all b (x .1))) (body-only b (x .1)) (body-only r (x .2))
 body-only (part k (Head.receipt v) b r) x = receipt-only v k b r (body-back Any b (fitting-all b (x .1))) (body-only b (x .1)) (body-only r (x .2))
 body-only (part k (Head.output m) b r) x = output-only m (x .0 .1) k b r (body-only r (x .2))
 

@@ -2,74 +2,42 @@
 -- a tree that is written and read again stands for the same process. Assumes nothing.
 use Prim.Native.Nat.{ℕ, zero, suc, _+_, _≤_, _<_}
 use mathlib.Core.Bool.{true, false, _&&_}
-use mathlib.Core.List.{List, [], _∷_, _++_, append-nil, append-assoc}
+use mathlib.Core.List.{List, [], _∷_, _++_, append-nil}
 use mathlib.Core.Path.{_≡_, refl, sym, ap, ap₂, _∙_, subst}
 use native.Mathlib.Omega.{arith}
 use lib.Dec.{leb, eqb}
-use lib.ListN.{length, length-append, take}
+use lib.ListN.{length, take}
 use borrow.Author.Tests.{eqb-true, eq-eqb, ne-eqb}
 use Rattle.messages.specs.Words.{kind, operand, word}
 use Rattle.messages.specs.Reading.{Cursor, cursor, Reading, got, ask, nextWord, nextPart, isEmpty}
-use Rattle.messages.specs.Message.{Message, name, variable, enter, exit, opens, empty, path, items, mentions}
+use Rattle.messages.specs.Message.{Message}
 use Rattle.messages.specs.ReadMessage.{readMessage}
 use Rattle.messages.proofs.Readings.{refuse≢got, bind-all, got-all, next}
 use Rattle.scripts.specs.Tree.{Head, close, part, total, parts, PlainHead, Plain}
-use Rattle.scripts.specs.Script.{Written, Script, partWord, fits, guardedFrom, partFrom, orClose, readBody, readScript}
+use Rattle.scripts.specs.Script.{Written, Script, partWord, fits, partFrom, orClose, readBody, readScript}
 use Rattle.scripts.specs.declared.PartWord.{PartWord}
 use Rattle.scripts.specs.declared.PartWord.the-variants.{Close, Ambient, Action, Receipt, Output, No}
 use Rattle.scripts.specs.Measures.{greatestName}
 use Rattle.scripts.proofs.Laws.{short}
-use Rattle.slices.proofs.Tests.{byTest}
-use Rattle.written_trees.specs.Write.{Indices, newIndex, writeMessage, whole, writeHead, within, writeInside, write, writePart}
-use Rattle.written_trees.proofs.Trees.{write-part, receipt-written, output-written, new-hit, new-miss}
+use Rattle.slices.proofs.Tests.{byTest, eqb-same}
+use Rattle.written_trees.specs.Write.{Indices, newIndex, writeMessage, write}
+use Rattle.written_trees.proofs.Trees.{receipt-written, output-written, new-hit, new-miss}
 use Rattle.calculus.specs.Calculus.{Process, 𝟎, _‖_, input, _≅_}
-use Rattle.calculus.specs.TreeProcess.{prefix, piece, process}
+use Rattle.calculus.specs.TreeProcess.{piece, process}
 use Rattle.calculus.specs.Written.{writtenPart, written}
-use Rattle.calculus.proofs.Variables.{eqb-same, eqb-flip, free, free-other}
-use Rattle.calculus.proofs.Shapes.{Shape, nil, cell, place, hear, say, _⊕_, chain, chain-append, same-eq}
+use Rattle.calculus.proofs.Variables.{eqb-flip, free, free-other}
+use Rattle.calculus.proofs.Shapes.{Shape, nil, cell, hear, say, _⊕_, same-eq}
 use Rattle.calculus.proofs.Substitutions.{Closed}
-use Rattle.calculus.proofs.Congruences.{renamed, bound, own, shape, complete, top, top-below}
+use Rattle.calculus.proofs.Congruences.{renamed, bound, bound-same, bound-other, own, shape, complete, top, top-below}
 use Rattle.calculus.proofs.Kept.{Good, good-move}
-use Rattle.decision.proofs.Fits.{MessageAll, ItemsAll, Fits, fits-more, move-fits}
+use Rattle.decision.proofs.Fits.{MessageAll, Fits, fits-more, move-fits}
 use Rattle.plain_call.specs.Call.{Call, begun}
 use Rattle.plain_call.specs.Standing.{Returns}
 use Rattle.plain_call.proofs.Runs.{run-keeps}
 use Rattle.plain_call.proofs.Door.{script-fits}
 use Rattle.plain_call.proofs.Begun.{script-good}
+use Rattle.plain_call.proofs.Parts.{behind, Laid, laid, whole-all, renamed-twice, IsPart, Guarded, ambient-guarded, action-guarded}
 use Rattle.plain_call.proofs.Rereading.{same-head, same-rest, Fitting, Back, Small, message-back}
-
--- ---- shapes
-
--- a message renamed twice, by namings that come to the third where its variables stand
-renamed-twice : (τ ρ σ : ℕ → ℕ) (m : Message) → ((v : ℕ) → ¬ (mentions v m ≡ 0) → ρ (τ v) ≡ σ v) → renamed ρ (renamed τ m) ≡ renamed σ m
-unfolding renamed mentions
-renamed-twice τ ρ σ (name n) h = refl
-renamed-twice τ ρ σ (variable v) h = ap variable (h v (λ z. let x : _≡_ {A = ℕ} 1 0 = rw (eqb-same v) at z in absurd (let w : ⊥ = omega arith in w)))
-renamed-twice τ ρ σ (enter m) h = ap enter (renamed-twice τ ρ σ m h)
-renamed-twice τ ρ σ (exit m) h = ap exit (renamed-twice τ ρ σ m h)
-renamed-twice τ ρ σ (opens m) h = ap opens (renamed-twice τ ρ σ m h)
-renamed-twice τ ρ σ empty h = refl
-renamed-twice τ ρ σ (path m k) h = ap₂ path (renamed-twice τ ρ σ m (λ v d. h v (λ z. d (omega arith)))) (renamed-twice τ ρ σ k (λ v d. h v (λ z. d (omega arith))))
-
--- "several as PATH item rest; none as one EMPTY": the items one after the other, or the one message
-whole-shape : (n : ℕ) (σ : ℕ → ℕ) (is : List Message) (p : Process) → chain (items (renamed σ (whole is))) (shape n σ p) ≡ shape n σ (prefix is p)
-unfolding whole prefix shape renamed items chain
-whole-shape n σ [] p = refl
-whole-shape n σ (i ∷ []) p = refl
-whole-shape n σ (i ∷ (j ∷ is)) p =
-    chain-append (items (renamed σ i)) (items (renamed σ (whole (j ∷ is)))) (shape n σ p) ∙ ap (chain (items (renamed σ i))) (whole-shape n σ (j ∷ is) p)
-
-pub whole-free : (v : ℕ) (is : List Message) (p : Process) → free v (prefix is p) ≡ mentions v (whole is) + free v p
-unfolding whole prefix free mentions
-whole-free v [] p = omega arith
-whole-free v (i ∷ []) p = refl
-whole-free v (i ∷ (j ∷ is)) p = omega (arith, whole-free v (j ∷ is) p)
-
-pub whole-all : (P : ℕ → Type 0) (is : List Message) → ItemsAll P is → MessageAll P (whole is)
-unfolding whole
-whole-all P [] x = tt
-whole-all P (i ∷ []) x = x .0
-whole-all P (i ∷ (j ∷ is)) x = (x .0, whole-all P (j ∷ is) (x .1))
 
 -- ---- bodies
 
@@ -77,34 +45,9 @@ pub close-word : partWord (word 0 0) ≡ Close
 unfolding partWord kind operand word
 close-word = refl
 
-pub ambient-word : partWord (word 1 0) ≡ Ambient
-unfolding partWord kind operand word
-ambient-word = refl
-
-pub action-word : partWord (word 2 0) ≡ Action
-unfolding partWord kind operand word
-action-word = refl
-
-pub receipt-word : partWord (word 3 0) ≡ Receipt
-unfolding partWord kind operand word
-receipt-word = refl
-
-pub output-word : partWord (word 4 0) ≡ Output
-unfolding partWord kind operand word
-output-word = refl
-
 close-all : (P : Script × Cursor → Type 0) (w : PartWord) (c : Cursor) (k : Reading (Script × Cursor)) → w ≡ Close → P (close, c) → (b : Script × Cursor) → orClose w c k ≡ got b → P b
 unfolding orClose
 close-all P w c k e h b x = got-all P (close, c) h b (rw e at x)
-
--- the word of a part
-abbrev pub IsPart : PartWord → Type 0
-IsPart Close = ⊥
-IsPart Ambient = Unit {0}
-IsPart Action = Unit {0}
-IsPart Receipt = Unit {0}
-IsPart Output = Unit {0}
-IsPart (No q) = Unit {0}
 
 pub part-all : (w : PartWord) (c : Cursor) (k : Reading (Script × Cursor)) → IsPart w → orClose w c k ≡ k
 unfolding orClose
@@ -189,53 +132,44 @@ beside-says k h b r ix i o l p q x y n ρ σ a =
     (y n ρ σ (alike-less i o ix ρ σ (process r) (piece h (process b) ‖ process r) l (λ v z. omega arith) a))
 
 -- a part that has a message and a body: an ambient, an action
-module _ (F : Message → Head Message) (h : PlainHead) (m : Message) (wd : ℕ) (W : PartWord) (worded : partWord wd ≡ W) (parted : IsPart W)
-    (reads : (read : Cursor → Reading (Message × Cursor)) (inside : List ℕ → Cursor → Reading (Script × Cursor)) (around : List ℕ) (i : ℕ) (c : Cursor)
-    → partFrom read inside around W i c ≡ guardedFrom F read inside around i c)
-    (writes : (ix : Indices) (i : ℕ) (b : Plain) → writePart ix i h b ≡ (wd ∷ writeMessage ix m) ++ write ix (i + length (wd ∷ writeMessage ix m)) b)
-    (shaped : (n : ℕ) (ρ σ τ : ℕ → ℕ) (p q : Process) → ((v : ℕ) → ¬ (mentions v m ≡ 0) → ρ (τ v) ≡ σ v) → shape n ρ p ≡ shape n σ q
-    → shape n ρ (writtenPart (F (renamed τ m)) p) ≡ shape n σ (piece h q))
-    (frees : (v : ℕ) (p : Process) → free v (piece h p) ≡ mentions v m + free v p) (names : MessageAll Fitting m) where
+module _ {h : PlainHead} {m : Message} (G : Guarded h m) where
   guarded-says : (b : Plain) (ix : Indices) (i j : ℕ) → i ≤ j → (x : Message) → x ≡ renamed (newIndex ix) m → (p : Process)
       → ((n : ℕ) (ρ σ : ℕ → ℕ) → Alike j ix ρ σ (process b) → shape n ρ p ≡ shape n σ (process b))
-      → (n : ℕ) (ρ σ : ℕ → ℕ) → Alike i ix ρ σ (piece h (process b)) → shape n ρ (writtenPart (F x) p) ≡ shape n σ (piece h (process b))
+      → (n : ℕ) (ρ σ : ℕ → ℕ) → Alike i ix ρ σ (piece h (process b)) → shape n ρ (writtenPart (G .makes x) p) ≡ shape n σ (piece h (process b))
   guarded-says b ix i j l x e p f n ρ σ a =
-      ap (λ (z : Message). shape n ρ (writtenPart (F z) p)) e
-      ∙ shaped n ρ σ (newIndex ix) p (process b) (λ v d. a v (λ z. d (omega (arith, frees v (process b)))) .1)
-      (f n ρ σ (alike-less i j ix ρ σ (process b) (piece h (process b)) l (λ v z. omega (arith, frees v (process b))) a))
+      ap (λ (z : Message). shape n ρ (writtenPart (G .makes z) p)) e
+      ∙ G .shaped n ρ σ (newIndex ix) p (process b) (λ v d. a v (λ z. d (omega (arith, G .frees v (process b)))) .1)
+      (f n ρ σ (alike-less i j ix ρ σ (process b) (piece h (process b)) l (λ v z. omega (arith, G .frees v (process b))) a))
 
-  guarded-back : (k : ℕ) (b r : Plain) → AnyBack b → AnyBack r → AnyBack (part k h b r)
+  guarded-back : MessageAll Fitting m → (k : ℕ) (b r : Plain) → AnyBack b → AnyBack r → AnyBack (part k h b r)
   unfolding written total
-  guarded-back k b r B R ix s f nest around c i rest ei e l =
-      part-first (Reread ix i (part k h b r) rest) f nest around c wd (M ++ (inner ++ (outer ++ rest))) spelled W worded parted
+  guarded-back names k b r B R ix s f nest around c i rest ei e l =
+      part-first (Reread ix i (part k h b r) rest) f nest around c (G .own) (writeMessage ix m ++ (inner ++ (outer ++ rest))) (L .spelled) (G .says) (G .worded) (G .parted)
       (λ g d dl di x xe.
       bind-all (Q g) (readMessage g nest around d) _
       (λ q y. bind-all (Q g) (readBody g (suc nest) around (q .1)) _
       (λ t z. got-all (Q g) _ (λ rr w.
       let u = message-back ix s m names g nest around d (inner ++ (outer ++ rest)) dl q y in
       let qi : q .1 .index ≡ j = omega (arith, u .1 .index) in
-      let ql : j + length (q .1 .left) ≤ 268435456 = subst (λ (v : List ℕ). j + length v ≤ 268435456) (sym (u .1 .left)) room-inside in
+      let ql : j + length (q .1 .left) ≤ 268435456 = subst (λ (v : List ℕ). j + length v ≤ 268435456) (sym (u .1 .left)) (L .inside) in
       let b₁ = B ix s g (suc nest) around (q .1) j (outer ++ rest) qi (u .1 .left) ql t z in
-      let ti : t .1 .index ≡ o = omega (arith, b₁ .behind .index, long) in
-      let tl : o + length (t .1 .left) ≤ 268435456 = subst (λ (v : List ℕ). o + length v ≤ 268435456) (sym (b₁ .behind .left)) room-beside in
+      let ti : t .1 .index ≡ o = omega (arith, b₁ .behind .index, L .long) in
+      let tl : o + length (t .1 .left) ≤ 268435456 = subst (λ (v : List ℕ). o + length v ≤ 268435456) (sym (b₁ .behind .left)) (L .beside) in
       let r₁ = R ix s g nest around (t .1) o rest ti (b₁ .behind .left) tl rr w in
       record {
-        behind = record { left = r₁ .behind .left; index = omega (arith, r₁ .behind .index, longer) };
+        behind = record { left = r₁ .behind .left; index = omega (arith, r₁ .behind .index, L .longer) };
         few = omega (arith, b₁ .few, r₁ .few);
-        says = beside-says k h b r ix i o (omega arith) (writtenPart (F (q .0)) (written (t .0))) (written (rr .0)) (guarded-says b ix i j (omega arith) (q .0) (u .0) (written (t .0)) (b₁ .says)) (r₁ .says);
-      }))) x (sym (reads (readMessage g nest around) (readBody g (suc nest)) around (c .index) d) ∙ xe))
+        says = beside-says k h b r ix i o (omega arith) (writtenPart (G .makes (q .0)) (written (t .0))) (written (rr .0)) (guarded-says b ix i j (omega arith) (q .0) (u .0) (written (t .0)) (b₁ .says)) (r₁ .says);
+      }))) x (sym (G .reads (readMessage g nest around) (readBody g (suc nest)) around (c .index) d) ∙ xe))
     where
-      M : List ℕ
-      M = writeMessage ix m
-
       j : ℕ
-      j = i + length (wd ∷ M)
+      j = i + length (G .own ∷ writeMessage ix m)
 
       inner : List ℕ
       inner = write ix j b
 
       o : ℕ
-      o = i + length (writePart ix i h b)
+      o = behind ix i h b
 
       outer : List ℕ
       outer = write ix o r
@@ -243,25 +177,8 @@ module _ (F : Message → Head Message) (h : PlainHead) (m : Message) (wd : ℕ)
       Q : ℕ → (Written × Script) × Cursor → Type 0
       Q g x = (rr : Script × Cursor) → readBody g nest around (x .1) ≡ got rr → Reread ix i (part k h b r) rest (part (c .number) (x .0 .0) (x .0 .1) (rr .0), rr .1)
 
-      spelled : c .left ≡ wd ∷ (M ++ (inner ++ (outer ++ rest)))
-      spelled =
-          e ∙ ap (λ (v : List ℕ). v ++ rest) (sym (write-part ix i k h b r)) ∙ append-assoc (writePart ix i h b) outer rest
-          ∙ ap (λ (v : List ℕ). v ++ (outer ++ rest)) (writes ix i b) ∙ append-assoc (wd ∷ M) inner (outer ++ rest)
-
-      long : length (writePart ix i h b) ≡ length (wd ∷ M) + length inner
-      long = ap length (writes ix i b) ∙ length-append (wd ∷ M) inner
-
-      longer : length (write ix i (part k h b r)) ≡ length (writePart ix i h b) + length outer
-      longer = sym (ap length (write-part ix i k h b r)) ∙ length-append (writePart ix i h b) outer
-
-      all : length (c .left) ≡ suc (length M + (length inner + length (outer ++ rest)))
-      all = ap length spelled ∙ ap suc (length-append M (inner ++ (outer ++ rest)) ∙ ap (λ (v : ℕ). length M + v) (length-append inner (outer ++ rest)))
-
-      room-inside : j + length (inner ++ (outer ++ rest)) ≤ 268435456
-      room-inside = omega (arith, all, length-append inner (outer ++ rest))
-
-      room-beside : o + length (outer ++ rest) ≤ 268435456
-      room-beside = omega (arith, all, long)
+      L : Laid ix i k h b r (G .own ∷ writeMessage ix m) inner rest (c .left)
+      L = laid ix i k h b r (G .own ∷ writeMessage ix m) inner rest (c .left) (G .writes ix i b) e l
 
 -- a receipt
 pub small-more : (v i : ℕ) (ix : Indices) → Fitting i → Small ix → Small ((v, i) ∷ ix)
@@ -269,27 +186,19 @@ small-more v i ix l s u = byTest (eqb v u)
     (λ t. subst Fitting (sym (new-hit v u i ix t)) l)
     (λ t. subst Fitting (sym (new-miss v u i ix t)) (s u))
 
-bound-hit : (ρ : ℕ → ℕ) (x n z : ℕ) → eqb z x ≡ true → bound ρ x n z ≡ n
-unfolding bound
-bound-hit ρ x n z t = rw t
-
-bound-miss : (ρ : ℕ → ℕ) (x n z : ℕ) → eqb z x ≡ false → bound ρ x n z ≡ ρ z
-unfolding bound
-bound-miss ρ x n z t = rw t
-
 -- inside a receipt of v whose word has the index i, v is i
 receipt-alike : (v i j n : ℕ) (ix : Indices) (ρ σ : ℕ → ℕ) (p : Process) → i < j → Alike i ix ρ σ (input v p) → Alike j ((v, i) ∷ ix) (bound ρ i n) (bound σ v n) p
 receipt-alike v i j n ix ρ σ p l a u d = byTest (eqb v u)
     (λ t.
     let e : newIndex ((v, i) ∷ ix) u ≡ i = new-hit v u i ix t in
     let w : eqb u v ≡ true = eq-eqb u v (sym (eqb-true v u t)) in
-    (omega (arith, e), ap (bound ρ i n) e ∙ bound-hit ρ i n i (eqb-same i) ∙ sym (bound-hit σ v n u w)))
+    (omega (arith, e), ap (bound ρ i n) e ∙ bound-same ρ i n i (eqb-same i) ∙ sym (bound-same σ v n u w)))
     (λ t.
     let e : newIndex ((v, i) ∷ ix) u ≡ newIndex ix u = new-miss v u i ix t in
     let x = a u (λ z. d (sym (free-other v u p t) ∙ z)) in
     let y : newIndex ix u < i = x .0 in
     let w : eqb (newIndex ix u) i ≡ false = ne-eqb (newIndex ix u) i (λ z. omega arith) in
-    (omega (arith, e), ap (bound ρ i n) e ∙ bound-miss ρ i n (newIndex ix u) w ∙ x .1 ∙ sym (bound-miss σ v n u (eqb-flip v u t))))
+    (omega (arith, e), ap (bound ρ i n) e ∙ bound-other ρ i n (newIndex ix u) w ∙ x .1 ∙ sym (bound-other σ v n u (eqb-flip v u t))))
 
 receipt-says : (v : ℕ) (b : Plain) (ix : Indices) (i j : ℕ) → i < j → (x : ℕ) → x ≡ i → (p : Process)
     → ((n : ℕ) (ρ σ : ℕ → ℕ) → Alike j ((v, i) ∷ ix) ρ σ (process b) → shape n ρ p ≡ shape n σ (process b))
@@ -300,20 +209,20 @@ receipt-says v b ix i j l x e p f n ρ σ a =
     ∙ ap (λ (z : Shape). cell (hear n) z nil) (f (suc n) (bound ρ i n) (bound σ v n) (receipt-alike v i j n ix ρ σ (process b) l a))
 
 receipt-back : (v k : ℕ) (b r : Plain) → AnyBack b → AnyBack r → AnyBack (part k (Head.receipt v) b r)
-unfolding written partFrom total
+unfolding written partFrom total partWord kind operand word
 receipt-back v k b r B R ix s f nest around c i rest ei e l =
-    part-first (Reread ix i (part k h b r) rest) f nest around c (word 3 0) (inner ++ (outer ++ rest)) spelled Receipt receipt-word tt
+    part-first (Reread ix i (part k h b r) rest) f nest around c (word 3 0) (inner ++ (outer ++ rest)) (L .spelled) Receipt refl tt
     (λ g d dl di x xe.
     bind-all (Q g) (readBody g (suc nest) (c .index ∷ around) d) _
     (λ t z. got-all (Q g) _ (λ rr w.
     let dj : d .index ≡ j = omega (arith, di, ei) in
-    let room : j + length (d .left) ≤ 268435456 = subst (λ (v : List ℕ). j + length v ≤ 268435456) (sym dl) room-inside in
+    let room : j + length (d .left) ≤ 268435456 = subst (λ (v : List ℕ). j + length v ≤ 268435456) (sym dl) (L .inside) in
     let b₁ = B ((v, i) ∷ ix) (small-more v i ix fitting s) g (suc nest) (c .index ∷ around) d j (outer ++ rest) dj dl room t z in
-    let ti : t .1 .index ≡ o = omega (arith, b₁ .behind .index, long) in
-    let tl : o + length (t .1 .left) ≤ 268435456 = subst (λ (v : List ℕ). o + length v ≤ 268435456) (sym (b₁ .behind .left)) room-beside in
+    let ti : t .1 .index ≡ o = omega (arith, b₁ .behind .index, L .long) in
+    let tl : o + length (t .1 .left) ≤ 268435456 = subst (λ (v : List ℕ). o + length v ≤ 268435456) (sym (b₁ .behind .left)) (L .beside) in
     let r₁ = R ix s g nest around (t .1) o rest ti (b₁ .behind .left) tl rr w in
     record {
-      behind = record { left = r₁ .behind .left; index = omega (arith, r₁ .behind .index, longer) };
+      behind = record { left = r₁ .behind .left; index = omega (arith, r₁ .behind .index, L .longer) };
       few = omega (arith, b₁ .few, r₁ .few);
       says = beside-says k h b r ix i o (omega arith) (writtenPart (Head.receipt (c .index)) (written (t .0))) (written (rr .0))
           (receipt-says v b ix i j (omega arith) (c .index) ei (written (t .0)) (b₁ .says)) (r₁ .says);
@@ -329,39 +238,19 @@ receipt-back v k b r B R ix s f nest around c i rest ei e l =
     inner = write ((v, i) ∷ ix) j b
 
     o : ℕ
-    o = i + length (writePart ix i (Head.receipt v) b)
+    o = behind ix i h b
 
     outer : List ℕ
     outer = write ix o r
 
     Q : ℕ → (Written × Script) × Cursor → Type 0
-    Q g x = (rr : Script × Cursor) → readBody g nest around (x .1) ≡ got rr → Reread ix i (part k (Head.receipt v) b r) rest (part (c .number) (x .0 .0) (x .0 .1) (rr .0), rr .1)
+    Q g x = (rr : Script × Cursor) → readBody g nest around (x .1) ≡ got rr → Reread ix i (part k h b r) rest (part (c .number) (x .0 .0) (x .0 .1) (rr .0), rr .1)
 
-    writes : writePart ix i (Head.receipt v) b ≡ word 3 0 ∷ inner
-    writes = receipt-written ix i v b
-
-    spelled : c .left ≡ word 3 0 ∷ (inner ++ (outer ++ rest))
-    spelled =
-        e ∙ ap (λ (v : List ℕ). v ++ rest) (sym (write-part ix i k (Head.receipt v) b r)) ∙ append-assoc (writePart ix i (Head.receipt v) b) outer rest
-        ∙ ap (λ (v : List ℕ). v ++ (outer ++ rest)) writes
-
-    long : length (writePart ix i (Head.receipt v) b) ≡ suc (length inner)
-    long = ap length writes
-
-    longer : length (write ix i (part k (Head.receipt v) b r)) ≡ length (writePart ix i (Head.receipt v) b) + length outer
-    longer = sym (ap length (write-part ix i k (Head.receipt v) b r)) ∙ length-append (writePart ix i (Head.receipt v) b) outer
-
-    all : length (c .left) ≡ suc (length inner + length (outer ++ rest))
-    all = ap length spelled ∙ ap suc (length-append inner (outer ++ rest))
+    L : Laid ix i k h b r (word 3 0 ∷ []) inner rest (c .left)
+    L = laid ix i k h b r (word 3 0 ∷ []) inner rest (c .left) (receipt-written ix i v b) e l
 
     fitting : Fitting i
-    fitting = omega (arith, all)
-
-    room-inside : j + length (inner ++ (outer ++ rest)) ≤ 268435456
-    room-inside = omega (arith, all, length-append inner (outer ++ rest))
-
-    room-beside : o + length (outer ++ rest) ≤ 268435456
-    room-beside = omega (arith, all, long)
+    fitting = omega (arith, ap length (L .spelled))
 
 -- an output
 output-says : (m : Message) (b : Plain) (ix : Indices) (i : ℕ) (x : Message) → x ≡ renamed (newIndex ix) m → (p : Process)
@@ -371,93 +260,42 @@ output-says m b ix i x e p n ρ σ a =
     ap (λ (z : Message). cell (say (renamed ρ z)) nil nil) e ∙ ap (λ (z : Message). cell (say z) nil nil) (renamed-twice (newIndex ix) ρ σ m (λ v d. a v d .1))
 
 output-back : (m : Message) → MessageAll Fitting m → (k : ℕ) (b r : Plain) → AnyBack r → AnyBack (part k (Head.output m) b r)
-unfolding written partFrom total
+unfolding written partFrom total partWord kind operand word
 output-back m names k b r R ix s f nest around c i rest ei e l =
-    part-first (Reread ix i (part k (Head.output m) b r) rest) f nest around c (word 4 0) (M ++ (outer ++ rest)) spelled Output output-word tt
+    part-first (Reread ix i (part k h b r) rest) f nest around c (word 4 0) (writeMessage ix m ++ (outer ++ rest)) (L .spelled) Output refl tt
     (λ g d dl di x xe.
     bind-all (Q g) (readMessage g nest around d) _
     (λ q y. got-all (Q g) _ (λ rr w.
     let u = message-back ix s m names g nest around d (outer ++ rest) dl q y in
-    let qi : q .1 .index ≡ o = omega (arith, u .1 .index, long) in
-    let ql : o + length (q .1 .left) ≤ 268435456 = subst (λ (v : List ℕ). o + length v ≤ 268435456) (sym (u .1 .left)) room-beside in
+    let qi : q .1 .index ≡ o = omega (arith, u .1 .index, L .long) in
+    let ql : o + length (q .1 .left) ≤ 268435456 = subst (λ (v : List ℕ). o + length v ≤ 268435456) (sym (u .1 .left)) (L .beside) in
     let r₁ = R ix s g nest around (q .1) o rest qi (u .1 .left) ql rr w in
     record {
-      behind = record { left = r₁ .behind .left; index = omega (arith, r₁ .behind .index, longer) };
+      behind = record { left = r₁ .behind .left; index = omega (arith, r₁ .behind .index, L .longer) };
       few = omega (arith, r₁ .few);
-      says = beside-says k (Head.output m) b r ix i o (omega arith) (writtenPart (Head.output (q .0)) 𝟎) (written (rr .0)) (output-says m b ix i (q .0) (u .0) 𝟎) (r₁ .says);
+      says = beside-says k h b r ix i o (omega arith) (writtenPart (Head.output (q .0)) 𝟎) (written (rr .0)) (output-says m b ix i (q .0) (u .0) 𝟎) (r₁ .says);
     })) x xe)
   where
-    M : List ℕ
-    M = writeMessage ix m
+    h : PlainHead
+    h = Head.output m
 
     o : ℕ
-    o = i + length (writePart ix i (Head.output m) b)
+    o = behind ix i h b
 
     outer : List ℕ
     outer = write ix o r
 
     Q : ℕ → (Written × Script) × Cursor → Type 0
-    Q g x = (rr : Script × Cursor) → readBody g nest around (x .1) ≡ got rr → Reread ix i (part k (Head.output m) b r) rest (part (c .number) (x .0 .0) (x .0 .1) (rr .0), rr .1)
+    Q g x = (rr : Script × Cursor) → readBody g nest around (x .1) ≡ got rr → Reread ix i (part k h b r) rest (part (c .number) (x .0 .0) (x .0 .1) (rr .0), rr .1)
 
-    spelled : c .left ≡ word 4 0 ∷ (M ++ (outer ++ rest))
-    spelled =
-        e ∙ ap (λ (v : List ℕ). v ++ rest) (sym (write-part ix i k (Head.output m) b r)) ∙ append-assoc (writePart ix i (Head.output m) b) outer rest
-        ∙ ap (λ (v : List ℕ). v ++ (outer ++ rest)) (output-written ix i m b)
-
-    long : length (writePart ix i (Head.output m) b) ≡ suc (length M)
-    long = ap length (output-written ix i m b)
-
-    longer : length (write ix i (part k (Head.output m) b r)) ≡ length (writePart ix i (Head.output m) b) + length outer
-    longer = sym (ap length (write-part ix i k (Head.output m) b r)) ∙ length-append (writePart ix i (Head.output m) b) outer
-
-    all : length (c .left) ≡ suc (length M + length (outer ++ rest))
-    all = ap length spelled ∙ ap suc (length-append M (outer ++ rest))
-
-    room-beside : o + length (outer ++ rest) ≤ 268435456
-    room-beside = omega (arith, all, long)
-
--- an ambient and an action
-ambient-back : (m : Message) → MessageAll Fitting m → (k : ℕ) (b r : Plain) → AnyBack b → AnyBack r → AnyBack (part k (Head.ambient m) b r)
-ambient-back m names = guarded-back Head.ambient (Head.ambient m) m (word 1 0) Ambient ambient-word tt reads writes shaped frees names
-  where
-    reads : (read : Cursor → Reading (Message × Cursor)) (inside : List ℕ → Cursor → Reading (Script × Cursor)) (around : List ℕ) (i : ℕ) (c : Cursor)
-        → partFrom read inside around Ambient i c ≡ guardedFrom Head.ambient read inside around i c
-    reads read inside around i c = unfold partFrom in refl
-
-    writes : (ix : Indices) (i : ℕ) (b : Plain) → writePart ix i (Head.ambient m) b ≡ (word 1 0 ∷ writeMessage ix m) ++ write ix (i + length (word 1 0 ∷ writeMessage ix m)) b
-    writes ix i b = unfold writePart writeHead writeInside within in refl
-
-    shaped : (n : ℕ) (ρ σ τ : ℕ → ℕ) (p q : Process) → ((v : ℕ) → ¬ (mentions v m ≡ 0) → ρ (τ v) ≡ σ v) → shape n ρ p ≡ shape n σ q
-        → shape n ρ (writtenPart (Head.ambient (renamed τ m)) p) ≡ shape n σ (piece (Head.ambient m) q)
-    shaped n ρ σ τ p q a e = unfold shape writtenPart piece in ap₂ (λ (z : Message) (t : Shape). cell (place z) t nil) (renamed-twice τ ρ σ m a) e
-
-    frees : (v : ℕ) (p : Process) → free v (piece (Head.ambient m) p) ≡ mentions v m + free v p
-    frees v p = unfold free piece in refl
-
-action-back : (is : List Message) → ItemsAll Fitting is → (k : ℕ) (b r : Plain) → AnyBack b → AnyBack r → AnyBack (part k (Head.action is) b r)
-action-back is names = guarded-back Head.action (Head.action is) (whole is) (word 2 0) Action action-word tt reads writes shaped frees (whole-all Fitting is names)
-  where
-    reads : (read : Cursor → Reading (Message × Cursor)) (inside : List ℕ → Cursor → Reading (Script × Cursor)) (around : List ℕ) (i : ℕ) (c : Cursor)
-        → partFrom read inside around Action i c ≡ guardedFrom Head.action read inside around i c
-    reads read inside around i c = unfold partFrom in refl
-
-    writes : (ix : Indices) (i : ℕ) (b : Plain) → writePart ix i (Head.action is) b ≡ (word 2 0 ∷ writeMessage ix (whole is)) ++ write ix (i + length (word 2 0 ∷ writeMessage ix (whole is))) b
-    writes ix i b = unfold writePart writeHead writeInside within in refl
-
-    shaped : (n : ℕ) (ρ σ τ : ℕ → ℕ) (p q : Process) → ((v : ℕ) → ¬ (mentions v (whole is) ≡ 0) → ρ (τ v) ≡ σ v) → shape n ρ p ≡ shape n σ q
-        → shape n ρ (writtenPart (Head.action (renamed τ (whole is))) p) ≡ shape n σ (piece (Head.action is) q)
-    shaped n ρ σ τ p q a e =
-        unfold shape writtenPart piece in
-        ap₂ (λ (z : Message) (t : Shape). chain (items z) t) (renamed-twice τ ρ σ (whole is) a) e ∙ whole-shape n σ is q
-
-    frees : (v : ℕ) (p : Process) → free v (piece (Head.action is) p) ≡ mentions v (whole is) + free v p
-    frees v p = unfold piece in whole-free v is p
+    L : Laid ix i k h b r (word 4 0 ∷ writeMessage ix m) [] rest (c .left)
+    L = laid ix i k h b r (word 4 0 ∷ writeMessage ix m) [] rest (c .left) (output-written ix i m b) e l
 
 -- THEOREM: what is read of a body that was written, whatever stands behind it and whatever receipts around it.
 pub body-back : (K : ℕ → Type 0) (b : Plain) → Fits K Fitting b → AnyBack b
 body-back K close x = close-back
-body-back K (part k (Head.ambient m) b r) x = ambient-back m (x .0 .1) k b r (body-back K b (x .1)) (body-back K r (x .2))
-body-back K (part k (Head.action is) b r) x = action-back is (x .0 .1) k b r (body-back K b (x .1)) (body-back K r (x .2))
+body-back K (part k (Head.ambient m) b r) x = guarded-back (ambient-guarded m) (x .0 .1) k b r (body-back K b (x .1)) (body-back K r (x .2))
+body-back K (part k (Head.action is) b r) x = guarded-back (action-guarded is) (whole-all Fitting is (x .0 .1)) k b r (body-back K b (x .1)) (body-back K r (x .2))
 body-back K (part k (Head.receipt v) b r) x = receipt-back v k b r (body-back K b (x .1)) (body-back K r (x .2))
 body-back K (part k (Head.output m) b r) x = output-back m (x .0 .1) k b r (body-back K r (x .2))
 

@@ -2,7 +2,7 @@
 -- them, and two accepted calls that are alike answer alike. Assumes nothing.
 use Prim.Native.Nat.{ℕ, _+_, _≤_, min, max}
 use mathlib.Core.Bool.{Bool, true, _&&_}
-use mathlib.Core.List.{List, [], _∷_, _++_}
+use mathlib.Core.List.{List, [], _++_}
 use mathlib.Core.Path.{_≡_, refl, sym, ap, _∙_, subst}
 use mathlib.Core.Logic.{_⊎_, inl, inr}
 use native.Mathlib.Omega.{arith}
@@ -20,12 +20,12 @@ use Rattle.decision.specs.Walk.{Count, Walked, says}
 use Rattle.decision.specs.PlainWalk.{plainSpace}
 use Rattle.decision.proofs.Deciding.{stopped≢says}
 use Rattle.decision.proofs.Patience.{Tired, Kept, walk-patient}
-use Rattle.plain_call.specs.Call.{Call, accepted, Answer, leftBy, refusal, written, finish, walked, Start, partsOf, setting, ruleRun, starting, question, asking, terms, door, answer}
+use Rattle.plain_call.specs.Call.{Call, accepted, Answer, leftBy, refusal, written, finish, walked, Start, partsOf, setting, ruleRun, starting, question, asking, terms, door, answer, accepting, roomy}
 use Rattle.plain_call.specs.Standing.{Standing}
 use Rattle.plain_call.specs.Steadfast.{Alike, onto, Steadfast, Wanting, NoLess, Lasting, withPatience, Patient}
 use Rattle.plain_call.proofs.Asking.{asking-no}
 use Rattle.plain_call.proofs.Entering.{door-patience, door-unasked, door-unread}
-use Rattle.plain_call.proofs.Answers.{walkOf, accepting, roomy, answer-ends, answer-unread, answer-shut, answer-run, answer-walked}
+use Rattle.plain_call.proofs.Answers.{walkOf, answer-ends, answer-unread, answer-shut, answer-run, answer-walked}
 use Rattle.plain_call.proofs.Verdicts.{answer-stands}
 
 -- ---- the questions that ask numbers

@@ -91,20 +91,24 @@ abbrev pub written : Machine → List ℕ
 written m = write [] 0 (m .tree)
 
 -- question 19: "Does the tree that stands after the moves fit the output buffer, of which no more than the first 2^28 words
--- count?" "words behind it keep their content"
+-- count?"
+abbrev pub roomy : Call → Machine → Bool
+roomy c m = leb (length (written m)) (min (length (c .buffer)) 268435456)
+
+-- what a call answers that is accepted; "words behind it keep their content"
+abbrev pub accepting : Call → Machine → Bool → Count → Answer
+accepting c m a n = record {
+  verdict = accepted a;
+  moves = length (c .moves);
+  visits = n .visits;
+  deepest = n .deepest;
+  weight = weightOf m;
+  words = length (written m);
+  buffer = written m ++ drop (length (written m)) (c .buffer);
+}
+
 unfoldable pub finish : Call → Machine → Bool → Count → Answer
-finish c m a n =
-    cond (leb (length (written m)) (min (length (c .buffer)) 268435456))
-    (record {
-      verdict = accepted a;
-      moves = length (c .moves);
-      visits = n .visits;
-      deepest = n .deepest;
-      weight = weightOf m;
-      words = length (written m);
-      buffer = written m ++ drop (length (written m)) (c .buffer);
-    })
-    (refusal 19 0 (length (c .moves)) (n .visits) (c .buffer))
+finish c m a n = cond (roomy c m) (accepting c m a n) (refusal 19 0 (length (c .moves)) (n .visits) (c .buffer))
 
 -- after the walk
 unfoldable pub walked : Call → Machine → Walked → Answer

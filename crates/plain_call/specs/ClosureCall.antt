@@ -35,8 +35,3 @@ unfoldRan (moved m) = plain.moved (unfoldMachine m)
 -- the closure machine as a script begins it
 abbrev pub begun : Script → ClosureMachine
 begun b = record { tree = settleUnder [] (closureOf b); bindings = [] }
-
--- To unfold this is to unfold every definition of this module: for a proof by computation.
-unfoldable pub computing : Unit {0}
-unfolding ifMade closureRun unfoldRan
-computing = tt

@@ -27,8 +27,3 @@ partNesting (output m) inside = messageNesting m
 unfoldable pub nesting : Plain → ℕ
 nesting close = 0
 nesting (part k h b r) = max (partNesting h (nesting b)) (nesting r)
-
--- To unfold this is to unfold every definition of this module: for a proof by computation.
-unfoldable pub computing : Unit {0}
-unfolding messageNesting partNesting nesting
-computing = tt

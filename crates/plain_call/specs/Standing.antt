@@ -115,8 +115,3 @@ BoundHolds c = (p : Script × Cursor) → readScript (c .script) ≡ got p → (
 -- and so of the moves that a call answers, refused or not
 unfoldable pub MovesBounded : (script : List ℕ) (moves : ℕ) → Type 0
 MovesBounded ws n = (p : Script × Cursor) → readScript ws ≡ got p → n ≤ movesBound (p .0)
-
--- To unfold this is to unfold every definition of this module: for a proof by computation.
-unfoldable pub computing : Unit {0}
-unfolding Decides Reduces Returns Readmits Admits Returned Readmitted WeightHolds WeightBounded MovesBounded
-computing = tt

@@ -52,8 +52,3 @@ withPatience p c = record { script = c .script; moves = c .moves; rule = c .rule
 -- more patience never changes a yes or no, nor anything else that is told with it
 unfoldable pub Patient : Call → Type 0
 Patient c = (p : ℕ) → c .patience ≤ p → p ≤ 16777216 → (a : Bool) → answer c .verdict ≡ accepted a → answer (withPatience p c) ≡ answer c
-
--- To unfold this is to unfold every definition of this module: for a proof by computation.
-unfoldable pub computing : Unit {0}
-unfolding Steadfast Lasting Patient
-computing = tt

@@ -52,8 +52,3 @@ scriptReply script s = replied (counted s) (λ moves rest. movesReply script mov
 -- "script count, script"
 abbrev pub wordsReply : List ℕ → List ℕ
 wordsReply s = replied (counted s) (λ script rest. scriptReply script rest)
-
--- To unfold this is to unfold every definition of this module: for a proof by computation.
-unfoldable pub computing : Unit {0}
-unfolding counted countedBy replied ruleReply
-computing = tt

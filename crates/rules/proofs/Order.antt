@@ -6,8 +6,8 @@ use native.Mathlib.Omega.{arith}
 use Rattle.messages.specs.Reading.{Cursor, got}
 use Rattle.messages.proofs.Readings.{Next}
 use Rattle.rules.specs.Rule.{Rule, Later, truth, negation, either, void, at, beside, some-name, sometime, somewhere, placed}
-use Rattle.rules.specs.ReadRule.{readRule, readWholeRule}
-use Rattle.rules.proofs.Cases.{Cases, rule-case, whole-rule-case}
+use Rattle.rules.specs.ReadRule.{readWholeRule}
+use Rattle.rules.proofs.Cases.{Cases, whole-rule-case}
 
 pub later-down : (m n : ℕ) (r : Rule) → m ≤ n → Later n r → Later m r
 later-down m n (truth i) l h = tt
@@ -47,9 +47,6 @@ ordered-cases = record {
   places = λ s c q p n k o h. ((omega (arith, n .number), h .0), omega (arith, n .number, h .1));
 }
 
--- THEOREM: the PLACED words of a rule have the numbers from the cursor's on, and inside each of them later ones.
-pub read-ordered : (f around : ℕ) (somes : List ℕ) (c : Cursor) (p : Rule × Cursor) → readRule f around somes c ≡ got p → Later (c .number) (p .0) × (c .number ≤ p .1 .number)
-read-ordered = rule-case Ordered ordered-cases
-
+-- THEOREM: in a rule that is read, the PLACED words inside a PLACED word have later numbers.
 pub rule-ordered : (n : ℕ) (ws : List ℕ) (p : Rule × Cursor) → readWholeRule n ws ≡ got p → Later 0 (p .0)
 rule-ordered n ws p e = whole-rule-case Ordered ordered-cases n ws p e .0

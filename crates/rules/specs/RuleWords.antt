@@ -48,8 +48,3 @@ askedTerm around somes n a =
 unfoldable pub asked : (around : ℕ) (somes : List ℕ) → RuleKind → (operand : ℕ) → Asked
 asked around somes k n =
     cond (fits k n) (cond (bound somes k n) (levelled around (somesWith k (length somes)) (follow k)) (No 9)) (No 8)
-
--- To unfold this is to unfold every definition of this module: for a proof by computation.
-unfoldable pub computing : Unit {0}
-unfolding termWord follow levelled askedPlain askedTerm asked
-computing = tt

@@ -1,7 +1,7 @@
 -- Laws of the readers of bodies and parts: where they stand when they have read one, that more fuel than words changes
 -- nothing, and what question 1 says. Assumes nothing.
 use Prim.Native.Nat.{ℕ, zero, suc, _+_, _≤_, _<_}
-use mathlib.Core.Bool.{Bool, true, false, _&&_, false≢true}
+use mathlib.Core.Bool.{_&&_, and-eq-true-iff}
 use mathlib.Core.List.{List, _∷_}
 use mathlib.Core.Path.{_≡_, refl, sym, ap, _∙_, subst}
 use native.Mathlib.Omega.{arith}
@@ -246,8 +246,4 @@ body-fuel (suc f) (suc g) nest around c hf hg =
 
 -- a script that question 1 lets pass has at most 1,024 words
 pub short : (ws : List ℕ) (u : Unit {0}) → ask 1 0 (leb 1 (length ws) && leb (length ws) 1024) ≡ got u → length ws ≤ 1024
-short ws u e = leb-true (length ws) 1024 (second (leb 1 (length ws)) (leb (length ws) 1024) (ask-inv 1 0 _ u e))
-  where
-    second : (x y : Bool) → (x && y) ≡ true → y ≡ true
-    second true y e = e
-    second false y e = absurd (false≢true e)
+short ws u e = leb-true (length ws) 1024 (and-eq-true-iff (leb 1 (length ws)) (leb (length ws) 1024) .0 (ask-inv 1 0 _ u e) .1)

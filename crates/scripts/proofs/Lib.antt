@@ -5,5 +5,6 @@ pub mod Steps
 pub mod Whole
 pub mod Cases
 pub mod Numbers
+pub mod Scopes
 pub mod Tabled
 pub mod Places

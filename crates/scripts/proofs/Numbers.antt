@@ -1,13 +1,22 @@
 -- Stretches of numbers: a tree whose parts are numbered in word order has each number once, from the first number on.
 -- Assumes nothing.
 use Prim.Native.Nat.{ℕ, _+_, _≤_, _<_}
+use mathlib.Core.Bool.{Bool, true, false}
 use mathlib.Core.Path.{_≡_, refl, ap}
 use native.Mathlib.Omega.{arith}
 use lib.Dec.{eqb, ltb}
 use borrow.Author.Tests.{eqb-true, ltb-true, ltb-false}
-use Rattle.slices.proofs.Tests.{byTest}
+use Rattle.slices.proofs.Tests.{byTest, eqb-same}
 use Rattle.scripts.specs.Tree.{Body, close, part, total, parts, oneIf, timesIn}
 use Rattle.scripts.specs.Represents.{Numbered}
+
+-- a part's own number is counted once, and one that is not counted is another's
+pub own-times : (k : ℕ) → oneIf (eqb k k) ≡ 1
+own-times k = ap oneIf (eqb-same k)
+
+pub one-none : (t : Bool) → oneIf t ≡ 0 → t ≡ false
+one-none true e = absurd (omega arith)
+one-none false e = refl
 
 -- how often a number stands in a tree that is numbered from n on
 pub record Range (j n m k : ℕ) : Type 0 where

@@ -7,10 +7,11 @@ use mathlib.Core.List.{List, [], _∷_, _++_, append-assoc, append-nil}
 use mathlib.Core.Path.{_≡_, refl, sym, ap, ap₂, _∙_, subst}
 use mathlib.Core.Logic.{_⊎_, inl, inr, ⊎-elim}
 use native.Mathlib.Omega.{arith}
-use lib.ListN.{length, getD, set, replicate, length-set, length-replicate, getD-replicate, List·getD-eq-default}
+use lib.ListN.{length, getD, set, length-set, length-replicate, getD-replicate, List·getD-eq-default}
 use lib.Seq.{getD-set-same, getD-set-other}
 use lib.Dec.{leb, ltb, eqb}
 use borrow.Author.Tests.{ne-eqb, eqb-true, eqb-false, lt-ltb, le-ltb, ltb-true, ltb-false, leb-true}
+use Rattle.slices.proofs.Tails.{zeros}
 use Rattle.slices.proofs.Tests.{byTest}
 use Rattle.sets.specs.Sets.{members, inserted, mask, Below}
 use Rattle.sets.proofs.Members.{members-rising, members-below, members-empty}
@@ -44,7 +45,7 @@ below-append n (x ∷ l) k a b = (a .0, below-append n l k (a .1) b)
 -- ---- trees with other heads
 
 module _ {G H : Type 0} (f : G → H) where
-  tops-map : (b : Body G) → tops (mapHeads f b) ≡ tops b
+  pub tops-map : (b : Body G) → tops (mapHeads f b) ≡ tops b
   unfolding tops mapHeads
   tops-map close = refl
   tops-map (part i h b r) = ap (λ (l : List ℕ). i ∷ l) (tops-map r)
@@ -282,11 +283,8 @@ module _ (ws : List ℕ) where
         numbered = N;
         top = F .own ∙ ap (λ (m : List ℕ). m ++ tops b) top;
         held = F .held;
-        low = starts-low 1024 64 b vacant (λ i. omega (arith, none-started i)) L;
+        low = starts-low 1024 64 b vacant (λ i. omega (arith, zeros 64 i)) L;
       }
-    where
-      none-started : (i : ℕ) → _≡_ {A = ℕ} (getD (replicate 64 0) i 0) 0
-      none-started i = byTest (ltb i 64) (λ u. getD-replicate 64 i 0 0 (ltb-true i 64 u)) (λ u. List·getD-eq-default (replicate 64 0) 0 (ltb-false i 64 u))
 
 -- what is claimed of a script that is read
 abbrev Holds : List ℕ → Script × Cursor → Type 0

@@ -60,8 +60,3 @@ pub record Tabled (script : List ℕ) (t : Table) (b : Script) : Type 0 where
   pub top : bodyIn (t .kids) 64 ≡ tops b
   pub held : Held (bodyIn (t .kids)) (headIn script (t .kinds) (t .starts)) (written b)
   pub low : (i : ℕ) → getD (t .starts) i 0 ≤ 1024
-
--- To unfold this is to unfold every definition of this module: for a proof by computation.
-unfoldable pub computing : Unit {0}
-unfolding headAt
-computing = tt

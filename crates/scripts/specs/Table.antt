@@ -57,8 +57,3 @@ scanned o t (got p) = record { outcome = Read (p .1 .index); table = tabulate o 
 unfoldable pub scannedPart : (owner : ℕ) → Table → Reading ((Written × Script) × Cursor) → Scan
 scannedPart o t (refuse q i) = refusedAt q i
 scannedPart o t (got p) = record { outcome = Read (p .1 .index); table = tabulate o (part (t .count) (p .0 .0) (p .0 .1) close) t }
-
--- To unfold this is to unfold every definition of this module: for a proof by computation.
-unfoldable pub computing : Unit {0}
-unfolding entered tabulate scanned scannedPart
-computing = tt

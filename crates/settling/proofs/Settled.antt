@@ -4,23 +4,24 @@ use Prim.Native.Nat.{ℕ, _+_, _-_, _≤_, _<_}
 use mathlib.Core.List.{List}
 use mathlib.Core.Path.{_≡_, refl, sym, ap, _∙_, subst}
 use native.Mathlib.Omega.{arith}
-use lib.Dec.{eqb, ltb}
-use lib.ListN.{getD, set, length, replicate, getD-replicate, List·getD-eq-default}
+use lib.Dec.{eqb}
+use lib.ListN.{getD, set, length, replicate}
 use lib.Seq.{getD-set-same, getD-set-other}
-use borrow.Author.Tests.{lt-ltb, ltb-true, ltb-false}
+use borrow.Author.Tests.{lt-ltb}
 use Rattle.messages.specs.Message.{Message}
 use Rattle.sets.specs.Sets.{members}
 use Rattle.scripts.specs.Tree.{Head, close, part, oneIf, parts, timesIn, mapHeads}
 use Rattle.scripts.specs.Script.{Written, Script}
 use Rattle.scripts.specs.Represents.{Held, bodyIn, headAt, headIn, written, Tabled}
+use Rattle.slices.proofs.Tails.{zeros}
 use Rattle.scripts.proofs.Numbers.{numbered-range}
 use Rattle.bindings.specs.Resolve.{messageOf}
 use Rattle.held_bindings.specs.declared.Bindings as arrays
 use Rattle.held_bindings.specs.Held.{bindingsOf}
 use Rattle.slices.proofs.Tests.{byTest}
 use Rattle.machine.proofs.Sums.{map-total, settle-total}
-use Rattle.machine.proofs.Naturality.{tops-map}
 use Rattle.closure_machine.specs.Closure.{ClosureHead, Closure, Bindings, allSpent, settleUnder, wholeHead, closureOf}
+use Rattle.scripts.proofs.Tabled.{tops-map}
 use Rattle.closures.specs.Represents.{headOf, heads, boundIn, Counted, Ready, Represents}
 use Rattle.closures.specs.Searches.{SettlesBy}
 use Rattle.closures.specs.Seen.{Seen}
@@ -83,7 +84,7 @@ pub begun : (script kinds starts kids : List ℕ) (n : ℕ) (s : State) (b : Scr
     → Represents script kinds starts (parts b) 0 s (closureOf b)
 unfolding closureOf
 begun script kinds starts kids n s b T ek eo ef =
-    let zero : (i : ℕ) → getD (s .offsets) i 0 ≡ 0 = λ i. ap (λ (o : List ℕ). getD o i 0) eo ∙ zeros i in
+    let zero : (i : ℕ) → getD (s .offsets) i 0 ≡ 0 = λ i. ap (λ (o : List ℕ). getD o i 0) eo ∙ zeros 64 i in
     let numbers : (j : ℕ) → timesIn j (closureOf b) ≡ timesIn j b = λ j. map-total (λ i h. oneIf (eqb j i)) (λ (x : Written). wholeHead (x .head)) b in
     let few : parts b ≤ 64 = omega (arith, T .few, T .counted) in
     record {
@@ -97,9 +98,6 @@ begun script kinds starts kids n s b T ek eo ef =
       weighs = omega (arith, map-total (λ i h. 1) (λ (x : Written). wholeHead (x .head)) b);
       spends = λ i. omega (arith, zero i);
     }
-  where
-    zeros : (i : ℕ) → _≡_ {A = ℕ} (getD (replicate 64 0) i 0) 0
-    zeros i = byTest (ltb i 64) (λ u. getD-replicate 64 i 0 0 (ltb-true i 64 u)) (λ u. List·getD-eq-default (replicate 64 0) 0 (ltb-false i 64 u))
 
 -- a state with the same offsets, looks and bindings is as ready
 pub ready-same : (script kinds starts : List ℕ) (s r : State) → s .offsets ≡ r .offsets → s .looks ≡ r .looks → s .bindings ≡ r .bindings → Ready script kinds starts s → Ready script kinds starts r

@@ -10,12 +10,13 @@ use Rattle.sets.specs.Sets.{members, elem, inserted, joined, both, keep, headOr
 use Rattle.sets.proofs.Members.{inserted-front, elem-keep, members-empty, members-same, members-below}
 use Rattle.scripts.specs.Tree.{ambient, action, receipt, output, close, part, oneIf, isAmbient, tops, total, timesIn, settleBy}
 use Rattle.scripts.specs.Represents.{Held}
-use Rattle.slices.proofs.Tests.{byTest}
+use Rattle.slices.proofs.Tests.{byTest, or-right}
+use Rattle.scripts.proofs.Numbers.{own-times}
 use Rattle.machine.proofs.Sums.{settle-total}
 use Rattle.closure_machine.specs.Closure.{ClosureHead, Closure, Bindings, allSpent, settleUnder}
 use Rattle.closures.specs.Searches.{Settles}
 use Rattle.closures.specs.Seen.{busyUnder, Busy}
-use Rattle.closures.proofs.Holding.{no-cons, self, tops-put, tops-merge, numbers-differ, frame, held-put, held-merge}
+use Rattle.closures.proofs.Holding.{no-cons, tops-put, tops-merge, numbers-differ, frame, held-put, held-merge}
 
 -- no number stands more often than before
 pub settled-times : (σ : Bindings) (j : ℕ) (b : Closure) → timesIn j (settleUnder σ b) ≤ timesIn j b
@@ -50,17 +51,13 @@ quiet-body : (σ : Bindings) (k : ℕ → List ℕ) (w : ℕ → ClosureHead) (a
 unfolding settleBy tops elem
 quiet-body σ k w a close up none h = (refl, tt)
 quiet-body σ k w a (part j g s r) up none h =
-    let q = quiet-body σ k w (suc j) r (up .1) (λ i e. none i (or-true (eqb i j) (elem i (tops r)) e)) (h .3) in
+    let q = quiet-body σ k w (suc j) r (up .1) (λ i e. none i (or-right (eqb i j) (elem i (tops r)) e)) (h .3) in
     let free : busyUnder σ g ≡ false = ap (busyUnder σ) (sym (h .1)) ∙ none j (ap (λ (t : Bool). t || elem j (tops r)) (eq-eqb j j refl)) in
     let (bare, amb) = not-busy σ g free in
     rw (bare, amb) (
       ap (λ (l : List ℕ). j ∷ l) (q .0) ∙ sym (tops-put j g s (settleUnder σ r) ∙ inserted-front j (tops (settleUnder σ r)) (subst (Rising (suc j)) (q .0) (up .1))),
       held-put k w j g s (settleUnder σ r) (h .0) (h .1) (h .2) (q .1),
     )
-  where
-    or-true : (x y : Bool) → y ≡ true → (x || y) ≡ true
-    or-true true y e = refl
-    or-true false y e = e
 
 module _ (σ : Bindings) (k k₁ : ℕ → List ℕ) (w : ℕ → ClosureHead) (left R : List ℕ) (fuel : ℕ) where
   pub settle-quiet : Rising 0 left → ((i : ℕ) → elem i left ≡ true → busyUnder σ (w i) ≡ false) → R ≡ left → ((j : ℕ) → k j ≡ k₁ j) → Settles σ k k₁ w left R fuel
@@ -87,7 +84,7 @@ module _ (σ : Bindings) (k k₁ : ℕ → List ℕ) (w : ℕ → ClosureHead) (
         let q = rest r (ap tail (sym first ∙ e)) (h .3) (λ n. omega (arith, once n)) (omega arith) in
         rw (ap (allSpent σ) a ∙ b, ap isAmbient a ∙ m) (
           x ∙ ap₂ inserted p (q .0) ∙ sym (tops-put j g s (settleUnder σ r)),
-          held-put k₁ w j g s (settleUnder σ r) (sym (q .2 j (omega (arith, once j, self j))) ∙ h .0) (h .1)
+          held-put k₁ w j g s (settleUnder σ r) (sym (q .2 j (omega (arith, once j, own-times j))) ∙ h .0) (h .1)
               (frame k k₁ w w s (h .2) (λ n c. (q .2 n (omega (arith, once n)), refl))) (q .1),
           λ n c. q .2 n (omega arith),
         )
@@ -102,7 +99,7 @@ module _ (σ : Bindings) (k k₁ : ℕ → List ℕ) (w : ℕ → ClosureHead) (
           let a : g ≡ w i = sym (h .1) ∙ ap w (sym p) in
           let q = rest r (ap tail (sym first ∙ e)) (h .3) (λ n. omega (arith, once n)) (omega arith) in
           let held-s : Held k₁ w s = frame k k₁ w w s (h .2) (λ n c. (q .2 n (omega (arith, once n)), refl)) in
-          let y = inside s (ap k₁ p ∙ sym (q .2 j (omega (arith, once j, self j))) ∙ h .0) held-s (λ n. omega (arith, once n)) (omega arith) in
+          let y = inside s (ap k₁ p ∙ sym (q .2 j (omega (arith, once j, own-times j))) ∙ h .0) held-s (λ n. omega (arith, once n)) (omega arith) in
           rw (ap (allSpent σ) a ∙ b) (
             x ∙ ap₂ joined (y .0) (q .0) ∙ sym (tops-merge (settleUnder σ s) (settleUnder σ r)),
             held-merge k₂ w (settleUnder σ s) (settleUnder σ r) (y .1)
@@ -119,9 +116,9 @@ module _ (σ : Bindings) (k k₁ : ℕ → List ℕ) (w : ℕ → ClosureHead) (
           let a : g ≡ w i = sym (h .1) ∙ ap w (sym p) in
           let q = rest r (ap tail (sym first ∙ e)) (h .3) (λ n. omega (arith, once n)) (omega arith) in
           let held-s : Held k₁ w s = frame k k₁ w w s (h .2) (λ n c. (q .2 n (omega (arith, once n)), refl)) in
-          let y = inside s (ap k₁ p ∙ sym (q .2 j (omega (arith, once j, self j))) ∙ h .0) held-s (λ n. omega (arith, once n)) (omega arith) in
-          let zs : timesIn j (settleUnder σ s) ≡ 0 = omega (arith, settled-times σ j s, once j, self j) in
-          let zr : timesIn j (settleUnder σ r) ≡ 0 = omega (arith, settled-times σ j r, once j, self j) in
+          let y = inside s (ap k₁ p ∙ sym (q .2 j (omega (arith, once j, own-times j))) ∙ h .0) held-s (λ n. omega (arith, once n)) (omega arith) in
+          let zs : timesIn j (settleUnder σ s) ≡ 0 = omega (arith, settled-times σ j s, once j, own-times j) in
+          let zr : timesIn j (settleUnder σ r) ≡ 0 = omega (arith, settled-times σ j r, once j, own-times j) in
           rw (ap (allSpent σ) a ∙ b, ap isAmbient a ∙ m) (
             x ∙ ap₂ inserted p (q .0) ∙ sym (tops-put j g (settleUnder σ s) (settleUnder σ r)),
             held-put k₃ w j g (settleUnder σ s) (settleUnder σ r) (ap k₃ (sym p) ∙ c ∙ y .0) (h .1)
@@ -129,7 +126,7 @@ module _ (σ : Bindings) (k k₁ : ℕ → List ℕ) (w : ℕ → ClosureHead) (
                 (frame k₁ k₃ w w (settleUnder σ r) (q .1)
                 (λ n f. (y .2 n (omega (arith, settled-times σ n r, once n)) ∙ d n (λ v. numbers-differ n j (settleUnder σ r) f zr (v ∙ p)), refl))),
             λ n f. q .2 n (omega arith) ∙ y .2 n (omega arith)
-                ∙ d n (λ (v : n ≡ i). let o : 1 ≤ oneIf (eqb n j) = subst (λ (a : ℕ). 1 ≤ oneIf (eqb n a)) (v ∙ p) (omega (arith, self n)) in let o₁ : ⊥ = omega arith in o₁),
+                ∙ d n (λ (v : n ≡ i). let o : 1 ≤ oneIf (eqb n j) = subst (λ (a : ℕ). 1 ≤ oneIf (eqb n a)) (v ∙ p) (omega (arith, own-times n)) in let o₁ : ⊥ = omega arith in o₁),
           )
 
 -- ---- the parts at which settling looks, as a set

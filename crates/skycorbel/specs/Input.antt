@@ -18,8 +18,3 @@ wordsOf (suc n) s = wordOf s ∷ wordsOf n (drop 4 s)
 -- What the program writes for the bytes that it reads: "little-endian words", at most 24,576 bytes.
 unfoldable pub reply : List ℕ → List ℕ
 reply s = cond (leb (length s) 24576 && eqb (length s % 4) 0) (wordsReply (wordsOf (length s / 4) s)) unfitText
-
--- To unfold this is to unfold every definition of this module: for a proof by computation.
-unfoldable pub computing : Unit {0}
-unfolding wordsOf reply
-computing = tt

@@ -3,8 +3,11 @@ use mathlib.Core.Path.{_≡_, refl, ap, _∙_}
 use mathlib.Core.List.{List, [], _∷_}
 use Prim.Native.Nat.{ℕ, zero, suc, _-_, _<_, _≤_}
 use native.Mathlib.Omega.{arith}
-use lib.ListN.{length, getD, set, take, drop, length-drop}
+use lib.Dec.{ltb}
+use lib.ListN.{length, getD, set, take, drop, replicate, length-drop, length-replicate, getD-replicate, List·getD-eq-default}
 use lib.Seq.{take-all, drop-cons}
+use borrow.Author.Tests.{ltb-true, ltb-false}
+use Rattle.slices.proofs.Tests.{byTest}
 
 -- no element
 pub no-element : (s : List ℕ) → length s ≡ 0 → s ≡ []
@@ -14,6 +17,10 @@ no-element (x ∷ s) h = absurd (omega arith)
 -- the first element and the others
 pub first : (s : List ℕ) → 0 < length s → s ≡ getD s 0 0 ∷ drop 1 s
 first s h = drop-cons s 0 0 h
+
+-- an array of zeros has no other entry
+pub zeros : (n i : ℕ) → _≡_ {A = ℕ} (getD (replicate n 0) i 0) 0
+zeros n i = byTest (ltb i n) (λ u. getD-replicate n i 0 0 (ltb-true i n u)) (λ u. List·getD-eq-default (replicate n 0) 0 (omega (arith, length-replicate {A = ℕ} n 0, ltb-false i n u)))
 
 -- the part from k on, as the code lends it
 abbrev pub part : List ℕ → ℕ → List ℕ

@@ -4,8 +4,3 @@ use Prim.Native.Nat.{ℕ, min}
 -- no more than 2^32 - 1
 unfoldable pub capped : ℕ → ℕ
 capped n = min n 4294967295
-
--- To unfold this is to unfold every definition of this module: for a proof by computation.
-unfoldable pub computing : Unit {0}
-unfolding capped
-computing = tt

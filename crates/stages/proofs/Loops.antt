@@ -2,7 +2,7 @@
 -- any visit. Assumes nothing.
 use Prim.Native.Nat.{ℕ, suc, _-_, _<_, _≤_}
 use mathlib.Core.Bool.{true, false}
-use mathlib.Core.List.{List, [], _∷_, _++_}
+use mathlib.Core.List.{List, [], _∷_}
 use mathlib.Core.Logic.{⊎-elim}
 use mathlib.Core.Path.{_≡_, refl, sym, ap, _∙_}
 use native.Mathlib.Omega.{arith}
@@ -61,12 +61,6 @@ no-last (spec.stopped q i v) = refl
 no-last (says true n) = refl
 no-last (says false n) = refl
 
-no-again : (x : spec.Walked) (f g : Count → spec.Walked) → onNo (onNo x f) g ≡ onNo x (λ n. onNo (f n) g)
-unfolding onNo
-no-again (spec.stopped q i v) f g = refl
-no-again (says true n) f g = refl
-no-again (says false n) f g = refl
-
 -- the turns of a loop
 module _ {A : Type 0} (f : A → Count → spec.Walked) where
   pub first-none : (c : Counts) → walkedOf (No c) ≡ firstYes f [] (countOf c)
@@ -85,13 +79,6 @@ module _ {A : Type 0} (f : A → Count → spec.Walked) where
   pub first-last : (a : A) (n : Count) → firstYes f (a ∷ []) n ≡ f a n
   unfolding firstYes
   first-last a n = no-last (f a n)
-
-  -- a loop over one list and then over another
-  pub first-append : (l k : List A) (n : Count) → firstYes f (l ++ k) n ≡ onNo (firstYes f l n) (λ n₁. firstYes f k n₁)
-  unfolding firstYes onNo
-  first-append [] k n = refl
-  first-append (a ∷ l) k n =
-      (λ i. onNo (f a n) (λ n₁. first-append l k n₁ i)) ∙ sym (no-again (f a n) (λ n₁. firstYes f l n₁) (λ n₁. firstYes f k n₁))
 
 -- a loop from one number on to a limit
 pub span-first : (a limit : ℕ) → a < limit → span a (limit - a) ≡ a ∷ span (suc a) (limit - suc a)

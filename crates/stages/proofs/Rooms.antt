@@ -14,11 +14,11 @@ use Rattle.scripts.specs.Tree.{close, part, tops, total, timesIn}
 use Rattle.scripts.specs.Represents.{Held, bodyIn}
 use Rattle.machine.specs.Moves.{headName, isNamed}
 use Rattle.slices.proofs.Tests.{byTest}
+use Rattle.scripts.proofs.Numbers.{own-times}
 use Rattle.closure_machine.specs.Closure.{ClosureHead, Closure, Bindings, viewUnder, ClosureMachine}
 use Rattle.closures.specs.Seen.{Names}
 use Rattle.closures.specs.Represents.{heads, boundIn, Ready, Represents}
 use Rattle.closures.specs.declared.State.{State}
-use Rattle.closures.proofs.Holding.{self}
 use Rattle.targets.proofs.Locating.{seen-names}
 use Rattle.decision.specs.ClosureWalk.{beside, insides}
 use Rattle.stages.specs.Pieces.{Piece, Room}
@@ -53,7 +53,7 @@ module _ (k : ℕ → List ℕ) (w : ℕ → ClosureHead) where
     insides-rooms close p n = ([], refl, tt)
     insides-rooms (part i h b r) p n =
         let (cs, e, R) = insides-rooms r (p .3) (λ j m. n j (omega arith)) in
-        let same : elem i named ≡ isNamed (headName (viewUnder σ) h) = n i (omega (arith, self i)) ∙ ap (λ (g : ClosureHead). isNamed (headName (viewUnder σ) g)) (p .1) in
+        let same : elem i named ≡ isNamed (headName (viewUnder σ) h) = n i (omega (arith, own-times i)) ∙ ap (λ (g : ClosureHead). isNamed (headName (viewUnder σ) g)) (p .1) in
         byTest (elem i named)
         (λ t. let u : isNamed (headName (viewUnder σ) h) ≡ true = sym same ∙ t in
         rw (t, u) (b ∷ cs, ap (λ (l : List ClosureMachine). beside σ b ∷ l) e, (room-first i h b r p, rooms-later i h b r (both (tops r) named) cs R)))

@@ -51,10 +51,29 @@ module _ (program script sets numbers choices : List ℕ) (top somes left index 
     abbrev pub bodies : ℕ → List ℕ
     bodies = bodyIn (stateIn sets numbers top .kids)
 
--- fewer depths left
-module _ (program script sets numbers choices : List ℕ) (top somes left index : ℕ) (limits : Limits) (k : ℕ) (h : k ≤ left) (X : Scene program script sets numbers choices top somes left index limits) where
-  pub stage-deeper : Stage (X .words) (X .table) script (kindsIn numbers) (startsIn numbers) limits choices somes k (stateIn sets numbers top) index (X .weight) (X .spent) (X .from) (X .names) (X .rule) (X .tree)
-  stage-deeper = record {
+module _ {program script sets numbers choices : List ℕ} {top somes left index : ℕ} {limits : Limits} (X : Scene program script sets numbers choices top somes left index limits) where
+  -- another stage of the same words and table, as a scene
+  abbrev pub restaged : {sets′ numbers′ choices′ : List ℕ} {top′ somes′ left′ i weight spent from : ℕ} {names : Names} {q : Rule} {b : Closure}
+      → Stage (X .words) (X .table) script (kindsIn numbers′) (startsIn numbers′) limits choices′ somes′ left′ (stateIn sets′ numbers′ top′) i weight spent from names q b
+      → Scene program script sets′ numbers′ choices′ top′ somes′ left′ i limits
+  restaged {weight = weight} {spent = spent} {from = from} {names = names} {q = q} {b = b} S = record {
+    words = X .words;
+    table = X .table;
+    weight = weight;
+    spent = spent;
+    from = from;
+    names = names;
+    rule = q;
+    tree = b;
+    loaded = X .loaded;
+    stage = S;
+  }
+
+  -- the same closure, with no more depths left, for another rule and other names chosen
+  stage-under : (choices′ : List ℕ) (somes′ k : ℕ) → k ≤ left → (names : Names) (q : Rule) (i : ℕ) → Ruled (X .words) (X .table) (indices names) q → ruleIndex q ≡ i → Later (X .from) q
+      → Chosen (limits .greatest) names choices′ somes′
+      → Stage (X .words) (X .table) script (kindsIn numbers) (startsIn numbers) limits choices′ somes′ k (stateIn sets numbers top) i (X .weight) (X .spent) (X .from) names q (X .tree)
+  stage-under choices′ somes′ k h names q i ruled stood later named = record {
     ready = X .stage .ready;
     stands = X .stage .stands;
     slack = omega (arith, X .stage .slack);
@@ -65,25 +84,19 @@ module _ (program script sets numbers choices : List ℕ) (top somes left index 
     few = X .stage .few;
     greatest = X .stage .greatest;
     short = X .stage .short;
-    ruled = X .stage .ruled;
-    stood = X .stage .stood;
-    later = X .stage .later;
-    named = X .stage .named;
+    ruled = ruled;
+    stood = stood;
+    later = later;
+    named = named;
   }
 
+-- fewer depths left
+module _ (program script sets numbers choices : List ℕ) (top somes left index : ℕ) (limits : Limits) (k : ℕ) (h : k ≤ left) (X : Scene program script sets numbers choices top somes left index limits) where
+  pub stage-deeper : Stage (X .words) (X .table) script (kindsIn numbers) (startsIn numbers) limits choices somes k (stateIn sets numbers top) index (X .weight) (X .spent) (X .from) (X .names) (X .rule) (X .tree)
+  stage-deeper = stage-under X choices somes k h (X .names) (X .rule) index (X .stage .ruled) (X .stage .stood) (X .stage .later) (X .stage .named)
+
   abbrev pub scene-deeper : Scene program script sets numbers choices top somes k index limits
-  scene-deeper = record {
-    words = X .words;
-    table = X .table;
-    weight = X .weight;
-    spent = X .spent;
-    from = X .from;
-    names = X .names;
-    rule = X .rule;
-    tree = X .tree;
-    loaded = X .loaded;
-    stage = stage-deeper;
-  }
+  scene-deeper = restaged X stage-deeper
 
 module _ (program script sets numbers choices : List ℕ) (top somes left index : ℕ) (limits : Limits) (X : Scene program script sets numbers choices top somes (suc left) index limits) where
   -- a rule inside the one that is visited
@@ -101,52 +114,15 @@ module _ (program script sets numbers choices : List ℕ) (top somes left index 
         (stage-deeper program script sets numbers choices top somes (suc left) index limits left (omega arith) X) c m P e q i (I .ruled) (I .stood) (I .later)
 
     abbrev pub scene-piece : Scene program script sets numbers choices m somes left i limits
-    scene-piece = record {
-      words = X .words;
-      table = X .table;
-      weight = X .weight;
-      spent = X .spent;
-      from = X .from;
-      names = X .names;
-      rule = q;
-      tree = c;
-      loaded = X .loaded;
-      stage = stage-on;
-    }
+    scene-piece = restaged X stage-on
 
   -- on the same closure
   module _ (q : Rule) (i : ℕ) (I : Inside q i) where
     pub stage-inner : Stage (X .words) (X .table) script (kindsIn numbers) (startsIn numbers) limits choices somes left (stateIn sets numbers top) i (X .weight) (X .spent) (X .from) (X .names) q (X .tree)
-    stage-inner = record {
-      ready = X .stage .ready;
-      stands = X .stage .stands;
-      slack = omega (arith, X .stage .slack);
-      below = X .stage .below;
-      light = X .stage .light;
-      within = X .stage .within;
-      limited = X .stage .limited;
-      few = X .stage .few;
-      greatest = X .stage .greatest;
-      short = X .stage .short;
-      ruled = I .ruled;
-      stood = I .stood;
-      later = I .later;
-      named = X .stage .named;
-    }
+    stage-inner = stage-under X choices somes left (omega arith) (X .names) q i (I .ruled) (I .stood) (I .later) (X .stage .named)
 
     abbrev pub scene-inner : Scene program script sets numbers choices top somes left i limits
-    scene-inner = record {
-      words = X .words;
-      table = X .table;
-      weight = X .weight;
-      spent = X .spent;
-      from = X .from;
-      names = X .names;
-      rule = q;
-      tree = X .tree;
-      loaded = X .loaded;
-      stage = stage-inner;
-    }
+    scene-inner = restaged X stage-inner
 
   -- under the name n for the SOME that is visited
   module _ (more : List ℕ) (n : ℕ) (en : getD more index 0 ≡ n) (others : (i : ℕ) → (i ≡ index → ⊥) → getD more i 0 ≡ getD choices i 0) (bound : n ≤ limits .greatest + (somes + 1))
@@ -168,36 +144,10 @@ module _ (program script sets numbers choices : List ℕ) (top somes left index 
         (old .0, rw (ne-eqb index j (λ z. e (sym z))) (old .1 ∙ sym same), let b = old .2 in omega (arith, same, b)))
 
     pub stage-chosen : Stage (X .words) (X .table) script (kindsIn numbers) (startsIn numbers) limits more (somes + 1) left (stateIn sets numbers top) i (X .weight) (X .spent) (X .from) ((index, n) ∷ X .names) q (X .tree)
-    stage-chosen = record {
-      ready = X .stage .ready;
-      stands = X .stage .stands;
-      slack = omega (arith, X .stage .slack);
-      below = X .stage .below;
-      light = X .stage .light;
-      within = X .stage .within;
-      limited = X .stage .limited;
-      few = X .stage .few;
-      greatest = X .stage .greatest;
-      short = X .stage .short;
-      ruled = R;
-      stood = ei;
-      later = L;
-      named = record { number = let e = X .stage .named .number in omega (arith, e); names = chosen-names };
-    }
+    stage-chosen = stage-under X more (somes + 1) left (omega arith) ((index, n) ∷ X .names) q i R ei L (record { number = let e = X .stage .named .number in omega (arith, e); names = chosen-names })
 
     abbrev pub scene-chosen : Scene program script sets numbers more top (somes + 1) left i limits
-    scene-chosen = record {
-      words = X .words;
-      table = X .table;
-      weight = X .weight;
-      spent = X .spent;
-      from = X .from;
-      names = (index, n) ∷ X .names;
-      rule = q;
-      tree = X .tree;
-      loaded = X .loaded;
-      stage = stage-chosen;
-    }
+    scene-chosen = restaged X stage-chosen
 
   -- after a move
   module _ (sets′ numbers′ : List ℕ) (top′ : ℕ) (L : Lendable script sets′ numbers′ top′) (ek : kindsIn numbers′ ≡ kindsIn numbers) (es : startsIn numbers′ ≡ startsIn numbers)
@@ -223,18 +173,7 @@ module _ (program script sets numbers choices : List ℕ) (top somes left index 
     }
 
     abbrev pub scene-moved : Scene program script sets′ numbers′ choices top′ somes left index limits
-    scene-moved = record {
-      words = X .words;
-      table = X .table;
-      weight = X .weight;
-      spent = X .spent + 1;
-      from = X .from;
-      names = X .names;
-      rule = X .rule;
-      tree = m .body;
-      loaded = X .loaded;
-      stage = stage-moved;
-    }
+    scene-moved = restaged X stage-moved
 
   -- inside a new ambient, whose number is that of the j-th PLACED word
   module _ (sets′ numbers′ : List ℕ) (top′ j n : ℕ) (L : Lendable script sets′ numbers′ top′) (fj : X .from ≤ j) (jc : j < X .table .count)
@@ -264,18 +203,7 @@ module _ (program script sets numbers choices : List ℕ) (top somes left index 
     }
 
     abbrev pub scene-placed : Scene program script sets′ numbers′ choices top′ somes left i limits
-    scene-placed = record {
-      words = X .words;
-      table = X .table;
-      weight = X .weight + 1;
-      spent = X .spent;
-      from = suc j;
-      names = X .names;
-      rule = q;
-      tree = part (limits .parts + j) (ambient (name n)) (X .tree) close;
-      loaded = X .loaded;
-      stage = stage-placed;
-    }
+    scene-placed = restaged X stage-placed
 
 -- the name that a term says is the chosen one, and is small
 pub name-told : (words somes : List ℕ) (i : ℕ) (t : Term) → Said words somes i t → (greatest d : ℕ) (e : Names) (choices : List ℕ) → somes ≡ indices e → Chosen greatest e choices d → greatest < 268435456 → d ≤ 8

@@ -14,9 +14,9 @@ use Rattle.sets.proofs.Members.{has-elem}
 use Rattle.scripts.specs.Tree.{close, part, total, timesIn}
 use Rattle.machine.specs.Moves.{Moved}
 use Rattle.slices.proofs.Tests.{byTest}
+use Rattle.scripts.proofs.Numbers.{own-times}
 use Rattle.machine.proofs.Everywhere.{Everywhere, settle-everywhere, Keeps, makes-everywhere}
 use Rattle.closure_machine.specs.Closure.{Action, ClosureHead, Closure, Bindings, viewUnder, allSpent, closureMove, ClosureMachine}
-use Rattle.closures.proofs.Holding.{self}
 use Rattle.targets.specs.Targets.{isSome}
 use Rattle.closure_machine.proofs.Tallies.{closure-inv}
 use Rattle.decision.specs.Walk.{keep, movesTo}
@@ -101,7 +101,7 @@ low-under limit (part i h b r) l =
     (small, low-under limit b (λ j g. let z = l j g in omega arith), low-under limit r (λ j g. let z = l j g in omega arith))
   where
     small : i < limit
-    small = byTest (ltb i limit) (λ t. ltb-true i limit t) (λ t. absurd (let z : ⊥ = omega (arith, l i (ltb-false i limit t), self i) in z))
+    small = byTest (ltb i limit) (λ t. ltb-true i limit t) (λ t. absurd (let z : ⊥ = omega (arith, l i (ltb-false i limit t), own-times i) in z))
 
 under-low : (limit : ℕ) (b : Closure) → Under limit b → Low limit b
 unfolding total

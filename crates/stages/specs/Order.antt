@@ -25,8 +25,3 @@ pub record Turns (inner : List ℕ) (limit o rest : ℕ) (l : List (ℕ × ℕ))
   pub pairs : l ≡ pairsLeft inner limit o rest
   pub low : (rest ≡ 0 → ⊥) → o < limit
   pub ends : rest ≡ 0 → l ≡ []
-
--- To unfold this is to unfold every definition of this module: for a proof by computation.
-unfoldable pub computing : Unit {0}
-unfolding paired pairsFrom
-computing = tt

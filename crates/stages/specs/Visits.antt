@@ -144,8 +144,3 @@ Walks words table script kinds starts s limits r =
     (weight spent : ℕ) (b : Closure) (p : Rule × Cursor) → Tabled (limits .parts) words table p → Later 0 (p .0) → limits .limit ≡ limits .parts + table .count
     → Represents script kinds starts weight spent s b → weight ≤ limits .parts → ((i : ℕ) → limits .parts ≤ i → timesIn i b ≡ 0) → spent + 256 < 4294967295
     → walkedOf r ≡ walkFrom (closureSpace (limits .limit)) (settingOf limits) (p .0) (machineOf script s b)
-
--- To unfold this is to unfold every definition of this module: for a proof by computation.
-unfoldable pub computing : Unit {0}
-unfolding walkedOf nameSaid
-computing = tt

@@ -13,9 +13,10 @@ use Rattle.scripts.specs.Tree.{oneIf, tops, timesIn, put}
 use Rattle.scripts.specs.Represents.{Held}
 use Rattle.machine.specs.Bodies.{_>>=_, check, find, removePart, alter, holder}
 use Rattle.machine.specs.Moves.{Moved, quiet, spentHead, spend, isNamed, sameName, toEnter, firstOf, headName, enterMove}
+use Rattle.scripts.proofs.Numbers.{own-times}
 use Rattle.machine.proofs.Sums.{removePart-exact, find-removePart}
 use Rattle.closure_machine.specs.Closure.{Action, ClosureHead, Closure, Bindings, viewUnder}
-use Rattle.closures.proofs.Holding.{numbersTotal, self, tops-put, tops-removePart, tops-alter, in-times, numbers-differ, frame, held-removePart, held-put, held-alter, Found, found-in, not-found, holder-is, holder-inv}
+use Rattle.closures.proofs.Holding.{numbersTotal, tops-put, tops-removePart, tops-alter, in-times, numbers-differ, frame, held-removePart, held-put, held-alter, Found, found-in, not-found, holder-is, holder-inv}
 use Rattle.closures.proofs.Focus.{Change}
 use Rattle.closures.proofs.Spending.{Spent, held-spend}
 use Rattle.targets.specs.Targets.{mayEnter}
@@ -90,17 +91,17 @@ module _ (σ : Bindings) (k : ℕ → List ℕ) (w : ℕ → ClosureHead) (a t :
       held-inner : Held k′ w′ inner
       held-inner = held-spend σ k k′ w w′ a (P .room) spent (P .held) within (omega (arith, whole (λ j. oneIf (eqb a j)), once a))
           (λ i m. same-body i (omega (arith, whole (λ j. oneIf (eqb i j))))
-          (numbers-differ i t (P .room) m (omega (arith, whole (λ j. oneIf (eqb t j)), rest (λ j. oneIf (eqb t j)), once t, self t))))
+          (numbers-differ i t (P .room) m (omega (arith, whole (λ j. oneIf (eqb t j)), rest (λ j. oneIf (eqb t j)), once t, own-times t))))
 
       held-room : Held k′ w′ (put p (w p) inner (There .room))
       held-room = held-put k′ w′ p (w p) inner (There .room)
           (sym (same-body p (in-times p here beside) two) ∙ P .own ∙ sym (tops-alter a (spentHead (viewUnder σ)) (λ s. s) (P .room)))
-          (sym (same-head p (omega (arith, whole (λ j. oneIf (eqb p j)), once p, self p))))
+          (sym (same-head p (omega (arith, whole (λ j. oneIf (eqb p j)), once p, own-times p))))
           held-inner
           (frame k k′ w w′ (There .room) (There .held)
           (λ i m. (
             same-body i (omega (arith, whole (λ j. oneIf (eqb i j)), rest (λ j. oneIf (eqb i j))))
-                (numbers-differ i t (There .room) m (omega (arith, whole (λ j. oneIf (eqb t j)), rest (λ j. oneIf (eqb t j)), once t, self t))),
+                (numbers-differ i t (There .room) m (omega (arith, whole (λ j. oneIf (eqb t j)), rest (λ j. oneIf (eqb t j)), once t, own-times t))),
             same-head i (omega (arith, whole (λ j. oneIf (eqb i j)), rest (λ j. oneIf (eqb i j)), once i)),
           )))
 
@@ -110,11 +111,11 @@ module _ (σ : Bindings) (k : ℕ → List ℕ) (w : ℕ → ClosureHead) (a t :
         held = held-alter k k′ w w′ t (λ e. e) (put p (w p) inner) left (There .room) t-left t-once (held-removePart k w p here held)
             (λ i m. (
               same-body i (omega (arith, whole (λ j. oneIf (eqb i j)), rest (λ j. oneIf (eqb i j))))
-                  (numbers-differ i t (removePart t left) m (omega (arith, rest (λ j. oneIf (eqb t j)), t-once, self t))),
+                  (numbers-differ i t (removePart t left) m (omega (arith, rest (λ j. oneIf (eqb t j)), t-once, own-times t))),
               same-head i (omega (arith, whole (λ j. oneIf (eqb i j)), rest (λ j. oneIf (eqb i j)), once i)),
             ))
             (gains ∙ ap (inserted p) (There .own) ∙ sym (tops-put p (w p) inner (There .room)))
-            (sym (same-head t (omega (arith, whole (λ j. oneIf (eqb t j)), rest (λ j. oneIf (eqb t j)), once t, self t))))
+            (sym (same-head t (omega (arith, whole (λ j. oneIf (eqb t j)), rest (λ j. oneIf (eqb t j)), once t, own-times t))))
             held-room;
         head = same-head b (omega (arith, whole (λ j. oneIf (eqb b j)), apart));
         rest = λ i n z. (

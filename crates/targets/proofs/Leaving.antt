@@ -11,9 +11,10 @@ use Rattle.scripts.specs.Tree.{oneIf, tops, timesIn, put}
 use Rattle.scripts.specs.Represents.{Held}
 use Rattle.machine.specs.Bodies.{_>>=_, check, removePart, alter}
 use Rattle.machine.specs.Moves.{Moved, quiet, spentHead, spend, isNamed, headName, exitMove}
+use Rattle.scripts.proofs.Numbers.{own-times}
 use Rattle.machine.proofs.Sums.{removePart-exact}
 use Rattle.closure_machine.specs.Closure.{Action, ClosureHead, Closure, Bindings, viewUnder}
-use Rattle.closures.proofs.Holding.{numbersTotal, self, tops-put, tops-removePart, tops-alter, in-times, numbers-differ, frame, held-removePart, held-put, held-alter, Found, found-in, not-found, holder-is}
+use Rattle.closures.proofs.Holding.{numbersTotal, tops-put, tops-removePart, tops-alter, in-times, numbers-differ, frame, held-removePart, held-put, held-alter, Found, found-in, not-found, holder-is}
 use Rattle.closures.proofs.Focus.{Change}
 use Rattle.closures.proofs.Spending.{Spent, held-spend}
 use Rattle.targets.specs.Targets.{mayExit}
@@ -69,7 +70,7 @@ module _ (σ : Bindings) (k : ℕ → List ℕ) (w : ℕ → ClosureHead) (a t :
       same-body i m n = bodies i n (numbers-differ i b here m apart)
 
       in-room : (i : ℕ) → 1 ≤ timesIn i (There .room) → k i ≡ k′ i
-      in-room i m = same-body i (omega (arith, whole (λ j. oneIf (eqb i j)))) (numbers-differ i t (There .room) m (omega (arith, whole (λ j. oneIf (eqb t j)), once t, self t)))
+      in-room i m = same-body i (omega (arith, whole (λ j. oneIf (eqb i j)))) (numbers-differ i t (There .room) m (omega (arith, whole (λ j. oneIf (eqb t j)), once t, own-times t)))
 
       same-head : (i : ℕ) → timesIn i (P .room) ≡ 0 → w i ≡ w′ i
       same-head i z = spent .others i (λ e. numbers-differ a i (P .room) (in-times a (P .room) within) z (sym e))
@@ -81,11 +82,11 @@ module _ (σ : Bindings) (k : ℕ → List ℕ) (w : ℕ → ClosureHead) (a t :
       held-left : Held k′ w′ (removePart p (There .room)) → k′ t ≡ remove p (k t) → Held k′ w′ left
       held-left rest loses = held-alter k k′ w w′ t (λ e. e) (removePart p) here (There .room) (There .found) (once t) held
           (λ i m. (
-            same-body i (omega (arith, whole (λ j. oneIf (eqb i j)))) (numbers-differ i t (removePart t here) m (omega (arith, whole (λ j. oneIf (eqb t j)), once t, self t))),
+            same-body i (omega (arith, whole (λ j. oneIf (eqb i j)))) (numbers-differ i t (removePart t here) m (omega (arith, whole (λ j. oneIf (eqb t j)), once t, own-times t))),
             same-head i (omega (arith, whole (λ j. oneIf (eqb i j)), each (λ j. oneIf (eqb i j)), once i)),
           ))
           (loses ∙ ap (remove p) (There .own) ∙ sym (tops-removePart p (There .room)))
-          (sym (same-head t (omega (arith, whole (λ j. oneIf (eqb t j)), each (λ j. oneIf (eqb t j)), once t, self t))))
+          (sym (same-head t (omega (arith, whole (λ j. oneIf (eqb t j)), each (λ j. oneIf (eqb t j)), once t, own-times t))))
           rest
 
       held-rest : Held k′ w′ (removePart p (There .room))
@@ -100,7 +101,7 @@ module _ (σ : Bindings) (k : ℕ → List ℕ) (w : ℕ → ClosureHead) (a t :
         own = gains ∙ ap (inserted p) (own ∙ sym (tops-alter t (λ e. e) (removePart p) here)) ∙ sym (tops-put p (w p) inner left);
         held = held-put k′ w′ p (w p) inner left
             (sym (in-room p (in-times p (There .room) on-top)) ∙ P .own ∙ sym (tops-alter a (spentHead (viewUnder σ)) (λ s. s) (P .room)))
-            (sym (same-head p (omega (arith, whole (λ j. oneIf (eqb p j)), each (λ j. oneIf (eqb p j)), once p, self p))))
+            (sym (same-head p (omega (arith, whole (λ j. oneIf (eqb p j)), each (λ j. oneIf (eqb p j)), once p, own-times p))))
             held-inner
             (held-left held-rest loses);
         head = same-head b (omega (arith, whole (λ j. oneIf (eqb b j)), each (λ j. oneIf (eqb b j)), apart));

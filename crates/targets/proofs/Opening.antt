@@ -1,10 +1,10 @@
 -- OPEN and the receipt in one body that is held: what the definitions make of it, and the sets and heads that hold it.
 -- Assumes nothing.
 use Prim.Native.Nat.{ℕ, _≤_}
-use mathlib.Core.Bool.{Bool, true, false, _||_}
+use mathlib.Core.Bool.{true, false}
 use mathlib.Core.List.{List, [], _∷_}
 use mathlib.Core.Option.{Option, none, some}
-use mathlib.Core.Path.{_≡_, refl, sym, ap, _∙_}
+use mathlib.Core.Path.{_≡_, sym, ap, _∙_}
 use native.Mathlib.Omega.{arith}
 use lib.Dec.{eqb}
 use borrow.Author.Tests.{ne-eqb}
@@ -16,7 +16,7 @@ use Rattle.scripts.specs.Tree.{receipt, output, oneIf, tops, timesIn, merge}
 use Rattle.scripts.specs.Represents.{Held}
 use Rattle.machine.specs.Bodies.{_>>=_, check, removePart}
 use Rattle.machine.specs.Moves.{Moved, quiet, variableOf, messageOf, spentHead, spend, sameName, toOpen, firstOf, openMove, receiveMove}
-use Rattle.slices.proofs.Tests.{byTest}
+use Rattle.slices.proofs.Tests.{byTest, or-right}
 use Rattle.machine.proofs.Sums.{find-total, merge-total}
 use Rattle.closure_machine.specs.Closure.{Action, ClosureHead, Closure, Bindings, viewUnder}
 use Rattle.closures.proofs.Holding.{tops-removePart, tops-merge, tops-alter, in-times, numbers-differ, frame, held-removePart, held-merge, Found, found-in, not-found}
@@ -100,7 +100,7 @@ module _ (σ : Bindings) (k : ℕ → List ℕ) (w : ℕ → ClosureHead) (a t :
           let held-both : Held k w both = held-merge k w (There .room) (removePart t here) (There .held) (held-removePart k w t here held) in
           let less : (i : ℕ) → timesIn i both ≤ timesIn i here = λ i. omega (arith, merge-total (λ j h. oneIf (eqb i j)) (There .room) (removePart t here), find-total (λ j h. oneIf (eqb i j)) t here (w t, There .room) (There .found)) in
           let kept : elem a (remove t (tops here)) ≡ true = elem-remove a t (tops here) ∙ rw (ne-eqb t a (λ e. two (sym e))) beside in
-          let on-top : elem a (tops both) ≡ true = ap (elem a) (tops-merge (There .room) (removePart t here) ∙ ap (joined (tops (There .room))) (tops-removePart t here)) ∙ elem-joined a (tops (There .room)) (remove t (tops here)) ∙ or-true (elem a (tops (There .room))) (elem a (remove t (tops here))) kept in
+          let on-top : elem a (tops both) ≡ true = ap (elem a) (tops-merge (There .room) (removePart t here) ∙ ap (joined (tops (There .room))) (tops-removePart t here)) ∙ elem-joined a (tops (There .room)) (remove t (tops here)) ∙ or-right (elem a (tops (There .room))) (elem a (remove t (tops here))) kept in
           let at-a : 1 ≤ timesIn a here = in-times a here beside in
           record {
             own = joins ∙ (λ j. joined (There .own j) (remove t (own j))) ∙ ap (joined (tops (There .room))) (sym (tops-removePart t here)) ∙ sym (tops-merge (There .room) (removePart t here))
@@ -109,10 +109,6 @@ module _ (σ : Bindings) (k : ℕ → List ℕ) (w : ℕ → ClosureHead) (a t :
             head = spent .others b (λ e. numbers-differ a b here at-a apart (sym e));
             rest = λ i n z. (bodies i n, spent .others i (λ e. numbers-differ a i here at-a z (sym e)));
           }
-        where
-          or-true : (x y : Bool) → y ≡ true → (x || y) ≡ true
-          or-true true y e = refl
-          or-true false y e = e
 
   -- where the actor's first item is no OPEN of a name, and where the actor is no receipt
   pub open-never : toOpen (firstOf (viewUnder σ) (w a)) ≡ Nameless → openMove (viewUnder σ) a t here ≡ none

@@ -80,8 +80,3 @@ abbrev pub TargetsOf : (bodies : ℕ → List ℕ) (act : ℕ) (aim : List ℕ) 
 TargetsOf bodies act aim places a l =
     (σ : Bindings) (heads : ℕ → ClosureHead) (b : Closure) → Stands bodies heads b → act ≡ actUnder σ (heads a) → ((j : ℕ) → j < 64 → elem j aim ≡ aimUnder σ (heads a) (heads j))
     → ((i : ℕ) → i < 64 → places i ≡ place σ i b) → (t : ℕ) → t < 64 → elem t l ≡ isSome (closureMove σ a t b)
-
--- To unfold this is to unfold every definition of this module: for a proof by computation.
-unfoldable pub computing : Unit {0}
-unfolding isSome canOpen canReceive canEnter canExit canMoveFrom canMove isWithin isBeside isAround isTarget
-computing = tt

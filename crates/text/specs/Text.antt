@@ -63,8 +63,3 @@ verdictText (refused q i) r = refusalText q i
 
 abbrev pub answerText : Answer → List ℕ
 answerText r = verdictText (r .verdict) r
-
--- To unfold this is to unfold every definition of this module: for a proof by computation.
-unfoldable pub computing : Unit {0}
-unfolding refusalText countsText saidText verdictText
-computing = tt

@@ -2,7 +2,7 @@
 -- Assumes nothing.
 use Prim.Native.Nat.{ℕ, _+_, _<_}
 use mathlib.Core.Bool.{true, false}
-use mathlib.Core.List.{_∷_, _++_, append-nil}
+use mathlib.Core.List.{_∷_, _++_, []}
 use mathlib.Core.Path.{_≡_, refl, ap}
 use native.Mathlib.Omega.{arith}
 use lib.Dec.{eqb}
@@ -25,9 +25,9 @@ pub receipt-written : (ix : Indices) (i v : ℕ) (b : Plain) → writePart ix i 
 unfolding writePart writeHead writeInside within
 receipt-written ix i v b = refl
 
-pub output-written : (ix : Indices) (i : ℕ) (m : Message) (b : Plain) → writePart ix i (output m) b ≡ word 4 0 ∷ writeMessage ix m
+pub output-written : (ix : Indices) (i : ℕ) (m : Message) (b : Plain) → writePart ix i (output m) b ≡ (word 4 0 ∷ writeMessage ix m) ++ []
 unfolding writePart writeHead writeInside
-output-written ix i m b = append-nil (word 4 0 ∷ writeMessage ix m)
+output-written ix i m b = refl
 
 -- where the receipts around now stand, with one more, of v, whose word has the index i
 pub new-hit : (v u i : ℕ) (ix : Indices) → eqb v u ≡ true → newIndex ((v, i) ∷ ix) u ≡ i
