@@ -5,16 +5,16 @@ use Rattle.checker.proofs.ask_terms.Statement.{statement}
 use Rattle.checker.proofs.ask_terms.Tie as tie
 
 returns : tie.Need-returns
-returns c = restless (c .before .args .patience) (c .before .args .moves) (λ l h. omega (arith, c .if1 .taken))
+returns c = restless _ _ (λ l h. omega (arith, c .if1 .taken))
 
 returns-2 : tie.Need-returns-2
-returns-2 c = restless (c .before .before .args .patience) (c .before .before .args .moves) (λ l h. omega (arith, c .if2 .taken))
+returns-2 c = restless _ _ (λ l h. omega (arith, c .if2 .taken))
 
 returns-3 : tie.Need-returns-3
-returns-3 c = too-many (c .before .before .before .args .patience) (c .before .before .before .args .moves) (omega (arith, c .before .before .if1 .left)) (c .before .if2 .left) (c .if3 .taken)
+returns-3 c = too-many _ _ (omega (arith, c .before .before .if1 .left)) (c .before .if2 .left) (c .if3 .taken)
 
 returns-4 : tie.Need-returns-4
-returns-4 c = let-in (c .before .before .before .args .patience) (c .before .before .before .args .moves) (omega (arith, c .before .before .if1 .left)) (c .before .if2 .left) (c .if3 .left)
+returns-4 c = let-in _ _ (omega (arith, c .before .before .if1 .left)) (c .before .if2 .left) (c .if3 .left)
 
 pub ask-terms-spec : {M : Type 1} → statement M
 ask-terms-spec = tie.close (tie.spec returns returns-2 returns-3 returns-4)

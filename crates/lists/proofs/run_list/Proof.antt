@@ -17,7 +17,7 @@ abbrev μ-loop : tie.MeasureT-loop
 μ-loop script sets₀ numbers₀ moves parts i₀ sets numbers i = length moves - i
 
 loop-holds : tie.Need-loop-holds Inv-loop μ-loop
-loop-holds c = (search needs, c .before .before .pre .2, refl, refl, going-none (c .before .before .args .script .now) (kindsIn (c .before .before .args .numbers .now)) (startsIn (c .before .before .args .numbers .now)) (c .before .before .args .parts) (c .before .before .args .moves .now) (standing (c .before .before .args .sets .now) (c .before .before .args .numbers .now)))
+loop-holds c = (search needs, c .before .before .pre .2, refl, refl, going-none _ (kindsIn _) (startsIn _) _ _ (standing _ _))
 
 try-move-requires : tie.Need-try-move-requires Inv-loop μ-loop
 try-move-requires c κs =
@@ -58,7 +58,7 @@ returns-2 c =
 returns-3 : tie.Need-returns-3 Inv-loop μ-loop
 returns-3 c =
     let start = c .before .before .before .before in
-    (c .before .loop .inv .1, ((c .before .loop .inv .2, c .before .loop .inv .3), going-ends (start .args .script .now) (kindsIn (start .args .numbers .now)) (startsIn (start .args .numbers .now)) (start .args .parts) (start .args .moves .now) (standing (start .args .sets .now) (start .args .numbers .now)) (c .before .loop .i) (standing (c .before .loop .sets) (c .before .loop .numbers)) (c .before .loop .inv .4) (c .loop-test .left) (c .before .loop .inv .0)))
+    (c .before .loop .inv .1, ((c .before .loop .inv .2, c .before .loop .inv .3), going-ends (start .args .script .now) (kindsIn (start .args .numbers .now)) (startsIn (start .args .numbers .now)) (start .args .parts) (start .args .moves .now) (standing (start .args .sets .now) (start .args .numbers .now)) _ (standing _ _) (c .before .loop .inv .4) (c .loop-test .left) (c .before .loop .inv .0)))
 
 pub run-list-spec : {M : Type 1} → statement M
 run-list-spec =

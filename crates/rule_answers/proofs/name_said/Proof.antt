@@ -16,7 +16,7 @@ enum-known-t-2 : tie.Need-enum-known-t-2
 enum-known-t-2 c = search needs
 
 returns : tie.Need-returns
-returns c = said-none (c .before .before .before .before .before .args .chosen .now) _ _ (sym (c .before .before .t2 .given .1) ∙ c .before .before .before .before .term-of .ensures) (c .if1 .taken)
+returns c = said-none _ _ _ (sym (c .before .before .t2 .given .1) ∙ c .before .before .before .before .term-of .ensures) (c .if1 .taken)
 
 cast-result : tie.Need-cast-result
 cast-result c = search needs
@@ -28,10 +28,10 @@ element-copy-out-result : tie.Need-element-copy-out-result
 element-copy-out-result c = search needs
 
 returns-2 : tie.Need-returns-2
-returns-2 c = said-constant (c .before .before .before .before .args .chosen .now) _ _ (sym (c .before .t .given .1) ∙ c .before .before .before .term-of .ensures)
+returns-2 c = said-constant _ _ _ (sym (c .before .t .given .1) ∙ c .before .before .before .term-of .ensures)
 
 returns-3 : tie.Need-returns-3
-returns-3 c = said-chosen (c .before .before .before .before .before .before .args .chosen .now) _ _ (sym (c .before .before .before .t2 .given .1) ∙ c .before .before .before .before .before .term-of .ensures) (omega (arith, c .before .if1 .left))
+returns-3 c = said-chosen _ _ _ (sym (c .before .before .before .t2 .given .1) ∙ c .before .before .before .before .before .term-of .ensures) (omega (arith, c .before .if1 .left))
 
 pub name-said-spec : {M : Type 1} → statement M
 name-said-spec =
