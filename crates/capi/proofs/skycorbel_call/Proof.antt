@@ -26,8 +26,7 @@ tell-requires c κs =
 
 returns-2 : tie.Need-returns-2
 returns-2 c =
-    let at-tell = c .before .before in
-    let a = tell-arg-call (at-tell .before) in
+    let at-tell = c .before .before in let a = tell-arg-call (at-tell .before) in
     let s = test-start (a .before .before .before) in
     told-whole (callOf (s .args .script .now) (s .args .moves .now) (s .args .rule .now) (s .args .patience) (s .args .out .now)) (s .args .answer .now) (a .call .result) _ (a .call .ensures .0) (a .before .before .if1 .left) (at-tell .tell .ensures _)
 

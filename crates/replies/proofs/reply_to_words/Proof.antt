@@ -16,17 +16,12 @@ rest-told c = c .before .before .before .before
 
 returns : tie.Need-returns
 returns c =
-    let u = c .before .before in
-    let e = u .before .before in
-    let s = count-start (e .before .before) in
+    let u = c .before .before in let e = u .before .before in let s = count-start (e .before .before) in
     puts-as (replied-short _ (s .args .s .now) (λ script rest. scriptReply script rest) (e .before .before .read-count .ensures) (e .enum-told .given .1)) (u .put-unfit .ensures)
 
 returns-2 : tie.Need-returns-2
 returns-2 c =
-    let r = c .before .before in
-    let t = r .before .before in
-    let w = rest-told t in
-    let s = count-start (w .before .before) in
+    let r = c .before .before in let t = r .before .before in let w = rest-told t in let s = count-start (w .before .before) in
     puts-as (replied-words _ _ (s .args .s .now) _ _ _ (λ script rest. scriptReply script rest) (w .before .before .read-count .ensures) (w .c .given .1) (t .before .before .tail .ensures) (t .before .head .ensures) (t .tail2 .ensures)) (r .reply-with-script .ensures)
 
 pub reply-to-words-spec : {M : Type 1} → statement M

@@ -14,15 +14,12 @@ call-else c = c .before .before .before
 
 returns : tie.Need-returns
 returns c =
-    let u = c .before .before in
-    let t = u .before .before in
-    let a = test-start (t .before) .args in
+    let u = c .before .before in let t = u .before .before in let a = test-start (t .before) .args in
     puts-as (rule-unfit (a .script .now) (a .moves .now) (a .rule .now) (a .s .now) (t .if1 .taken)) (u .put-unfit .ensures)
 
 returns-2 : tie.Need-returns-2
 returns-2 c =
-    let t = call-else (c .before .before) in
-    let a = test-start (t .before) .args in
+    let t = call-else (c .before .before) in let a = test-start (t .before) .args in
     puts-as (rule-one (a .script .now) (a .moves .now) (a .rule .now) (a .s .now) (t .if1 .left)) (c .before .before .put-call .ensures)
 
 pub reply-with-rule-spec : {M : Type 1} → statement M

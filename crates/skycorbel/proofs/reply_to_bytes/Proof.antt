@@ -15,8 +15,7 @@ head-unpack c = c .before .before .before
 
 returns : tie.Need-returns
 returns c =
-    let at-reply-to-words = c .before .before in
-    let at-head = at-reply-to-words .before .before in
+    let at-reply-to-words = c .before .before in let at-head = at-reply-to-words .before .before in
     puts-as (ap (λ (s : List ℕ). wordsReply s) (at-head .head .ensures ∙ head-unpack at-head .unpack .ensures)) (at-reply-to-words .reply-to-words .ensures)
 
 pub reply-to-bytes-spec : {M : Type 1} → statement M

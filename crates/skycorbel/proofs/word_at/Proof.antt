@@ -11,8 +11,7 @@ wide2-start c = c .before .before .before .before .before
 
 returns : tie.Need-returns
 returns c =
-    let at-wide3 = c .before .before in
-    let at-wide2 = at-wide3 .before .before in
+    let at-wide3 = c .before .before in let at-wide2 = at-wide3 .before .before in
     word-is (wide2-start at-wide2 .args .input .now) (wide2-start at-wide2 .args .at) _ _ _ (c .wide4 .result) (at-wide2 .before .before .wide .ensures .0) (at-wide2 .wide2 .ensures .0) (at-wide3 .wide3 .ensures .0) (c .wide4 .ensures .0)
 
 pub word-at-spec : {M : Type 1} → statement M

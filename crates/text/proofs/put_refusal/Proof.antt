@@ -27,8 +27,7 @@ byte-bytes c = byte-decimal c .before .before .before .before
 returns : tie.Need-returns
 unfolding refusalText
 returns c =
-    let at-byte = c .before .before in
-    let at-bytes = byte-bytes at-byte in
+    let at-byte = c .before .before in let at-bytes = byte-bytes at-byte in
     let start = bytes-start at-bytes in
     puts-more (puts-more (puts-more (puts-more (at-bytes .put-bytes .ensures) (byte-decimal at-byte .put-decimal .ensures 19 (twenty-digits _ (omega (arith, start .fits .question .fits))))) (byte-bytes2 at-byte .put-bytes2 .ensures)) (byte-decimal2 at-byte .put-decimal2 .ensures 19 (twenty-digits _ (omega (arith, start .fits .place .fits))))) (at-byte .put-byte .ensures)
 

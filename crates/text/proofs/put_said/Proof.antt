@@ -18,8 +18,7 @@ head-bytes c = head-counts c .before .before .before .before
 
 returns : tie.Need-returns
 returns c =
-    let at-words = c .before .before in
-    let at-head = at-words .before in
+    let at-words = c .before .before in let at-head = at-words .before in
     puts-more (puts-more (head-bytes at-head .put-bytes .ensures) (head-counts at-head .put-counts .ensures)) (puts-as (ap (λ (q : List ℕ). lines q) (at-head .head .ensures)) (at-words .put-words .ensures))
 
 pub put-said-spec : {M : Type 1} → statement M
