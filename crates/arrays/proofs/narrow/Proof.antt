@@ -22,7 +22,7 @@ loop-again : tie.Need-loop-again Inv-loop μ-loop
 loop-again c = (search needs, length-set (c .before .loop .r) (c .before .loop .j) _ ∙ c .before .loop .inv .1, λ low. copied-next (λ i. getD (c .before .before .args .t1) i 0) (c .before .loop .j) _ (c .before .loop .r) (omega (arith, c .before .loop .inv .1, c .loop-test .taken)) (c .before .loop .inv .2 low) (mod-eq-of-lt (low (c .before .loop .j) (c .loop-test .taken))))
 
 returns : tie.Need-returns Inv-loop μ-loop
-returns c low = copy-is (c .before .before .args .t1) (c .before .loop .r) 64 (c .before .loop .inv .1) (search needs) (λ i m. c .before .loop .inv .2 low i (omega (arith, c .loop-test .left)))
+returns c low = copy-is _ _ 64 (c .before .loop .inv .1) (search needs) (λ i m. c .before .loop .inv .2 low i (omega (arith, c .loop-test .left)))
 
 pub narrow-spec : {M : Type 1} → statement M
 narrow-spec =

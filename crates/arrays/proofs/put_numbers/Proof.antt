@@ -14,23 +14,15 @@ Inv-loop to₀ at from i₀ to i = (i ≤ length from) × (length to ≡ 481) ×
 abbrev μ-loop : tie.MeasureT-loop
 μ-loop to₀ at from i₀ to i = length from - i
 
-loop-holds : tie.Need-loop-holds Inv-loop μ-loop
-loop-holds c = (search needs, c .pre .0, putting-none (c .args .at) (c .args .from .now) (c .args .to .now))
+-- the way from a place to one before it
 
-add-to : tie.Need-add-to Inv-loop μ-loop
-add-to c = omega (arith, c .before .loop-test .taken, c .before .before .before .pre .1)
-
-mul-to-2 : tie.Need-mul-to-2 Inv-loop μ-loop
-mul-to-2 c = omega (arith, c .before .loop-test .taken, c .before .before .before .pre .1)
-
-element-write-to : tie.Need-element-write-to Inv-loop μ-loop
-element-write-to c = omega (arith, c .before .loop-test .taken, c .before .before .before .pre .1)
+abbrev known-start : tie.After-shared-slice-known Inv-loop μ-loop → tie.Start Inv-loop μ-loop
+known-start c = c .before .before .before
 
 loop-again : tie.Need-loop-again Inv-loop μ-loop
-loop-again c = (search needs, length-set (c .before .before .loop .to) _ _ ∙ c .before .before .loop .inv .1, putting-next (c .before .before .before .args .at) (c .before .before .loop .i) _ (c .before .before .before .args .from .now) (c .before .before .before .args .to .now) _ (omega (arith, c .before .before .loop .inv .1, c .before .loop-test .taken, c .before .before .before .pre .1)) (c .before .before .loop .inv .2) refl)
-
-returns : tie.Need-returns Inv-loop μ-loop
-returns c = (c .before .loop .inv .1, put-all (c .before .before .args .at) (c .before .loop .i) (c .before .before .args .from .now) (c .before .before .args .to .now) _ (omega (arith, c .before .loop .inv .0, c .loop-test .left)) (c .before .loop .inv .2))
+loop-again c =
+    let at-loop = c .before .before in let start = at-loop .before in
+    (search needs, length-set (at-loop .loop .to) _ _ ∙ at-loop .loop .inv .1, putting-next (start .args .at) (at-loop .loop .i) _ (start .args .from .now) (start .args .to .now) _ (omega (arith, at-loop .loop .inv .1, c .before .loop-test .taken, start .pre .1)) (at-loop .loop .inv .2) refl)
 
 pub put-numbers-spec : {M : Type 1} → statement M
 put-numbers-spec =
@@ -38,13 +30,13 @@ put-numbers-spec =
     (tie.spec
     Inv-loop
     μ-loop
-    loop-holds
+    (λ c. (search needs, c .pre .0, putting-none (c .args .at) (c .args .from .now) (c .args .to .now)))
     (λ c. search needs)
     (λ c. search needs)
-    add-to
-    mul-to-2
-    element-write-to
+    (λ c. omega (arith, c .before .loop-test .taken, known-start c .pre .1))
+    (λ c. omega (arith, c .before .loop-test .taken, known-start c .pre .1))
+    (λ c. omega (arith, c .before .loop-test .taken, known-start c .pre .1))
     (λ c. search needs)
     (λ c. search needs)
     loop-again
-    returns)
+    (λ c. (c .before .loop .inv .1, put-all _ _ _ _ _ (omega (arith, c .before .loop .inv .0, c .loop-test .left)) (c .before .loop .inv .2))))

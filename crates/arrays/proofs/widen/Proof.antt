@@ -25,7 +25,7 @@ loop-again c = (search needs, length-set (c .before .loop .r) (c .before .loop .
 
 returns : tie.Need-returns Inv-loop μ-loop
 returns c =
-    let e = copy-is (c .before .before .args .t1) (c .before .loop .r) 64 (c .before .loop .inv .1) (search needs) (λ i m. c .before .loop .inv .2 i (omega (arith, c .loop-test .left))) in
+    let e = copy-is (c .before .before .args .t1) _ 64 (c .before .loop .inv .1) (search needs) (λ i m. c .before .loop .inv .2 i (omega (arith, c .loop-test .left))) in
     (e, λ j m. subst (λ (l : List ℕ). getD l j 0 < 256) (sym e) (let f : Fits w8 (getD (c .before .before .args .t1) j 0) = search needs in f .fits))
 
 pub widen-spec : {M : Type 1} → statement M

@@ -23,39 +23,47 @@ Start = lts.Start (write-state-reads.Asked, write-state-reads.Learnt, refused-re
 long : (s : Start) → length (s .args .state .bindings .variables) ≡ 32
 long s = search (s .good .1 .1 .1 .0 .1 .1 .1 .1 .1 .0, s .good .1 .1 .1 .0 .1 .1 .1 .1 .0, needs)
 
-write-state-requires : tie.Need-write-state-requires
-write-state-requires c κs = c .before .before .before .pre
+-- the way from a place to one before it
 
-weigh-requires : tie.Need-weigh-requires
-weigh-requires c κs = c .before .before .before .before .before .before .before .before .before .before .pre .0 .bound .within
+abbrev write-state-arg-start : tie.After-write-state-arg → tie.Start
+write-state-arg-start c = c .before .before .before
+
+abbrev said-write-state : tie.After-said → tie.After-write-state
+said-write-state c = c .before .before .before .before .before .before
+
+abbrev refused-write-state : tie.After-refused → tie.After-write-state
+refused-write-state c = c .before .before .before .before .before .before
+
+abbrev weigh-fitting2 : tie.After-weigh → tie.After-fitting2
+weigh-fitting2 c = c .before .before .before
 
 returns : tie.Need-returns
 unfolding unfoldMachine
 returns c list rule patience weight spent b em R =
-    let at-write-state = c .before .before .before .before .before .before in
-    let start = at-write-state .before .before .before .before in
+    let at-write-state = refused-write-state c in
+    let start = write-state-arg-start (at-write-state .before) in
     let w = at-write-state .write-state .ensures weight spent b R in
     ends-refused (callOf (start .args .script .now) list rule patience (start .args .out .now)) (unfoldMachine (record { tree = b; bindings = boundIn (start .args .script .now) (start .args .state) })) (start .args .yes) (record { visits = start .args .visits; deepest = start .args .deepest }) (c .refused .result) _ (w .1) _ _ (start .args .moves) em (sym (c .before .before .fitting .given .1) ∙ w .0) (c .refused .ensures)
 
 returns-2 : tie.Need-returns-2
 unfolding unfoldMachine
 returns-2 c list rule patience weight spent b em R =
-    let at-write-state = c .before .before .before .before .before .before .before in
-    let start = at-write-state .before .before .before .before in
+    let at-write-state = said-write-state (c .before) in
+    let start = write-state-arg-start (at-write-state .before) in
     let w = at-write-state .write-state .ensures weight spent b R in
-    ends-words (callOf (start .args .script .now) list rule patience (start .args .out .now)) (unfoldMachine (record { tree = b; bindings = boundIn (start .args .script .now) (start .args .state) })) (start .args .yes) (record { visits = start .args .visits; deepest = start .args .deepest }) _ _ (w .1) _ (sym (c .before .before .before .fitting2 .given .1) ∙ w .0) (c .before .said .ensures) em refl refl
+    ends-words (callOf (start .args .script .now) list rule patience (start .args .out .now)) (unfoldMachine (record { tree = b; bindings = boundIn (start .args .script .now) (start .args .state) })) (start .args .yes) (record { visits = start .args .visits; deepest = start .args .deepest }) _ _ (w .1) _ (sym (weigh-fitting2 c .fitting2 .given .1) ∙ w .0) (c .before .said .ensures) em refl refl
     (weighs-so (start .args .script .now) (start .args .state) b (long start) (start .pre .0 .bound) (c .weigh .result) (c .weigh .ensures (start .args .script .now) (start .args .kinds .now) (start .args .starts .now) weight spent b R)) refl
 
 pub finish-spec : {M : Type 1} → statement M
 finish-spec =
     tie.close
     (tie.spec
-    write-state-requires
+    (λ c κs. write-state-arg-start c .pre)
     (λ c. search needs)
     (λ c κs. search needs)
     (λ c. search needs)
     (λ c κs. search needs)
-    weigh-requires
+    (λ c κs. write-state-arg-start (said-write-state c .before) .pre .0 .bound .within)
     (λ c. search needs)
     returns
     (λ c. search needs)

@@ -1,76 +1,84 @@
 -- `write_state` meets its contract: the arrays of the state are lent to the writer. Assumes nothing.
-use mathlib.Core.Path.{_≡_, sym}
+use Prim.Native.Nat.{ℕ}
+use mathlib.Core.List.{List, []}
+use mathlib.Core.Path.{_≡_, sym, ap, _∙_, transport}
 use lib.ListN.{length}
 use native.Mathlib.Omega.{arith}
+use Rattle.messages.specs.Message.{Message}
+use Rattle.bindings.specs.Resolve.{bindingsIn}
 use Rattle.held_bindings.specs.Held.{bindingsOf}
-use borrow.Author.Needs.{needs}
+use Rattle.held_bindings.specs.Sizes.{Cached}
+use Rattle.closure_machine.specs.Closure.{unfolded}
+use Rattle.closures.specs.Represents.{boundIn}
+use Rattle.written_trees.specs.Write.{write}
+use Rattle.writer.specs.Room.{answered, buffered}
 use borrow.Author.Needs.{needs}
 use Rattle.checker.proofs.write_state.Statement.{statement}
 use Rattle.checker.proofs.write_state.Tie as tie
-use Rattle.checker.proofs.write_state.Reads as reads
-use Rattle.checker.proofs.write_state.Lts as lts
-use Rattle.slices.proofs.tail.Reads as tail-reads
-use Rattle.writer.proofs.write_tree.Reads as write-tree-reads
 
--- the bindings' arrays
-abbrev Start : Type 0
-Start = lts.Start (tail-reads.Asked, tail-reads.Learnt, write-tree-reads.Asked, write-tree-reads.Learnt) reads.Pre reads.Post
+-- ---- the places, and the way from each to those before it
 
-long-variables : (s : Start) → length (s .args .state .bindings .variables) ≡ 32
-long-variables s = search (s .good .1 .1 .1 .0 .1 .1 .1 .1 .1 .0, s .good .1 .1 .1 .0 .1 .1 .1 .1 .0, needs)
+abbrev variables-start : tie.After-variables2 → tie.Start
+variables-start c = c .before .before .before .before .before .before .before .before .before .before .before .before .before
 
-long-places : (s : Start) → length (s .args .state .bindings .places) ≡ 32
-long-places s = search (s .good .1 .1 .1 .0 .1 .1 .1 .1 .1 .0, s .good .1 .1 .1 .0 .1 .1 .1 .1 .0, needs)
+abbrev counts-variables : tie.After-counts2 → tie.After-variables2
+counts-variables c = c .before .before .before .before
 
-long-counts : (s : Start) → length (s .args .state .bindings .counts) ≡ 32
-long-counts s = search (s .good .1 .1 .1 .0 .1 .1 .1 .1 .1 .0, s .good .1 .1 .1 .0 .1 .1 .1 .1 .0, needs)
+abbrev bulks-counts : tie.After-bulks2 → tie.After-counts2
+bulks-counts c = c .before .before .before .before
 
-long-sizes : (s : Start) → length (s .args .state .bindings .sizes) ≡ 32
-long-sizes s = search (s .good .1 .1 .1 .0 .1 .1 .1 .1 .1 .0, s .good .1 .1 .1 .0 .1 .1 .1 .1 .0, needs)
+abbrev tails-start : tie.After-tail5 → tie.Start
+tails-start c = variables-start (counts-variables (bulks-counts (c .before)))
 
-long-bulks : (s : Start) → length (s .args .state .bindings .bulks) ≡ 32
-long-bulks s = search (s .good .1 .1 .1 .0 .1 .1 .1 .1 .1 .0, s .good .1 .1 .1 .0 .1 .1 .1 .1 .0, needs)
+-- ---- the bindings' arrays
 
-slice-aggregate-tail : tie.Need-slice-aggregate-tail
-slice-aggregate-tail c = sym (long-variables (c .before .before .before .before .before .before .before .before .before .before .before .before .before))
+long-variables : (s : tie.Start) → length (s .args .state .bindings .variables) ≡ 32
+long-variables s = search (s .good .1 .1 .1 .0 .1 .1 .1 .1 .1 .0, needs)
 
-slice-aggregate-tail-2 : tie.Need-slice-aggregate-tail-2
-slice-aggregate-tail-2 c = sym (long-places (c .before .before .before .before .before .before .before .before .before .before .before .before .before .before .before))
+long-places : (s : tie.Start) → length (s .args .state .bindings .places) ≡ 32
+long-places s = search (s .good .1 .1 .1 .0 .1 .1 .1 .1 .1 .0, needs)
 
-slice-aggregate-tail-3 : tie.Need-slice-aggregate-tail-3
-slice-aggregate-tail-3 c = sym (long-counts (c .before .before .before .before .before .before .before .before .before .before .before .before .before .before .before .before .before))
+long-counts : (s : tie.Start) → length (s .args .state .bindings .counts) ≡ 32
+long-counts s = search (s .good .1 .1 .1 .0 .1 .1 .1 .1 .1 .0, needs)
 
-slice-aggregate-tail-4 : tie.Need-slice-aggregate-tail-4
-slice-aggregate-tail-4 c = sym (long-sizes (c .before .before .before .before .before .before .before .before .before .before .before .before .before .before .before .before .before .before .before))
+long-sizes : (s : tie.Start) → length (s .args .state .bindings .sizes) ≡ 32
+long-sizes s = search (s .good .1 .1 .1 .0 .1 .1 .1 .1 .1 .0, needs)
 
-slice-aggregate-tail-5 : tie.Need-slice-aggregate-tail-5
-slice-aggregate-tail-5 c = sym (long-bulks (c .before .before .before .before .before .before .before .before .before .before .before .before .before .before .before .before .before .before .before .before .before))
+long-bulks : (s : tie.Start) → length (s .args .state .bindings .bulks) ≡ 32
+long-bulks s = search (s .good .1 .1 .1 .0 .1 .1 .1 .1 .1 .0, needs)
 
-abbrev start-of-write-tree-arg : tie.After-write-tree-arg → tie.Start
-start-of-write-tree-arg c = c .before .before .before .before .before .before .before .before .before .before .before .before .before .before .before .before .before .before .before .before .before .before .before
+-- the bindings that are lent are the state's
+bound : (c : tie.After-tail5) → let s = tails-start c .args in let t = bulks-counts (c .before) .before in bindingsIn (s .script .now) (t .before .before .tail .result .now) (t .tail2 .result .now) ≡ boundIn (s .script .now) (s .state)
+unfolding bindingsOf
+bound c = let t = bulks-counts (c .before) .before in λ q. bindingsIn (tails-start c .args .script .now) (t .before .before .tail .ensures q) (t .tail2 .ensures q)
+
+-- ---- the needs
 
 write-tree-requires : tie.Need-write-tree-requires
-write-tree-requires c κs = (rw (c .before .before .before .before .before .before .before .before .before .tail .ensures, c .before .before .before .before .before .before .before .tail2 .ensures, c .before .before .before .before .before .tail3 .ensures, c .before .before .before .tail4 .ensures, c .before .tail5 .ensures) (start-of-write-tree-arg c .pre .0 .bound .cached), start-of-write-tree-arg c .pre .1)
+write-tree-requires c κs =
+    let u = c .before .before .before in let t = u .before .before .before .before in
+    let s = tails-start (c .before) in
+    (transport (λ q. Cached (s .args .script .now) (sym (t .before .before .tail .ensures) q) (sym (t .tail2 .ensures) q) (sym (u .before .before .tail3 .ensures) q) (sym (u .tail4 .ensures) q) (sym (c .before .tail5 .ensures) q)) (s .pre .0 .bound .cached), s .pre .1)
 
 returns : tie.Need-returns
-unfolding bindingsOf
 returns c weight spent b R =
-    let e = c .before .before .write-tree .ensures b (R .top) (R .held) (omega (arith, R .weighs, R .light)) in
-    (rw (c .before .before .before .before .before .before .before .before .before .before .before .before .tail .ensures, c .before .before .before .before .before .before .before .before .before .before .tail2 .ensures) at (e .said), rw (c .before .before .before .before .before .before .before .before .before .before .before .before .tail .ensures, c .before .before .before .before .before .before .before .before .before .before .tail2 .ensures) at (e .left))
+    let w = c .before .before in let t = w .before .before in let out = tails-start t .args .out .now in
+    let e = w .write-tree .ensures b (R .top) (R .held) (omega (arith, R .weighs, R .light)) in
+    (e .said ∙ ap (λ (σ : List (ℕ × Message)). answered (write [] 0 (unfolded σ b)) out) (bound t), e .left ∙ ap (λ (σ : List (ℕ × Message)). buffered (write [] 0 (unfolded σ b)) out) (bound t))
 
 pub write-state-spec : {M : Type 1} → statement M
 write-state-spec =
     tie.close
     (tie.spec
-    slice-aggregate-tail
+    (λ c. sym (long-variables (variables-start c)))
     (λ c κs. search needs)
-    slice-aggregate-tail-2
+    (λ c. sym (long-places (variables-start (c .before .before))))
     (λ c κs. search needs)
-    slice-aggregate-tail-3
+    (λ c. sym (long-counts (variables-start (counts-variables c))))
     (λ c κs. search needs)
-    slice-aggregate-tail-4
+    (λ c. sym (long-sizes (variables-start (counts-variables (c .before .before)))))
     (λ c κs. search needs)
-    slice-aggregate-tail-5
+    (λ c. sym (long-bulks (variables-start (counts-variables (bulks-counts c)))))
     (λ c κs. search needs)
     write-tree-requires
     (λ c. search needs)

@@ -25,14 +25,15 @@ put-decimal-below t = and 1 put-decimal-kinds.ps (falls 1 put-decimal-kinds.ps _
 abbrev claims : ℕ → put-decimal-lts.Claims
 claims t = (put-byte-reads.Asked, put-byte-reads.Learnt, put-decimal-below t, put-decimal.Post)
 
-put-decimal-returns : (t : ℕ) → put-decimal-lts.Need-returns (claims t) (put-decimal-at t) put-decimal.Post
-put-decimal-returns t c k h = puts-as (decimal-one k (c .before .before .before .before .before .before .args .n) (c .before .before .before .before .if1 .taken)) (c .before .before .put-byte .ensures)
+module _ (t : ℕ) where
+  -- the place behind the digits before the last one
+  abbrev byte-decimal : put-decimal-lts.After-put-byte2 (claims t) (put-decimal-at t) put-decimal.Post → put-decimal-lts.After-put-decimal (claims t) (put-decimal-at t) put-decimal.Post
+  byte-decimal c = c .before .before .before .before
 
-put-decimal-put-decimal-requires : (t : ℕ) → put-decimal-lts.Need-put-decimal-requires (claims t) (put-decimal-at t) put-decimal.Post
-put-decimal-put-decimal-requires t c κs = (omega (arith, c .before .if1 .left), tt)
-
-put-decimal-returns-2 : (t : ℕ) → put-decimal-lts.Need-returns-2 (claims t) (put-decimal-at t) put-decimal.Post
-put-decimal-returns-2 t c = puts-decimal (c .before .before .before .before .before .before .before .before .before .before .args .n) (c .before .before .before .before .before .before .before .before .if1 .left) (c .before .before .before .before .before .before .put-decimal .ensures) (c .before .before .put-byte2 .ensures)
+  returns-2 : put-decimal-lts.Need-returns-2 (claims t) (put-decimal-at t) put-decimal.Post
+  returns-2 c =
+      let d = byte-decimal (c .before .before) in
+      puts-decimal _ (d .before .before .if1 .left) (d .put-decimal .ensures) (c .before .before .put-byte2 .ensures)
 
 pub +put-decimal-spec : {M : Type 1} → statement M
 +put-decimal-spec =
@@ -46,10 +47,10 @@ pub +put-decimal-spec : {M : Type 1} → statement M
     (λ c. search needs)
     (λ c κs. search needs)
     (λ c. search needs)
-    (put-decimal-returns t)
-    (put-decimal-put-decimal-requires t)
+    (λ c k h. puts-as (decimal-one k _ (c .before .before .before .before .if1 .taken)) (c .before .before .put-byte .ensures))
+    (λ c κs. (omega (arith, c .before .if1 .left), tt))
     (λ c. search needs)
     (λ c. search needs)
     (λ c κs. search needs)
     (λ c. search needs)
-    (put-decimal-returns-2 t)
+    (returns-2 t)

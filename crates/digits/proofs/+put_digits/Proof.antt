@@ -28,16 +28,17 @@ put-digits-below t = and 1 put-digits-kinds.ps (falls 1 put-digits-kinds.ps _<_ 
 abbrev claims : ℕ → put-digits-lts.Claims
 claims t = (put-digits-below t, put-digits.Post, glyph-reads.Asked, glyph-reads.Learnt, put-byte-reads.Asked, put-byte-reads.Learnt)
 
-put-digits-returns : (t : ℕ) → put-digits-lts.Need-returns (claims t) (put-digits-at t) put-digits.Post
-put-digits-returns t c = puts-as (hex-none (c .before .before .args .digits) (c .before .before .args .w) (c .if1 .taken)) puts-none
+module _ (t : ℕ) where
+  -- the place behind the digits before the last one
+  abbrev glyph-digits : put-digits-lts.After-glyph (claims t) (put-digits-at t) put-digits.Post → put-digits-lts.After-put-digits (claims t) (put-digits-at t) put-digits.Post
+  glyph-digits c = c .before .before .before .before
 
-put-digits-put-digits-requires : (t : ℕ) → put-digits-lts.Need-put-digits-requires (claims t) (put-digits-at t) put-digits.Post
-put-digits-put-digits-requires t c κs = (omega (arith, c .before .if1 .left), tt)
-
-put-digits-returns-2 : (t : ℕ) → put-digits-lts.Need-returns-2 (claims t) (put-digits-at t) put-digits.Post
-put-digits-returns-2 t c =
-    let more : 0 < c .before .before .before .before .before .before .before .before .before .before .before .args .digits = omega (arith, c .before .before .before .before .before .before .before .before .before .if1 .left) in
-    puts-as (hex-more (c .before .before .before .before .before .before .before .before .before .before .before .args .digits) (c .before .before .before .before .before .before .before .before .before .before .before .args .w) more) (puts-more (c .before .before .before .before .before .before .before .put-digits .ensures) (puts-as (ap (λ (d : ℕ). d ∷ []) (c .before .before .before .glyph .ensures)) (c .before .before .put-byte .ensures)))
+  returns-2 : put-digits-lts.Need-returns-2 (claims t) (put-digits-at t) put-digits.Post
+  returns-2 c =
+      let g = c .before .before .before in
+      let d = glyph-digits g in
+      puts-as (hex-more _ _ (omega (arith, d .before .before .if1 .left)))
+      (puts-more (d .put-digits .ensures) (puts-as (ap (λ (d : ℕ). d ∷ []) (g .glyph .ensures)) (c .before .before .put-byte .ensures)))
 
 pub +put-digits-spec : {M : Type 1} → statement M
 +put-digits-spec =
@@ -47,10 +48,10 @@ pub +put-digits-spec : {M : Type 1} → statement M
     (claims t)
     (put-digits-at t)
     put-digits.Post
-    (put-digits-returns t)
+    (λ c. puts-as (hex-none _ _ (c .if1 .taken)) puts-none)
     (λ c. search needs)
-    (put-digits-put-digits-requires t)
+    (λ c κs. (omega (arith, c .before .if1 .left), tt))
     (λ c κs. search needs)
     (λ c κs. search needs)
     (λ c. search needs)
-    (put-digits-returns-2 t)
+    (returns-2 t)

@@ -13,29 +13,15 @@ Inv-loop text₀ at piece next₀ i₀ text next i = (i ≤ length piece) × Put
 abbrev μ-loop : tie.MeasureT-loop
 μ-loop text₀ at piece next₀ i₀ text next i = length piece - i
 
-loop-holds : tie.Need-loop-holds Inv-loop μ-loop
-loop-holds c = (search needs, puts-none)
+-- the way from a place to one before it
 
-shared-slice-read-put-byte : tie.Need-shared-slice-read-put-byte Inv-loop μ-loop
-shared-slice-read-put-byte c = search needs
-
-put-byte-requires : tie.Need-put-byte-requires Inv-loop μ-loop
-put-byte-requires c κs = search needs
-
-add-i : tie.Need-add-i Inv-loop μ-loop
-add-i c = search needs
-
-loop-less : tie.Need-loop-less Inv-loop μ-loop
-loop-less c = search needs
+abbrev put-byte-in-loop : tie.After-put-byte Inv-loop μ-loop → tie.In-loop Inv-loop μ-loop
+put-byte-in-loop c = c .before .before .before
 
 loop-again : tie.Need-loop-again Inv-loop μ-loop
-loop-again c = (search needs, puts-as (next-is (c .before .before .before .before .before .before .before .before .before .args .piece .now) (c .before .before .before .before .before .before .loop .i) (c .before .before .before .before .before .loop-test .taken)) (puts-more (c .before .before .before .before .before .before .loop .inv .1) (c .before .before .put-byte .ensures)))
-
-same-length : tie.Need-same-length Inv-loop μ-loop
-same-length c = c .before .loop .inv .1 .kept
-
-returns : tie.Need-returns Inv-loop μ-loop
-returns c = puts-as (whole (c .before .before .before .before .args .piece .now) (c .before .loop .i) (c .loop-test .left)) (c .before .loop .inv .1)
+loop-again c =
+    let at-in-loop = put-byte-in-loop (c .before .before) in
+    (search needs, puts-as (next-is _ _ (at-in-loop .loop-test .taken)) (puts-more (at-in-loop .before .loop .inv .1) (c .before .before .put-byte .ensures)))
 
 pub put-bytes-spec : {M : Type 1} → statement M
 put-bytes-spec =
@@ -43,11 +29,11 @@ put-bytes-spec =
     (tie.spec
     Inv-loop
     μ-loop
-    loop-holds
-    shared-slice-read-put-byte
-    put-byte-requires
-    add-i
-    loop-less
+    (λ c. (search needs, puts-none))
+    (λ c. search needs)
+    (λ c κs. search needs)
+    (λ c. search needs)
+    (λ c. search needs)
     loop-again
-    same-length
-    returns)
+    (λ c. c .before .loop .inv .1 .kept)
+    (λ c. puts-as (whole _ _ (c .loop-test .left)) (c .before .loop .inv .1)))

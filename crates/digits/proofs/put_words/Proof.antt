@@ -20,29 +20,15 @@ loop-holds : tie.Need-loop-holds Inv-loop μ-loop
 unfolding lines
 loop-holds c = (search needs, puts-none)
 
-mul-put-word : tie.Need-mul-put-word Inv-loop μ-loop
-mul-put-word c = search needs
+-- the way from a place to one before it
 
-shared-slice-read-put-word : tie.Need-shared-slice-read-put-word Inv-loop μ-loop
-shared-slice-read-put-word c = search needs
-
-put-word-requires : tie.Need-put-word-requires Inv-loop μ-loop
-put-word-requires c κs = search needs
-
-add-i : tie.Need-add-i Inv-loop μ-loop
-add-i c = search needs
-
-loop-less : tie.Need-loop-less Inv-loop μ-loop
-loop-less c = search needs
+abbrev put-word-in-loop : tie.After-put-word Inv-loop μ-loop → tie.In-loop Inv-loop μ-loop
+put-word-in-loop c = c .before .before .before
 
 loop-again : tie.Need-loop-again Inv-loop μ-loop
-loop-again c = (search needs, puts-as (lines-next (c .before .before .before .before .before .before .before .before .before .args .words .now) (c .before .before .before .before .before .before .loop .i) (c .before .before .before .before .before .loop-test .taken)) (puts-more (c .before .before .before .before .before .before .loop .inv .1) (c .before .before .put-word .ensures)))
-
-same-length : tie.Need-same-length Inv-loop μ-loop
-same-length c = c .before .loop .inv .1 .kept
-
-returns : tie.Need-returns Inv-loop μ-loop
-returns c = puts-as (ap (λ (p : List ℕ). lines p) (whole (c .before .before .before .before .args .words .now) (c .before .loop .i) (c .loop-test .left))) (c .before .loop .inv .1)
+loop-again c =
+    let at-in-loop = put-word-in-loop (c .before .before) in
+    (search needs, puts-as (lines-next _ _ (at-in-loop .loop-test .taken)) (puts-more (at-in-loop .before .loop .inv .1) (c .before .before .put-word .ensures)))
 
 pub put-words-spec : {M : Type 1} → statement M
 put-words-spec =
@@ -51,11 +37,11 @@ put-words-spec =
     Inv-loop
     μ-loop
     loop-holds
-    mul-put-word
-    shared-slice-read-put-word
-    put-word-requires
-    add-i
-    loop-less
+    (λ c. search needs)
+    (λ c. search needs)
+    (λ c κs. search needs)
+    (λ c. search needs)
+    (λ c. search needs)
     loop-again
-    same-length
-    returns)
+    (λ c. c .before .loop .inv .1 .kept)
+    (λ c. puts-as (ap (λ (p : List ℕ). lines p) (whole _ _ (c .loop-test .left))) (c .before .loop .inv .1)))

@@ -19,11 +19,16 @@ returns-2 c = sym (rw (eq-eqb _ 1 (c .before .if1 .left), le-ltb _ 65536 (c .if2
 
 returns-3 : tie.Need-returns-3
 unfolding moveFits kind operand
-returns-3 c = sym (rw (eq-eqb _ 1 (c .before .before .before .if1 .left), lt-ltb _ 65536 (c .before .before .if2 .left), ← c .before .actor-of .ensures, le-ltb _ (c .before .before .before .before .args .parts) (c .if3 .taken)))
+returns-3 c =
+    let at-else2 = c .before .before in
+    sym (rw (eq-eqb _ 1 (at-else2 .before .if1 .left), lt-ltb _ 65536 (at-else2 .if2 .left), ← c .before .actor-of .ensures, le-ltb _ (at-else2 .before .before .args .parts) (c .if3 .taken)))
 
 returns-4 : tie.Need-returns-4
 unfolding moveFits kind operand
-returns-4 c = ap (λ (n : ℕ). ltb n (c .before .before .before .before .before .args .parts)) (c .target-of .ensures) ∙ sym (rw (eq-eqb _ 1 (c .before .before .before .before .if1 .left), lt-ltb _ 65536 (c .before .before .before .if2 .left), ← c .before .before .actor-of .ensures, lt-ltb _ (c .before .before .before .before .before .args .parts) (c .before .if3 .left)))
+returns-4 c =
+    let at-actor-of = c .before .before in
+    let at-else2 = at-actor-of .before in
+    ap (λ (n : ℕ). ltb n (at-else2 .before .before .args .parts)) (c .target-of .ensures) ∙ sym (rw (eq-eqb _ 1 (at-else2 .before .if1 .left), lt-ltb _ 65536 (at-else2 .if2 .left), ← at-actor-of .actor-of .ensures, lt-ltb _ (at-else2 .before .before .args .parts) (c .before .if3 .left)))
 
 pub move-fits-spec : {M : Type 1} → statement M
 move-fits-spec =

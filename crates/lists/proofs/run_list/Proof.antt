@@ -1,10 +1,13 @@
 -- `run_list` meets its contract: i moves are made. Assumes nothing.
 use native.Mathlib.Omega.{arith}
+use mathlib.Core.Bool.{true}
 use Prim.Native.Nat.{ℕ, _≤_, _<_, _-_}
 use mathlib.Core.Path.{_≡_, refl, sym, _∙_, subst, transport}
 use lib.ListN.{getD, length}
 use Rattle.targets.specs.Makes.{Tries}
 use Rattle.lent_states.specs.Lent.{kindsIn, startsIn, standing, Lends}
+use Rattle.closures.specs.declared.State.{State}
+use Rattle.plain_call.specs.Call.{actor, target, moveFits}
 use Rattle.lists.proofs.Listed.{Going, going-none, going-ends, going-unfit, going-stuck, going-on, fitting}
 use borrow.Author.Needs.{needs}
 use Rattle.lists.proofs.run_list.Statement.{statement}
@@ -16,49 +19,79 @@ Inv-loop script sets₀ numbers₀ moves parts i₀ sets numbers i = (i ≤ leng
 abbrev μ-loop : tie.MeasureT-loop
 μ-loop script sets₀ numbers₀ moves parts i₀ sets numbers i = length moves - i
 
-loop-holds : tie.Need-loop-holds Inv-loop μ-loop
-loop-holds c = (search needs, c .before .before .pre .2, refl, refl, going-none (c .before .before .args .script .now) (kindsIn (c .before .before .args .numbers .now)) (startsIn (c .before .before .args .numbers .now)) (c .before .before .args .parts) (c .before .before .args .moves .now) (standing (c .before .before .args .sets .now) (c .before .before .args .numbers .now)))
+-- ---- the places, and the way from each to those before it
+
+abbrev At : (tie.InvT-loop → tie.MeasureT-loop → Type 0) → Type 0
+At place = place Inv-loop μ-loop
+
+abbrev loop-start : At tie.At-loop → At tie.Start
+loop-start c = c .before .before .before
+
+abbrev fits-loop : At tie.After-move-fits → At tie.At-loop
+fits-loop c = c .before .before .before
+
+abbrev target-then : At tie.After-target-of → At tie.Then1
+target-then c = c .before .before .before .before
+
+-- ---- the move of a turn
+
+module _ (c : At tie.After-move-fits) where
+  abbrev turn : At tie.At-loop
+  turn = fits-loop c
+
+  abbrev word : ℕ
+  word = getD (loop-start turn .args .moves .now) (turn .loop .i) 0
+
+  -- the state before it
+  abbrev state : State
+  state = standing (turn .loop .sets) (turn .loop .numbers)
+
+fits : (c : At tie.Then1) → moveFits (loop-start (turn (c .before)) .args .parts) (word (c .before)) ≡ true
+fits c = sym (c .before .move-fits .ensures) ∙ c .if1 .taken
+
+module _ (c : At tie.After-try-move) where
+  abbrev fit : At tie.After-move-fits
+  fit = target-then (c .before) .before
+
+  -- the state behind it
+  abbrev left : State
+  left = standing (c .try-move .last .1 .0) (c .try-move .last .1 .1 .0)
+
+  tried : let l = turn fit in Tries (loop-start l .args .script .now) (kindsIn (loop-start l .args .numbers .now)) (startsIn (loop-start l .args .numbers .now)) (state fit) left (c .try-move .result) (actor (word fit)) (target (word fit))
+  tried = let l = turn fit .loop .inv in transport (λ q. Tries (loop-start (turn fit) .args .script .now) (l .2 q) (l .3 q) (state fit) left (c .try-move .result) (c .before .before .actor-of .ensures q) (c .before .target-of .ensures q)) (c .try-move .ensures .1 .1)
+
+  table : let n = loop-start (turn fit) .args .numbers .now in let m = c .try-move .last .1 .1 .0 in (kindsIn m ≡ kindsIn n) × (startsIn m ≡ startsIn n)
+  table = (c .try-move .ensures .1 .0 .0 ∙ turn fit .loop .inv .2, c .try-move .ensures .1 .0 .1 ∙ turn fit .loop .inv .3)
+
+-- ---- the needs
 
 try-move-requires : tie.Need-try-move-requires Inv-loop μ-loop
 try-move-requires c κs =
-    let at-then1 = c .before .before .before .before in
-    let at-move-fits = at-then1 .before in
-    let at-loop = at-move-fits .before .before .before in
-    let start = at-loop .before .before .before in
-    let f = fitting (start .args .parts) (getD (start .args .moves .now) (at-loop .loop .i) 0) (start .pre .0) (sym (at-move-fits .move-fits .ensures) ∙ at-then1 .if1 .taken) in
-    (subst (λ (n : ℕ). n < 64) (sym (c .before .actor-of .ensures)) (f .0), subst (λ (n : ℕ). n < 64) (sym (c .target-of .ensures)) (f .1), at-loop .loop .inv .1)
-
-abbrev start-of-then2 : tie.Then2 Inv-loop μ-loop → tie.Start Inv-loop μ-loop
-start-of-then2 c = c .before .before .before .before .before .before .before .before .before .before .before .before .before
-
-add-i : tie.Need-add-i Inv-loop μ-loop
-add-i c = omega (arith, c .before .before .before .before .before .before .before .before .before .loop-test .taken, start-of-then2 c .pre .1)
-
-abbrev loop-of-then2 : tie.Then2 Inv-loop μ-loop → tie.At-loop Inv-loop μ-loop
-loop-of-then2 c = c .before .before .before .before .before .before .before .before .before .before
+    let t = target-then c in
+    let f = fitting _ _ (loop-start (turn (t .before)) .pre .0) (fits t) in
+    (subst (λ (n : ℕ). n < 64) (sym (c .before .actor-of .ensures)) (f .0), subst (λ (n : ℕ). n < 64) (sym (c .target-of .ensures)) (f .1), turn (t .before) .loop .inv .1)
 
 loop-again : tie.Need-loop-again Inv-loop μ-loop
-loop-again c = (search needs, c .before .try-move .ensures .0, c .before .try-move .ensures .1 .0 .0 ∙ loop-of-then2 c .loop .inv .2, c .before .try-move .ensures .1 .0 .1 ∙ loop-of-then2 c .loop .inv .3, going-on (start-of-then2 c .args .script .now) (kindsIn (start-of-then2 c .args .numbers .now)) (startsIn (start-of-then2 c .args .numbers .now)) (start-of-then2 c .args .parts) (start-of-then2 c .args .moves .now) (standing (start-of-then2 c .args .sets .now) (start-of-then2 c .args .numbers .now)) (loop-of-then2 c .loop .i) (standing (loop-of-then2 c .loop .sets) (loop-of-then2 c .loop .numbers)) (loop-of-then2 c .loop .inv .4) (c .before .before .before .before .before .before .before .before .before .loop-test .taken) (sym (c .before .before .before .before .before .before .before .move-fits .ensures) ∙ c .before .before .before .before .before .before .if1 .taken) (standing (c .before .try-move .last .1 .0) (c .before .try-move .last .1 .1 .0)) (c .before .try-move .result) (transport (λ q. Tries (start-of-then2 c .args .script .now) (loop-of-then2 c .loop .inv .2 q) (loop-of-then2 c .loop .inv .3 q) (standing (loop-of-then2 c .loop .sets) (loop-of-then2 c .loop .numbers)) (standing (c .before .try-move .last .1 .0) (c .before .try-move .last .1 .1 .0)) (c .before .try-move .result) (c .before .before .before .actor-of .ensures q) (c .before .before .target-of .ensures q)) (c .before .try-move .ensures .1 .1)) (c .if2 .taken))
+loop-again c =
+    let m = c .before in
+    let t = target-then (m .before) in
+    (search needs, m .try-move .ensures .0, table m .0, table m .1, going-on _ _ _ _ _ _ _ _ (turn (fit m) .loop .inv .4) (t .before .before .before .loop-test .taken) (fits t) (left m) _ (tried m) (c .if2 .taken))
 
 returns : tie.Need-returns Inv-loop μ-loop
 returns c =
-    let at-then1 = c .before .before .before .before .before .before in
-    let at-move-fits = at-then1 .before in
-    let at-in-loop = at-move-fits .before .before in
-    let at-loop = at-in-loop .before in
-    let start = at-loop .before .before .before in
-    (c .before .try-move .ensures .0, ((c .before .try-move .ensures .1 .0 .0 ∙ at-loop .loop .inv .2, c .before .try-move .ensures .1 .0 .1 ∙ at-loop .loop .inv .3), going-stuck (start .args .script .now) (kindsIn (start .args .numbers .now)) (startsIn (start .args .numbers .now)) (start .args .parts) (start .args .moves .now) (standing (start .args .sets .now) (start .args .numbers .now)) (at-loop .loop .i) (standing (at-loop .loop .sets) (at-loop .loop .numbers)) (at-loop .loop .inv .4) (at-in-loop .loop-test .taken) (sym (at-move-fits .move-fits .ensures) ∙ at-then1 .if1 .taken) (standing (c .before .try-move .last .1 .0) (c .before .try-move .last .1 .1 .0)) (c .before .try-move .result) (transport (λ q. Tries (start .args .script .now) (at-loop .loop .inv .2 q) (at-loop .loop .inv .3 q) (standing (at-loop .loop .sets) (at-loop .loop .numbers)) (standing (c .before .try-move .last .1 .0) (c .before .try-move .last .1 .1 .0)) (c .before .try-move .result) (c .before .before .before .actor-of .ensures q) (c .before .before .target-of .ensures q)) (c .before .try-move .ensures .1 .1)) (c .if2 .left)))
+    let m = c .before in
+    let t = target-then (m .before) in
+    (m .try-move .ensures .0, (table m, going-stuck _ _ _ _ _ _ _ _ (turn (fit m) .loop .inv .4) (t .before .before .before .loop-test .taken) (fits t) (left m) _ (tried m) (c .if2 .left)))
 
 returns-2 : tie.Need-returns-2 Inv-loop μ-loop
 returns-2 c =
-    let at-loop = c .before .before .before .before in
-    let start = at-loop .before .before .before in
-    (at-loop .loop .inv .1, ((at-loop .loop .inv .2, at-loop .loop .inv .3), going-unfit (start .args .script .now) (kindsIn (start .args .numbers .now)) (startsIn (start .args .numbers .now)) (start .args .parts) (start .args .moves .now) (standing (start .args .sets .now) (start .args .numbers .now)) (at-loop .loop .i) (standing (at-loop .loop .sets) (at-loop .loop .numbers)) (at-loop .loop .inv .4) (c .before .before .before .loop-test .taken) (sym (c .before .move-fits .ensures) ∙ c .if1 .left)))
+    let l = turn (c .before) .loop .inv in
+    (l .1, ((l .2, l .3), going-unfit _ _ _ _ _ _ _ _ (l .4) (c .before .before .before .loop-test .taken) (sym (c .before .move-fits .ensures) ∙ c .if1 .left)))
 
 returns-3 : tie.Need-returns-3 Inv-loop μ-loop
 returns-3 c =
-    let start = c .before .before .before .before in
-    (c .before .loop .inv .1, ((c .before .loop .inv .2, c .before .loop .inv .3), going-ends (start .args .script .now) (kindsIn (start .args .numbers .now)) (startsIn (start .args .numbers .now)) (start .args .parts) (start .args .moves .now) (standing (start .args .sets .now) (start .args .numbers .now)) (c .before .loop .i) (standing (c .before .loop .sets) (c .before .loop .numbers)) (c .before .loop .inv .4) (c .loop-test .left) (c .before .loop .inv .0)))
+    let l = c .before .loop .inv in
+    (l .1, ((l .2, l .3), going-ends _ _ _ _ _ _ _ _ (l .4) (c .loop-test .left) (l .0)))
 
 pub run-list-spec : {M : Type 1} → statement M
 run-list-spec =
@@ -66,14 +99,14 @@ run-list-spec =
     (tie.spec
     Inv-loop
     μ-loop
-    loop-holds
+    (λ c. (search needs, c .before .before .pre .2, refl, refl, going-none _ (kindsIn _) (startsIn _) _ _ (standing _ _)))
     (λ c. search needs)
     (λ c. search needs)
     (λ c κs. search needs)
     (λ c κs. search needs)
     (λ c κs. search needs)
     try-move-requires
-    add-i
+    (λ c. let l = fit (c .before) .before .before in omega (arith, l .loop-test .taken, loop-start (l .before) .pre .1))
     (λ c. search needs)
     loop-again
     returns

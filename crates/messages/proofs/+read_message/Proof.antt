@@ -34,43 +34,62 @@ abbrev claims : ℕ → lts.Claims
 claims t = (ask-message-reads.Asked, ask-message-reads.Learnt, read-message-below t, read-message.Post)
 
 module _ (t : ℕ) where
+  -- the way from a place to one before it
+
+  abbrev ask-message-start : lts.After-ask-message (claims t) (read-message-at t) read-message.Post → lts.Start (claims t) (read-message-at t) read-message.Post
+  ask-message-start c = c .before .before .before .before .before
+
+  abbrev left-enum-told3 : lts.After-left (claims t) (read-message-at t) read-message.Post → lts.After-enum-told3 (claims t) (read-message-at t) read-message.Post
+  left-enum-told3 c = c .before .before .before .before
+
+  abbrev left-start : lts.After-left (claims t) (read-message-at t) read-message.Post → lts.Start (claims t) (read-message-at t) read-message.Post
+  left-start c = ask-message-start (left-enum-told3 c .before .before)
+
   -- where the first word was asked
   abbrev asked-at : lts.After-ask-message (claims t) (read-message-at t) read-message.Post → First
-  asked-at c = record {
-    words = c .before .before .before .before .before .args .s .now;
-    at = c .before .before .before .before .before .args .at;
-    nest = c .before .before .before .before .before .args .nest;
-    around = c .before .before .before .before .before .args .around .now;
-    answer = c .ask-message .result;
-    answers = c .ask-message .ensures;
-    some = omega arith;
-  }
+  asked-at c =
+      let start = ask-message-start c in
+      record {
+        words = start .args .s .now;
+        at = start .args .at;
+        nest = start .args .nest;
+        around = start .args .around .now;
+        answer = c .ask-message .result;
+        answers = c .ask-message .ensures;
+        some = omega arith;
+      }
 
   returns : lts.Need-returns (claims t) (read-message-at t) read-message.Post
-  returns c number = read-none (c .before .before .before .args .s .now) (c .before .before .before .args .at) (c .before .before .before .args .nest) (c .before .before .before .args .around .now) number (c .if1 .taken)
+  returns c number =
+      let start = c .before .before .before in
+      read-none (start .args .s .now) (start .args .at) (start .args .nest) (start .args .around .now) number (c .if1 .taken)
 
   read-message-requires : lts.Need-read-message-requires (claims t) (read-message-at t) read-message.Post
   read-message-requires c κs =
-      let l = length-part (c .before .before .before .before .before .before .before .before .args .s .now) 1 in
-      (omega arith, (omega arith, omega (arith, level (asked-at (c .before .before .before)) _ (c .before .enum-told2 .given .1))))
+      let at-ask-message = c .before .before .before in
+      let l = length-part (ask-message-start at-ask-message .args .s .now) 1 in
+      (omega arith, (omega arith, omega (arith, level (asked-at at-ask-message) _ (c .before .enum-told2 .given .1))))
 
   read-message-requires-2 : lts.Need-read-message-requires-2 (claims t) (read-message-at t) read-message.Post
   read-message-requires-2 c κs =
-      let l = length-part (c .before .before .before .before .before .before .before .before .args .s .now) 1 in
-      (omega arith, (omega arith, omega (arith, level (asked-at (c .before .before .before)) _ (c .before .enum-told3 .given .1))))
+      let at-ask-message = c .before .before .before in
+      let l = length-part (ask-message-start at-ask-message .args .s .now) 1 in
+      (omega arith, (omega arith, omega (arith, level (asked-at at-ask-message) _ (c .before .enum-told3 .given .1))))
 
   returns-2 : lts.Need-returns-2 (claims t) (read-message-at t) read-message.Post
-  returns-2 c number = two-refused (asked-at (c .before .before .before .before .before .before)) number _ (c .before .before .read-message2 .ensures number) (c .before .before .before .before .enum-told3 .given .1) _ _ (c .enum-told4 .given .1)
+  returns-2 c number =
+      let at-read-message2 = c .before .before in let at-enum-told3 = at-read-message2 .before .before in
+      two-refused (asked-at (at-enum-told3 .before .before)) number _ (at-read-message2 .read-message2 .ensures number) (at-enum-told3 .enum-told3 .given .1) _ _ (c .enum-told4 .given .1)
 
   -- where the first of two messages was read
-  bounds : (c : lts.After-known-told2 (claims t) (read-message-at t) read-message.Post) → (c .before .before .before .before .before .before .before .before .before .before .before .before .args .at + 1 < c .before .left .given .0 .0) × (c .before .left .given .0 .0 ≤ c .before .before .before .before .before .before .before .before .before .before .before .before .args .at + length (c .before .before .before .before .before .before .before .before .before .before .before .before .args .s .now))
-  bounds c = first-bounds (asked-at (c .before .before .before .before .before .before .before)) 0 _ (c .before .before .before .read-message2 .ensures 0) _ (c .before .left .given .1)
+  bounds : (c : lts.After-known-told2 (claims t) (read-message-at t) read-message.Post) → (left-start (c .before) .args .at + 1 < c .before .left .given .0 .0) × (c .before .left .given .0 .0 ≤ left-start (c .before) .args .at + length (left-start (c .before) .args .s .now))
+  bounds c = first-bounds (asked-at (left-enum-told3 (c .before) .before .before)) 0 _ (c .before .before .before .read-message2 .ensures 0) _ (c .before .left .given .1)
 
   read-message-requires-3 : lts.Need-read-message-requires-3 (claims t) (read-message-at t) read-message.Post
   read-message-requires-3 c κs =
-      let b = bounds (c .before) in
-      let l = length-part (c .before .before .before .before .before .before .before .before .before .before .before .before .before .args .s .now) (c .before .before .left .given .0 .0 - c .before .before .before .before .before .before .before .before .before .before .before .before .before .args .at) in
-      (omega arith, (omega arith, omega (arith, level (asked-at (c .before .before .before .before .before .before .before .before)) _ (c .before .before .before .before .before .before .enum-told3 .given .1))))
+      let at-left = c .before .before in let b = bounds (c .before) in
+      let l = length-part (left-start at-left .args .s .now) (at-left .left .given .0 .0 - left-start at-left .args .at) in
+      (omega arith, (omega arith, omega (arith, level (asked-at (left-enum-told3 at-left .before .before)) _ (left-enum-told3 at-left .enum-told3 .given .1))))
 
   returns-3 : lts.Need-returns-3 (claims t) (read-message-at t) read-message.Post
   returns-3 c number = no-read (asked-at (c .before .before .before)) number _ (c .before .a .given .1)
@@ -79,11 +98,14 @@ module _ (t : ℕ) where
   returns-4 c number = leaf-read (asked-at (c .before .before)) number (c .enum-told .given .1)
 
   returns-5 : lts.Need-returns-5 (claims t) (read-message-at t) read-message.Post
-  returns-5 c number = one-read (asked-at (c .before .before .before .before)) number _ (c .read-message .ensures number) (c .before .before .enum-told2 .given .1)
+  returns-5 c number =
+      let at-enum-told2 = c .before .before in
+      one-read (asked-at (at-enum-told2 .before .before)) number _ (c .read-message .ensures number) (at-enum-told2 .enum-told2 .given .1)
 
   returns-6 : lts.Need-returns-6 (claims t) (read-message-at t) read-message.Post
   returns-6 c number =
-      two-read (asked-at (c .before .before .before .before .before .before .before .before .before)) number _ (c .before .before .before .before .before .read-message2 .ensures number) _ (c .before .before .before .left .given .1) (c .before .before .before .before .before .before .before .enum-told3 .given .1) _ (c .read-message3 .ensures number)
+      let at-left = c .before .before .before in
+      two-read (asked-at (left-enum-told3 at-left .before .before)) number _ (at-left .before .before .read-message2 .ensures number) _ (at-left .left .given .1) (left-enum-told3 at-left .enum-told3 .given .1) _ (c .read-message3 .ensures number)
 
 pub +read-message-spec : {M : Type 1} → statement M
 +read-message-spec =

@@ -7,7 +7,9 @@ use Rattle.messages.proofs.ask_message.Tie as tie
 
 returns : tie.Need-returns
 unfolding asked fits bound follow
-returns c = rw (← c .before .before .before .before .before .before .message-word .ensures, c .before .before .before .before .m .given .1, ← c .before .before .is-around .ensures, c .before .if1 .taken) (c .within .ensures)
+returns c =
+    let at-is-around = c .before .before in let at-m = at-is-around .before .before in
+    rw (← at-m .before .before .message-word .ensures, at-m .m .given .1, ← at-is-around .is-around .ensures, c .before .if1 .taken) (c .within .ensures)
 
 returns-2 : tie.Need-returns-2
 unfolding asked fits bound follow
@@ -15,7 +17,9 @@ returns-2 c = rw (← c .before .before .message-word .ensures, c .enum-told .gi
 
 returns-3 : tie.Need-returns-3
 unfolding asked fits bound follow
-returns-3 c = rw (← c .before .before .before .before .before .message-word .ensures, c .before .before .before .m .given .1, ← c .before .is-around .ensures, c .if1 .left)
+returns-3 c =
+    let at-m = c .before .before .before in
+    rw (← at-m .before .before .message-word .ensures, at-m .m .given .1, ← c .before .is-around .ensures, c .if1 .left)
 
 returns-4 : tie.Need-returns-4
 unfolding asked fits bound follow

@@ -22,14 +22,14 @@ returns c = rw (c .before .if1 .taken, c .if2 .taken)
 returns-2 : tie.Need-returns-2
 unfolding messageWord kind operand nameFits
 returns-2 c =
-    let o : ℕ = c .before .before .before .args .w % 268435456 in
-    rw (c .before .before .if1 .taken, le-leb 1 o (omega arith), lt-leb o 255 (omega arith))
+    let at-then1 = c .before .before in let o : ℕ = at-then1 .before .args .w % 268435456 in
+    rw (at-then1 .if1 .taken, le-leb 1 o (omega arith), lt-leb o 255 (omega arith))
 
 returns-3 : tie.Need-returns-3
 unfolding messageWord kind operand nameFits
 returns-3 c =
-    let o : ℕ = c .before .before .before .args .w % 268435456 in
-    rw (c .before .before .if1 .taken, le-leb 1 o (omega arith), le-leb o 255 (omega arith))
+    let at-then1 = c .before .before in let o : ℕ = at-then1 .before .args .w % 268435456 in
+    rw (at-then1 .if1 .taken, le-leb 1 o (omega arith), le-leb o 255 (omega arith))
 
 returns-4 : tie.Need-returns-4
 unfolding messageWord kind operand
@@ -62,9 +62,9 @@ returns-10 c = rw (c .match .keys5, c .before .if5 .left)
 returns-11 : tie.Need-returns-11
 unfolding messageWord kind operand
 returns-11 c =
-    let r = c .match .rest in
+    let at-else4 = c .before .before in let r = c .match .rest in
     rw
-    (ne-eqb _ _ (c .before .before .before .if1 .left), ne-eqb _ _ (c .before .before .if4 .left), ne-eqb _ _ (r .0 .0 .0 .0 .1), ne-eqb _ _ (r .0 .0 .0 .1), ne-eqb _ _ (r .0 .0 .1), ne-eqb _ _ (r .0 .1), ne-eqb _ _ (r .1))
+    (ne-eqb _ _ (at-else4 .before .if1 .left), ne-eqb _ _ (at-else4 .if4 .left), ne-eqb _ _ (r .0 .0 .0 .0 .1), ne-eqb _ _ (r .0 .0 .0 .1), ne-eqb _ _ (r .0 .0 .1), ne-eqb _ _ (r .0 .1), ne-eqb _ _ (r .1))
 
 pub message-word-spec : {M : Type 1} → statement M
 message-word-spec =

@@ -7,8 +7,10 @@ use borrow.Author.Needs.{needs}
 use Rattle.replies.proofs.put_call.Statement.{statement}
 use Rattle.replies.proofs.put_call.Tie as tie
 
-returns : tie.Need-returns
-returns c = puts-as (ap (λ (a : Answer). answerText a) (c .before .before .before .before .before .before .call .ensures .0)) (c .before .before .put-answer .ensures)
+-- the way from a place to one before it
+
+abbrev put-answer-call : tie.After-put-answer → tie.After-call
+put-answer-call c = c .before .before .before .before
 
 pub put-call-spec : {M : Type 1} → statement M
 put-call-spec =
@@ -19,4 +21,4 @@ put-call-spec =
     (λ c. search needs)
     (λ c κs. search needs)
     (λ c. search needs)
-    returns)
+    (λ c. puts-as (ap (λ (a : Answer). answerText a) (put-answer-call (c .before .before) .call .ensures .0)) (c .before .before .put-answer .ensures)))

@@ -6,11 +6,23 @@ use borrow.Author.Needs.{needs}
 use Rattle.replies.proofs.reply_to_words.Statement.{statement}
 use Rattle.replies.proofs.reply_to_words.Tie as tie
 
+-- the places, and the way from each to those before it
+
+abbrev count-start : tie.After-read-count → tie.Start
+count-start c = c .before .before .before
+
+abbrev rest-told : tie.After-tail2 → tie.After-c
+rest-told c = c .before .before .before .before
+
 returns : tie.Need-returns
-returns c = puts-as (replied-short (c .before .before .before .before .before .before .read-count .result) (c .before .before .before .before .before .before .before .before .before .args .s .now) (λ script rest. scriptReply script rest) (c .before .before .before .before .before .before .read-count .ensures) (c .before .before .before .before .enum-told .given .1)) (c .before .before .put-unfit .ensures)
+returns c =
+    let u = c .before .before in let e = u .before .before in let s = count-start (e .before .before) in
+    puts-as (replied-short _ (s .args .s .now) (λ script rest. scriptReply script rest) (e .before .before .read-count .ensures) (e .enum-told .given .1)) (u .put-unfit .ensures)
 
 returns-2 : tie.Need-returns-2
-returns-2 c = puts-as (replied-words (c .before .before .before .before .before .before .before .before .before .before .read-count .result) (c .before .before .before .before .before .before .before .before .c .given .0 .0) (c .before .before .before .before .before .before .before .before .before .before .before .before .before .args .s .now) (c .before .before .before .before .before .before .tail .result .now) (c .before .before .before .before .before .head .result .now) (c .before .before .before .before .tail2 .result .now) (λ script rest. scriptReply script rest) (c .before .before .before .before .before .before .before .before .before .before .read-count .ensures) (c .before .before .before .before .before .before .before .before .c .given .1) (c .before .before .before .before .before .before .tail .ensures) (c .before .before .before .before .before .head .ensures) (c .before .before .before .before .tail2 .ensures)) (c .before .before .reply-with-script .ensures)
+returns-2 c =
+    let r = c .before .before in let t = r .before .before in let w = rest-told t in let s = count-start (w .before .before) in
+    puts-as (replied-words _ _ (s .args .s .now) _ _ _ (λ script rest. scriptReply script rest) (w .before .before .read-count .ensures) (w .c .given .1) (t .before .before .tail .ensures) (t .before .head .ensures) (t .tail2 .ensures)) (r .reply-with-script .ensures)
 
 pub reply-to-words-spec : {M : Type 1} → statement M
 reply-to-words-spec =

@@ -5,11 +5,22 @@ use borrow.Author.Needs.{needs}
 use Rattle.replies.proofs.reply_with_rule.Statement.{statement}
 use Rattle.replies.proofs.reply_with_rule.Tie as tie
 
+-- the start, from the test
+abbrev test-start : tie.After-slice-known → tie.Start
+test-start c = c .before .before .before .before .before
+
+abbrev call-else : tie.After-put-call → tie.Else1
+call-else c = c .before .before .before
+
 returns : tie.Need-returns
-returns c = puts-as (rule-unfit (c .before .before .before .before .before .before .before .before .before .before .args .script .now) (c .before .before .before .before .before .before .before .before .before .before .args .moves .now) (c .before .before .before .before .before .before .before .before .before .before .args .rule .now) (c .before .before .before .before .before .before .before .before .before .before .args .s .now) (c .before .before .before .before .if1 .taken)) (c .before .before .put-unfit .ensures)
+returns c =
+    let u = c .before .before in let t = u .before .before in let a = test-start (t .before) .args in
+    puts-as (rule-unfit (a .script .now) (a .moves .now) (a .rule .now) (a .s .now) (t .if1 .taken)) (u .put-unfit .ensures)
 
 returns-2 : tie.Need-returns-2
-returns-2 c = puts-as (rule-one (c .before .before .before .before .before .before .before .before .before .before .before .args .script .now) (c .before .before .before .before .before .before .before .before .before .before .before .args .moves .now) (c .before .before .before .before .before .before .before .before .before .before .before .args .rule .now) (c .before .before .before .before .before .before .before .before .before .before .before .args .s .now) (c .before .before .before .before .before .if1 .left)) (c .before .before .put-call .ensures)
+returns-2 c =
+    let t = call-else (c .before .before) in let a = test-start (t .before) .args in
+    puts-as (rule-one (a .script .now) (a .moves .now) (a .rule .now) (a .s .now) (t .if1 .left)) (c .before .before .put-call .ensures)
 
 pub reply-with-rule-spec : {M : Type 1} → statement M
 reply-with-rule-spec =

@@ -6,43 +6,26 @@ use borrow.Author.Needs.{needs}
 use Rattle.rule_answers.proofs.name_said.Statement.{statement}
 use Rattle.rule_answers.proofs.name_said.Tie as tie
 
-term-of-requires : tie.Need-term-of-requires
-term-of-requires c κs = search needs
+-- the way from a place to one before it
 
-enum-known-t : tie.Need-enum-known-t
-enum-known-t c = search needs
-
-enum-known-t-2 : tie.Need-enum-known-t-2
-enum-known-t-2 c = search needs
+abbrev result-t2 : tie.After-result → tie.After-t2
+result-t2 c = c .before .before .before
 
 returns : tie.Need-returns
-returns c = said-none (c .before .before .before .before .before .args .chosen .now) _ _ (sym (c .before .before .t2 .given .1) ∙ c .before .before .before .before .term-of .ensures) (c .if1 .taken)
-
-cast-result : tie.Need-cast-result
-cast-result c = search needs
-
-mul-result : tie.Need-mul-result
-mul-result c = search needs
-
-element-copy-out-result : tie.Need-element-copy-out-result
-element-copy-out-result c = search needs
-
-returns-2 : tie.Need-returns-2
-returns-2 c = said-constant (c .before .before .before .before .args .chosen .now) _ _ (sym (c .before .t .given .1) ∙ c .before .before .before .term-of .ensures)
-
-returns-3 : tie.Need-returns-3
-returns-3 c = said-chosen (c .before .before .before .before .before .before .args .chosen .now) _ _ (sym (c .before .before .before .t2 .given .1) ∙ c .before .before .before .before .before .term-of .ensures) (omega (arith, c .before .if1 .left))
+returns c =
+    let at-t2 = c .before .before in
+    said-none _ _ _ (sym (at-t2 .t2 .given .1) ∙ at-t2 .before .before .term-of .ensures) (c .if1 .taken)
 
 pub name-said-spec : {M : Type 1} → statement M
 name-said-spec =
     tie.close
     (tie.spec
-    term-of-requires
-    enum-known-t
-    enum-known-t-2
+    (λ c κs. search needs)
+    (λ c. search needs)
+    (λ c. search needs)
     returns
-    cast-result
-    mul-result
-    element-copy-out-result
-    returns-2
-    returns-3)
+    (λ c. search needs)
+    (λ c. search needs)
+    (λ c. search needs)
+    (λ c. said-constant _ _ _ (sym (c .before .t .given .1) ∙ c .before .before .before .term-of .ensures))
+    (λ c. said-chosen _ _ _ (sym (result-t2 c .t2 .given .1) ∙ result-t2 c .before .before .term-of .ensures) (omega (arith, c .before .if1 .left))))

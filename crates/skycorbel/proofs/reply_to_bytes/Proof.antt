@@ -8,8 +8,15 @@ use borrow.Author.Needs.{needs}
 use Rattle.skycorbel.proofs.reply_to_bytes.Statement.{statement}
 use Rattle.skycorbel.proofs.reply_to_bytes.Tie as tie
 
+-- the way from a place to one before it
+
+abbrev head-unpack : tie.After-head → tie.After-unpack
+head-unpack c = c .before .before .before
+
 returns : tie.Need-returns
-returns c = puts-as (ap (λ (s : List ℕ). wordsReply s) (c .before .before .before .before .head .ensures ∙ c .before .before .before .before .before .before .before .unpack .ensures)) (c .before .before .reply-to-words .ensures)
+returns c =
+    let at-reply-to-words = c .before .before in let at-head = at-reply-to-words .before .before in
+    puts-as (ap (λ (s : List ℕ). wordsReply s) (at-head .head .ensures ∙ head-unpack at-head .unpack .ensures)) (at-reply-to-words .reply-to-words .ensures)
 
 pub reply-to-bytes-spec : {M : Type 1} → statement M
 reply-to-bytes-spec =

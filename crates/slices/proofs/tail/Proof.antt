@@ -14,16 +14,6 @@ past s at h =
     let e : drop at s ≡ [] = drop-of-length-le s {i = at} (omega arith) in
     part-drop s (length s) ∙ drop-of-length-le s {i = length s} (omega arith) ∙ sym e
 
-returns : tie.Need-returns
-returns c =
-    let s = c .before .before in
-    part-drop (s .args .s .now) (s .args .at)
-
-returns-2 : tie.Need-returns-2
-returns-2 c =
-    let s = c .before .before in
-    past (s .args .s .now) (s .args .at) (c .before .if1 .left)
-
 pub tail-spec : {M : Type 1} → statement M
 tail-spec =
     tie.close
@@ -36,5 +26,5 @@ tail-spec =
     (λ c. search needs)
     (λ c. search needs)
     (λ c. search needs)
-    returns
-    returns-2)
+    (λ c. part-drop (c .before .before .args .s .now) (c .before .before .args .at))
+    (λ c. past (c .before .before .args .s .now) (c .before .before .args .at) (c .before .if1 .left)))

@@ -5,14 +5,15 @@ use borrow.Author.Needs.{needs}
 use Rattle.text.proofs.put_answer.Statement.{statement}
 use Rattle.text.proofs.put_answer.Tie as tie
 
-returns : tie.Need-returns
-returns c = puts-as (yes-text (c .before .before .before .before .before .before .before .before .before .args .a) (c .before .before .before .before .before .before .before .before .before .args .out .now) (c .before .before .before .before .before .enum-told .given .1)) (c .before .before .put-said .ensures)
+-- the verdict, from the place behind what is put
+abbrev said-yes : tie.After-put-said → tie.After-enum-told
+said-yes c = c .before .before .before
 
-returns-2 : tie.Need-returns-2
-returns-2 c = puts-as (no-text (c .before .before .before .before .before .before .before .before .before .args .a) (c .before .before .before .before .before .before .before .before .before .args .out .now) (c .before .before .before .before .before .enum-told2 .given .1)) (c .before .before .put-said2 .ensures)
+abbrev said-no : tie.After-put-said2 → tie.After-enum-told2
+said-no c = c .before .before .before
 
-returns-3 : tie.Need-returns-3
-returns-3 c = puts-as (refused-text (c .before .before .before .before .before .before .before .before .before .args .a) (c .before .before .before .before .before .before .before .before .before .args .out .now) (c .before .before .before .before .before .verdict .given .0 .0) (c .before .before .before .before .before .verdict .given .0 .1 .0) (c .before .before .before .before .before .verdict .given .1)) (c .before .before .put-refusal .ensures)
+abbrev refused-stop : tie.After-put-refusal → tie.After-verdict
+refused-stop c = c .before .before .before
 
 pub put-answer-spec : {M : Type 1} → statement M
 put-answer-spec =
@@ -27,8 +28,8 @@ put-answer-spec =
     (λ c. search needs)
     (λ c κs. search needs)
     (λ c. search needs)
-    returns
+    (λ c. puts-as (yes-text _ _ (said-yes (c .before .before) .enum-told .given .1)) (c .before .before .put-said .ensures))
     (λ c. search needs)
-    returns-2
+    (λ c. puts-as (no-text _ _ (said-no (c .before .before) .enum-told2 .given .1)) (c .before .before .put-said2 .ensures))
     (λ c. search needs)
-    returns-3)
+    (λ c. puts-as (refused-text _ _ _ _ (refused-stop (c .before .before) .verdict .given .1)) (c .before .before .put-refusal .ensures)))

@@ -7,9 +7,29 @@ use borrow.Author.Needs.{needs}
 use Rattle.text.proofs.put_refusal.Statement.{statement}
 use Rattle.text.proofs.put_refusal.Tie as tie
 
+-- the way from a place to one before it
+
+abbrev bytes-start : tie.After-put-bytes → tie.Start
+bytes-start c = c .before .before .before .before
+
+abbrev byte-decimal2 : tie.After-put-byte → tie.After-put-decimal2
+byte-decimal2 c = c .before .before .before .before
+
+abbrev byte-bytes2 : tie.After-put-byte → tie.After-put-bytes2
+byte-bytes2 c = byte-decimal2 c .before .before .before .before
+
+abbrev byte-decimal : tie.After-put-byte → tie.After-put-decimal
+byte-decimal c = byte-bytes2 c .before .before .before .before .before
+
+abbrev byte-bytes : tie.After-put-byte → tie.After-put-bytes
+byte-bytes c = byte-decimal c .before .before .before .before
+
 returns : tie.Need-returns
 unfolding refusalText
-returns c = puts-more (puts-more (puts-more (puts-more (c .before .before .before .before .before .before .before .before .before .before .before .before .before .before .before .before .before .before .before .put-bytes .ensures) (c .before .before .before .before .before .before .before .before .before .before .before .before .before .before .before .put-decimal .ensures 19 (twenty-digits (c .before .before .before .before .before .before .before .before .before .before .before .before .before .before .before .before .before .before .before .before .before .before .before .args .question) (omega (arith, c .before .before .before .before .before .before .before .before .before .before .before .before .before .before .before .before .before .before .before .before .before .before .before .fits .question .fits))))) (c .before .before .before .before .before .before .before .before .before .before .put-bytes2 .ensures)) (c .before .before .before .before .before .before .put-decimal2 .ensures 19 (twenty-digits (c .before .before .before .before .before .before .before .before .before .before .before .before .before .before .before .before .before .before .before .before .before .before .before .args .place) (omega (arith, c .before .before .before .before .before .before .before .before .before .before .before .before .before .before .before .before .before .before .before .before .before .before .before .fits .place .fits))))) (c .before .before .put-byte .ensures)
+returns c =
+    let at-byte = c .before .before in let at-bytes = byte-bytes at-byte in
+    let start = bytes-start at-bytes in
+    puts-more (puts-more (puts-more (puts-more (at-bytes .put-bytes .ensures) (byte-decimal at-byte .put-decimal .ensures 19 (twenty-digits _ (omega (arith, start .fits .question .fits))))) (byte-bytes2 at-byte .put-bytes2 .ensures)) (byte-decimal2 at-byte .put-decimal2 .ensures 19 (twenty-digits _ (omega (arith, start .fits .place .fits))))) (at-byte .put-byte .ensures)
 
 pub put-refusal-spec : {M : Type 1} → statement M
 put-refusal-spec =

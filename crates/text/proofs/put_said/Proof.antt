@@ -8,8 +8,18 @@ use borrow.Author.Needs.{needs}
 use Rattle.text.proofs.put_said.Statement.{statement}
 use Rattle.text.proofs.put_said.Tie as tie
 
+-- the way from a place to one before it
+
+abbrev head-counts : tie.After-head → tie.After-put-counts
+head-counts c = c .before .before .before .before .before
+
+abbrev head-bytes : tie.After-head → tie.After-put-bytes
+head-bytes c = head-counts c .before .before .before .before
+
 returns : tie.Need-returns
-returns c = puts-more (puts-more (c .before .before .before .before .before .before .before .before .before .before .before .before .put-bytes .ensures) (c .before .before .before .before .before .before .before .before .put-counts .ensures)) (puts-as (ap (λ (q : List ℕ). lines q) (c .before .before .before .head .ensures)) (c .before .before .put-words .ensures))
+returns c =
+    let at-words = c .before .before in let at-head = at-words .before in
+    puts-more (puts-more (head-bytes at-head .put-bytes .ensures) (head-counts at-head .put-counts .ensures)) (puts-as (ap (λ (q : List ℕ). lines q) (at-head .head .ensures)) (at-words .put-words .ensures))
 
 pub put-said-spec : {M : Type 1} → statement M
 put-said-spec =
