@@ -12,6 +12,7 @@ use Rattle.messages.specs.Message.{Message, items, nameOf, firstItem}
 use Rattle.messages.specs.Spelling.{spelled, messageAt}
 use Rattle.messages.specs.declared.MessageWord.{MessageWord}
 use Rattle.messages.specs.declared.First.{First}
+use Rattle.messages.specs.declared.Named.{Named}
 use Rattle.messages.specs.declared.First.the-variants.{Nothing}
 use Rattle.bindings.specs.Resolve.{resolve, bindingsIn}
 use Rattle.slices.specs.Sums.{capped}
@@ -135,6 +136,11 @@ pub record Stands (script vs ps : List ℕ) (item : First) (s : Search) : Type 0
 abbrev pub turns : (vs : List ℕ) → Search → ℕ
 turns vs s = rank (length vs - s .older) (3 * s .left + s .pending)
 
+-- a search that goes on from s
+pub record On (script vs ps : List ℕ) (item : First) (s r : Search) : Type 0 where
+  pub fewer : turns vs r < turns vs s
+  pub stands : Stands script vs ps item r
+
 pub stands-first : (script vs ps : List ℕ) (at offset : ℕ) → offset < 4294967295 → Stands script vs ps (firstItem (drop offset (items (resolve (bindingsIn script vs ps) (messageAt (drop at script)))))) (searching (length script - at) 1 offset 0)
 stands-first script vs ps at offset h = record { within = omega arith; room = omega arith; small = h; older = omega arith; same = sought-first script vs ps at offset }
 
@@ -146,34 +152,33 @@ module _ {script vs ps cs : List ℕ} (ok : Kept itemCount script vs ps cs) (ite
     past : getD cs k 0 ≤ s .before → r ≡ searching (s .left - 1) (s .pending - 1) (s .before - getD cs k 0) (s .older) → Stands script vs ps item r
     past q x = rw x record { within = omega (arith, st .within); room = omega (arith, st .room); small = omega (arith, st .small); older = st .older; same = st .same ∙ sought-past ok (s .left) (s .pending) (s .before) (s .older) some k j at e h (st .within) q (st .small) }
 
-    module _ (f : s .before < getD cs k 0 → r ≡ searching (length script - getD ps k 0) 1 (s .before) (k + 1)) (g : getD cs k 0 ≤ s .before → r ≡ searching (s .left - 1) (s .pending - 1) (s .before - getD cs k 0) (s .older)) where
-      pub stands-variable : Stands script vs ps item r
-      stands-variable = byTest (ltb (s .before) (getD cs k 0)) (λ t. inside (ltb-true _ _ t) (f (ltb-true _ _ t))) (λ t. past (ltb-false _ _ t) (g (ltb-false _ _ t)))
-
-      pub fewer-variable : length script < 2 ^ 64 → turns vs r < turns vs s
-      fewer-variable w =
-          byTest (ltb (s .before) (getD cs k 0))
-          (λ t. rw (f (ltb-true _ _ t)) (rank-older _ _ _ _ _ refl (omega arith) (omega arith)))
-          (λ t. rw (g (ltb-false _ _ t)) (rank-less _ _ _ _ refl (omega (arith, some))))
+    pub on-variable : (s .before < getD cs k 0 → r ≡ searching (length script - getD ps k 0) 1 (s .before) (k + 1)) → (getD cs k 0 ≤ s .before → r ≡ searching (s .left - 1) (s .pending - 1) (s .before - getD cs k 0) (s .older)) → length script < 2 ^ 64 → On script vs ps item s r
+    on-variable f g w =
+        byTest (ltb (s .before) (getD cs k 0))
+        (λ t. record {
+          fewer = rw (f (ltb-true _ _ t)) (rank-older _ _ _ _ _ refl (omega arith) (omega arith));
+          stands = inside (ltb-true _ _ t) (f (ltb-true _ _ t));
+        })
+        (λ t. record { fewer = rw (g (ltb-false _ _ t)) (rank-less _ _ _ _ refl (omega (arith, some))); stands = past (ltb-false _ _ t) (g (ltb-false _ _ t)) })
 
   module _ (e : length (drop (s .older) vs) ≤ boundAt (firstWord (wordsLeft script (s .left))) (drop (s .older) vs)) where
-    pub stands-here : s .before < shapeOf (firstWord (wordsLeft script (s .left))) .items → plainItem (firstWord (wordsLeft script (s .left))) (nameOf (resolve (bindingsIn script (drop (s .older) vs) (drop (s .older) ps)) (messageAt (drop 1 (wordsLeft script (s .left)))))) ≡ item
-    stands-here q = sought-here ok (s .left) (s .pending) (s .before) (s .older) some e q ∙ sym (st .same)
+    pub stands-here : s .before < shapeOf (firstWord (wordsLeft script (s .left))) .items → (m : MessageWord) (n : Named) → m ≡ firstWord (wordsLeft script (s .left)) → n ≡ nameOf (resolve (bindingsIn script (drop (s .older) vs) (drop (s .older) ps)) (messageAt (drop 1 (wordsLeft script (s .left))))) → plainItem m n ≡ item
+    stands-here q m n x y = rw (x, y) (sought-here ok (s .left) (s .pending) (s .before) (s .older) some e q ∙ sym (st .same))
 
     module _ (u q : ℕ) (less : (q + length (drop u (wordsLeft script (s .left))) ≤ s .pending + length (wordsLeft script (s .left))) × (3 * length (drop u (wordsLeft script (s .left))) + q < 3 * length (wordsLeft script (s .left)) + s .pending)) where
       left-now : length (drop u (wordsLeft script (s .left))) ≡ s .left - u
       left-now = length-drop u (wordsLeft script (s .left)) ∙ ap (λ (n : ℕ). n - u) (left-length script (s .left) (st .within))
 
-      pub fewer-behind : (b : ℕ) → turns vs (searching (s .left - u) q b (s .older)) < turns vs s
-      fewer-behind b = rank-less _ _ _ _ refl (omega (arith, less .1, left-now, left-length script (s .left) (st .within)))
-
-      pub stands-behind : shapeOf (firstWord (wordsLeft script (s .left))) .items ≤ s .before
+      pub on-behind : shapeOf (firstWord (wordsLeft script (s .left))) .items ≤ s .before
           → allItems (bindingsIn script (drop (s .older) vs) (drop (s .older) ps)) (firsts (s .pending) (spelled (wordsLeft script (s .left)))) ≡ ownItems (bindingsIn script (drop (s .older) vs) (drop (s .older) ps)) (wordsLeft script (s .left)) ++ allItems (bindingsIn script (drop (s .older) vs) (drop (s .older) ps)) (firsts q (spelled (drop u (wordsLeft script (s .left)))))
-          → Stands script vs ps item (searching (s .left - u) q (s .before - shapeOf (firstWord (wordsLeft script (s .left))) .items) (s .older))
-      stands-behind y x = record {
-        within = omega (arith, st .within);
-        room = omega (arith, less .0, left-now, left-length script (s .left) (st .within), st .room);
-        small = omega (arith, st .small);
-        older = st .older;
-        same = st .same ∙ sought-behind ok (s .left) (s .pending) (s .before) (s .older) some e u q (st .within) x y (st .small);
+          → On script vs ps item s (searching (s .left - u) q (s .before - shapeOf (firstWord (wordsLeft script (s .left))) .items) (s .older))
+      on-behind y x = record {
+        fewer = rank-less _ _ _ _ refl (omega (arith, less .1, left-now, left-length script (s .left) (st .within)));
+        stands = record {
+          within = omega (arith, st .within);
+          room = omega (arith, less .0, left-now, left-length script (s .left) (st .within), st .room);
+          small = omega (arith, st .small);
+          older = st .older;
+          same = st .same ∙ sought-behind ok (s .left) (s .pending) (s .before) (s .older) some e u q (st .within) x y (st .small);
+        };
       }

@@ -37,27 +37,32 @@ abbrev count-from-claims : ℕ → count-from-lts.Claims
 count-from-claims t = (own-reads.Asked, own-reads.Learnt, after-own-reads.Asked, after-own-reads.Learnt, tail-reads.Asked, tail-reads.Learnt, count-from-below t, count-from.Post, sum-reads.Asked, sum-reads.Learnt)
 
 module _ (t : ℕ) where
+  -- the way from a place to one before it
+
+  abbrev then1-start : count-from-lts.Then1 (count-from-claims t) (count-from-at t) count-from.Post → count-from-lts.Start (count-from-claims t) (count-from-at t) count-from.Post
+  then1-start c = c .before .before .before .before
+
+  abbrev else1-start : count-from-lts.Else1 (count-from-claims t) (count-from-at t) count-from.Post → count-from-lts.Start (count-from-claims t) (count-from-at t) count-from.Post
+  else1-start c = c .before .before .before .before
+
+  abbrev tail-start : count-from-lts.After-tail (count-from-claims t) (count-from-at t) count-from.Post → count-from-lts.Start (count-from-claims t) (count-from-at t) count-from.Post
+  tail-start c = else1-start (c .before .before .before)
+
   count-from-returns : count-from-lts.Need-returns (count-from-claims t) (count-from-at t) count-from.Post
   count-from-returns c =
-      let s = c .before .before .before .before in
-      λ script places ok. no-items _ (none-pending (bindingsIn script (s .args .variables .now) places) _ (spelled (s .args .words .now)) (c .if1 .taken))
-
-  count-from-own-requires : count-from-lts.Need-own-requires (count-from-claims t) (count-from-at t) count-from.Post
-  count-from-own-requires c κs =
-      c .before .before .before .before .pre .1 .1
+      λ script places ok. no-items _ (none-pending (bindingsIn script (then1-start c .args .variables .now) places) _ (spelled (then1-start c .args .words .now)) (c .if1 .taken))
 
   count-from-count-from-requires : count-from-lts.Need-count-from-requires (count-from-claims t) (count-from-at t) count-from.Post
   count-from-count-from-requires c κs =
-      let l = ap length (c .tail .ensures) in
-      let room = c .before .after-own .ensures .0 in
-      (omega arith, (omega arith, c .before .before .before .before .before .before .before .pre .1 .1))
+      let l = ap length (c .tail .ensures) in let room = c .before .after-own .ensures .0 in
+      (omega arith, (omega arith, tail-start c .pre .1 .1))
 
   count-from-returns-2 : count-from-lts.Need-returns-2 (count-from-claims t) (count-from-at t) count-from.Post
   count-from-returns-2 c =
-      let s = c .before .before .before .before .before .before .before .before .before in
-      λ script places ok. let σ = bindingsIn script (s .args .variables .now) places in
-      items-sum _ (ownItems σ (s .args .words .now)) (allItems σ (firsts (c .before .before .before .after-own .result .left) (spelled (drop (c .before .before .before .after-own .result .used) (s .args .words .now)))))
-      (c .before .before .before .after-own .ensures .1 σ) (c .before .before .before .before .own .ensures script places ok) (rw (c .before .before .tail .ensures) at (c .before .count-from .ensures script places ok)) (c .sum .ensures)
+      let at-tail = c .before .before in let start = tail-start at-tail in
+      λ script places ok. let σ = bindingsIn script (start .args .variables .now) places in
+      items-sum _ (ownItems σ (start .args .words .now)) (allItems σ (firsts (at-tail .before .after-own .result .left) (spelled (drop (at-tail .before .after-own .result .used) (start .args .words .now)))))
+      (at-tail .before .after-own .ensures .1 σ) (at-tail .before .before .own .ensures script places ok) (rw (at-tail .tail .ensures) at (c .before .count-from .ensures script places ok)) (c .sum .ensures)
 
 pub +count-from-spec : {M : Type 1} → statement M
 +count-from-spec =
@@ -68,7 +73,7 @@ pub +count-from-spec : {M : Type 1} → statement M
     (count-from-at t)
     count-from.Post
     (count-from-returns t)
-    (count-from-own-requires t)
+    (λ c κs. else1-start t c .pre .1 .1)
     (λ c κs. omega arith)
     (λ c κs. search needs)
     (count-from-count-from-requires t)

@@ -32,6 +32,11 @@ abbrev name-of-claims : ℕ → name-of-lts.Claims
 name-of-claims t = (first-word-reads.Asked, first-word-reads.Learnt, bound-reads.Asked, bound-reads.Learnt, given-reads.Asked, given-reads.Learnt, tail-reads.Asked, tail-reads.Learnt, name-of-below t, name-of.Post, plain-name-reads.Asked, plain-name-reads.Learnt)
 
 module _ (t : ℕ) where
+  -- the way from a place to one before it
+
+  abbrev bound-start : name-of-lts.After-bound (name-of-claims t) (name-of-at t) name-of.Post → name-of-lts.Start (name-of-claims t) (name-of-at t) name-of.Post
+  bound-start c = c .before .before .before .before .before .before
+
   name-of-name-of-requires : name-of-lts.Need-name-of-requires (name-of-claims t) (name-of-at t) name-of.Post
   name-of-name-of-requires c κs =
       let l = simp length-drop at (ap length (c .before .tail .ensures)) in
@@ -40,17 +45,18 @@ module _ (t : ℕ) where
 
   name-of-returns : name-of-lts.Need-returns (name-of-claims t) (name-of-at t) name-of.Post
   name-of-returns c =
-      let s = c .before .before .before .before .before .before .before .before .before .before .before in
+      let at-tail = c .before .before in let at-given = at-tail .before in let at-then1 = at-given .before in
+      let at-bound = at-then1 .before in let start = bound-start at-bound in
       c .name-of .ensures
-      ∙ rw (c .before .before .before .given .ensures, c .before .before .tail .ensures, c .before .tail2 .ensures)
-      (ap nameOf (given-message (s .args .script .now) (s .args .variables .now) (s .args .places .now) (s .pre .1) (c .before .before .before .before .before .bound .result) (c .before .before .before .before .if1 .taken) (s .args .words .now) (rw (c .before .before .before .before .before .before .first-word .ensures) at (c .before .before .before .before .before .bound .ensures))))
+      ∙ rw (at-given .given .ensures, at-tail .tail .ensures, c .before .tail2 .ensures)
+      (ap nameOf (given-message (start .args .script .now) (start .args .variables .now) (start .args .places .now) (start .pre .1) (at-bound .bound .result) (at-then1 .if1 .taken) (start .args .words .now) (rw (at-bound .before .first-word .ensures) at (at-bound .bound .ensures))))
 
   name-of-returns-2 : name-of-lts.Need-returns-2 (name-of-claims t) (name-of-at t) name-of.Post
   name-of-returns-2 c =
-      let s = c .before .before .before .before .before .before .before .before in
-      let e = rw (c .before .before .before .first-word .ensures) at (c .before .before .bound .ensures) in
+      let at-bound = c .before .before in let start = bound-start at-bound in
+      let e = rw (at-bound .before .first-word .ensures) at (at-bound .bound .ensures) in
       c .plain-name .ensures
-      ∙ rw (c .before .before .before .first-word .ensures) (sym (name-free _ (s .args .words .now) (unbound-free (s .args .script .now) (s .args .variables .now) (s .args .places .now) _ (omega (arith, c .before .if1 .left)))))
+      ∙ rw (at-bound .before .first-word .ensures) (sym (name-free _ (start .args .words .now) (unbound-free (start .args .script .now) (start .args .variables .now) (start .args .places .now) _ (omega (arith, c .before .if1 .left)))))
 
 pub +name-of-spec : {M : Type 1} → statement M
 +name-of-spec =

@@ -30,35 +30,26 @@ abbrev skip-claims : ℕ → skip-lts.Claims
 skip-claims t = (first-word-reads.Asked, first-word-reads.Learnt, arity-reads.Asked, arity-reads.Learnt, tail-reads.Asked, tail-reads.Learnt, skip-below t, skip.Post)
 
 module _ (t : ℕ) where
-  skip-returns : skip-lts.Need-returns (skip-claims t) (skip-at t) skip.Post
-  skip-returns c =
-      (omega arith, rw (c .if1 .taken))
+  -- the way from a place to one before it
+
+  abbrev tail-start : skip-lts.After-tail (skip-claims t) (skip-at t) skip.Post → skip-lts.Start (skip-claims t) (skip-at t) skip.Post
+  tail-start c = c .before .before .before .before .before .before
 
   skip-returns-2 : skip-lts.Need-returns-2 (skip-claims t) (skip-at t) skip.Post
   skip-returns-2 c =
-      let s = c .before .before .before in
-      (omega arith, skip-none (s .args .words .now) (s .args .pending) (c .if2 .taken))
-
-  skip-add-skip : skip-lts.Need-add-skip (skip-claims t) (skip-at t) skip.Post
-  skip-add-skip c =
-      omega (arith, c .before .arity .ensures, arity-small (c .before .before .first-word .result))
+      let start = c .before .before .before in
+      (omega arith, skip-none (start .args .words .now) (start .args .pending) (c .if2 .taken))
 
   skip-skip-requires : skip-lts.Need-skip-requires (skip-claims t) (skip-at t) skip.Post
   skip-skip-requires c κs =
-      let l = ap length (c .tail .ensures) in
-      let d = length-drop 1 (c .before .before .before .before .before .before .args .words .now) in
+      let l = ap length (c .tail .ensures) in let d = length-drop 1 (tail-start c .args .words .now) in
       (omega arith, omega (arith, c .before .arity .ensures, arity-small (c .before .before .first-word .result)))
-
-  skip-add-result : skip-lts.Need-add-result (skip-claims t) (skip-at t) skip.Post
-  skip-add-result c =
-      omega (arith, ap length (c .before .tail .ensures), length-drop 1 (c .before .before .before .before .before .before .before .args .words .now))
 
   skip-returns-3 : skip-lts.Need-returns-3 (skip-claims t) (skip-at t) skip.Post
   skip-returns-3 c =
-      let s = c .before .before .before .before .before .before .before in
-      let l = ap length (c .before .tail .ensures) in
-      let d = length-drop 1 (s .args .words .now) in
-      (omega arith, skip-some (s .args .words .now) (s .args .pending) (c .skip .result) (omega arith) (omega arith) (rw (c .before .tail .ensures, c .before .before .arity .ensures, c .before .before .before .first-word .ensures) at (c .skip .ensures .1)))
+      let at-arity = c .before .before in let start = tail-start (c .before) in
+      let l = ap length (c .before .tail .ensures) in let d = length-drop 1 (start .args .words .now) in
+      (omega arith, skip-some (start .args .words .now) (start .args .pending) (c .skip .result) (omega arith) (omega arith) (rw (c .before .tail .ensures, at-arity .arity .ensures, at-arity .before .first-word .ensures) at (c .skip .ensures .1)))
 
 pub +skip-spec : {M : Type 1} → statement M
 +skip-spec =
@@ -68,13 +59,13 @@ pub +skip-spec : {M : Type 1} → statement M
     (skip-claims t)
     (skip-at t)
     skip.Post
-    (skip-returns t)
+    (λ c. (omega arith, rw (c .if1 .taken)))
     (skip-returns-2 t)
     (λ c κs. search needs)
     (λ c κs. search needs)
     (λ c κs. search needs)
     (λ c. omega arith)
-    (skip-add-skip t)
+    (λ c. omega (arith, c .before .arity .ensures, arity-small (c .before .before .first-word .result)))
     (skip-skip-requires t)
-    (skip-add-result t)
+    (λ c. omega (arith, ap length (c .before .tail .ensures), length-drop 1 (tail-start t (c .before) .args .words .now)))
     (skip-returns-3 t))

@@ -11,21 +11,20 @@ use Rattle.bindings.proofs.Counting.{kept-length}
 use Rattle.bindings.proofs.item_count.Statement.{statement}
 use Rattle.bindings.proofs.item_count.Tie as tie
 
-count-from-requires : tie.Need-count-from-requires
-count-from-requires c κs =
-    let s = c .before .before .before .before .before in
-    (omega (arith, ap length (c .tail .ensures), length-drop (s .args .at) (s .args .script .now)), kept-length (s .pre))
+-- the start, from the first call
+abbrev known-start : tie.After-shared-slice-known4 → tie.Start
+known-start c = c .before .before .before .before
 
 returns : tie.Need-returns
 returns c =
-    let s = c .before .before .before .before .before .before in
-    (rw (c .before .tail .ensures) at (c .count-from .ensures (s .args .script .now) (s .args .places .now) (s .pre)))
-    ∙ ap (λ (l : List Message). capped (length l)) (one-message _ (drop (s .args .at) (s .args .script .now)))
+    let start = known-start (c .before .before) in
+    (rw (c .before .tail .ensures) at (c .count-from .ensures (start .args .script .now) (start .args .places .now) (start .pre)))
+    ∙ ap (λ (l : List Message). capped (length l)) (one-message _ (drop (start .args .at) (start .args .script .now)))
 
 pub item-count-spec : {M : Type 1} → statement M
 item-count-spec =
     tie.close
     (tie.spec
     (λ c κs. search needs)
-    count-from-requires
+    (λ c κs. (omega (arith, ap length (c .tail .ensures), length-drop (known-start (c .before) .args .at) (known-start (c .before) .args .script .now)), kept-length (known-start (c .before) .pre)))
     returns)

@@ -7,16 +7,23 @@ use Rattle.bindings.proofs.Resolving.{message-word, message-given, reso
 use Rattle.bindings.proofs.name_at.Statement.{statement}
 use Rattle.bindings.proofs.name_at.Tie as tie
 
+-- the way from a place to one before it
+
+abbrev else1-start : tie.Else1 → tie.Start
+else1-start c = c .before .before .before .before
+
+abbrev wide-start : tie.After-wide → tie.Start
+wide-start c = c .before .before .before .before .before
+
 returns : tie.Need-returns
 returns c =
-    let s = c .before .before .before .before .before .before .before in
-    c .name-of .ensures ∙ rw (c .before .tail .ensures, c .before .before .wide .ensures, message-word (s .args .script .now) (s .args .start) (lt-ltb _ _ (c .before .before .before .if1 .taken)))
+    let at-wide = c .before .before in
+    c .name-of .ensures ∙ rw (c .before .tail .ensures, at-wide .wide .ensures, message-word (wide-start at-wide .args .script .now) (wide-start at-wide .args .start) (lt-ltb _ _ (at-wide .before .if1 .taken)))
 
 returns-2 : tie.Need-returns-2
 unfolding nameOf
 returns-2 c =
-    let s = c .before .before .before .before in
-    rw (message-given (s .args .script .now) (s .args .start) (le-ltb _ _ (c .if1 .left)), resolve-name)
+    rw (message-given (else1-start c .args .script .now) (else1-start c .args .start) (le-ltb _ _ (c .if1 .left)), resolve-name)
 
 pub name-at-spec : {M : Type 1} → statement M
 name-at-spec =

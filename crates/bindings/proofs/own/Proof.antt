@@ -13,18 +13,23 @@ use Rattle.bindings.proofs.Counting.{capped-shape, kept-given}
 use Rattle.bindings.proofs.own.Statement.{statement}
 use Rattle.bindings.proofs.own.Tie as tie
 
+-- the way from a place to one before it
+
+abbrev bound-start : tie.After-bound → tie.Start
+bound-start c = c .before .before .before .before .before
+
 returns : tie.Need-returns
 returns c =
-    let s = c .before .before .before .before .before .before .before in
-    λ script places ok. kept-given ok (c .before .before .bound .result) (c .before .if1 .taken)
-    ∙ ap (λ (l : List Message). capped (length l)) (given-items script (s .args .variables .now) places (ok .aligned) (c .before .before .bound .result) (c .before .if1 .taken) (s .args .words .now) (rw (c .before .before .before .first-word .ensures) at (c .before .before .bound .ensures)))
+    let at-bound = c .before .before in
+    λ script places ok. kept-given ok _ (c .before .if1 .taken)
+    ∙ ap (λ (l : List Message). capped (length l)) (given-items script (bound-start at-bound .args .variables .now) places (ok .aligned) _ (c .before .if1 .taken) (bound-start at-bound .args .words .now) (rw (at-bound .before .first-word .ensures) at (at-bound .bound .ensures)))
 
 returns-2 : tie.Need-returns-2
 returns-2 c =
-    let s = c .before .before .before .before .before .before .before in
-    λ script places ok. let e = rw (c .before .before .before .first-word .ensures) at (c .before .before .bound .ensures) in
-    rw (c .shape-of .ensures, c .before .before .before .first-word .ensures)
-    (capped-shape (bindingsIn script (s .args .variables .now) places) (s .args .words .now) (unbound-free script (s .args .variables .now) places _ (omega (arith, c .before .if1 .left))))
+    let at-bound = c .before .before in let start = bound-start at-bound in
+    λ script places ok. let e = rw (at-bound .before .first-word .ensures) at (at-bound .bound .ensures) in
+    rw (c .shape-of .ensures, at-bound .before .first-word .ensures)
+    (capped-shape (bindingsIn script (start .args .variables .now) places) (start .args .words .now) (unbound-free script (start .args .variables .now) places _ (omega (arith, c .before .if1 .left))))
 
 pub own-spec : {M : Type 1} → statement M
 own-spec =

@@ -5,18 +5,10 @@ use Rattle.message_words.proofs.FirstWords.{arity-small}
 use Rattle.message_words.proofs.arity.Statement.{statement}
 use Rattle.message_words.proofs.arity.Tie as tie
 
-add-result : tie.Need-add-result
-add-result c =
-    rw (c .before .shape-of .ensures) (let l = arity-small (c .before .before .args .m) in omega arith)
-
-returns : tie.Need-returns
-returns c =
-    rw (c .before .shape-of .ensures)
-
 pub arity-spec : {M : Type 1} → statement M
 arity-spec =
     tie.close
     (tie.spec
     (λ c κs. search needs)
-    add-result
-    returns)
+    (λ c. rw (c .before .shape-of .ensures) (let l = arity-small (c .before .before .args .m) in omega arith))
+    (λ c. rw (c .before .shape-of .ensures)))

@@ -12,20 +12,15 @@ Inv-loop variables v n i₀ i = (i ≤ n) × Past variables v i
 abbrev μ-loop : tie.MeasureT-loop
 μ-loop variables v n i₀ i = n - i
 
-loop-holds : tie.Need-loop-holds Inv-loop μ-loop
-loop-holds c = (omega arith, past-none _ _)
-
 returns : tie.Need-returns Inv-loop μ-loop
 returns c =
-    past-here _ _ _ (c .before .before .before .loop .inv .1) (c .before .before .loop-test .taken) (c .if1 .taken)
+    let at-in-loop = c .before .before in
+    past-here _ _ _ (at-in-loop .before .loop .inv .1) (at-in-loop .loop-test .taken) (c .if1 .taken)
 
 loop-again : tie.Need-loop-again Inv-loop μ-loop
 loop-again c =
-    (omega (arith, c .before .before .loop-test .taken), past-more _ _ _ (c .before .before .before .loop .inv .1) (c .before .before .loop-test .taken) (c .if1 .left))
-
-returns-2 : tie.Need-returns-2 Inv-loop μ-loop
-returns-2 c =
-    past-all _ _ (c .before .loop .i) (c .before .loop .inv .1) (omega (arith, c .before .loop .inv .0, c .loop-test .left))
+    let at-in-loop = c .before .before in
+    (omega (arith, at-in-loop .loop-test .taken), past-more _ _ _ (at-in-loop .before .loop .inv .1) (at-in-loop .loop-test .taken) (c .if1 .left))
 
 pub find-spec : {M : Type 1} → statement M
 find-spec =
@@ -33,11 +28,11 @@ find-spec =
     (tie.spec
     Inv-loop
     μ-loop
-    loop-holds
+    (λ c. (omega arith, past-none _ _))
     (λ c. search needs)
     (λ c. search needs)
     returns
     (λ c. search needs)
     (λ c. search needs)
     loop-again
-    returns-2)
+    (λ c. past-all _ _ _ (c .before .loop .inv .1) (omega (arith, c .before .loop .inv .0, c .loop-test .left))))

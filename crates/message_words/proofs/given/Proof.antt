@@ -3,10 +3,6 @@ use borrow.Author.Needs.{needs}
 use Rattle.message_words.proofs.given.Statement.{statement}
 use Rattle.message_words.proofs.given.Tie as tie
 
-returns : tie.Need-returns
-returns c =
-    rw (c .before .wide .ensures) at (c .tail .ensures)
-
 pub given-spec : {M : Type 1} → statement M
 given-spec =
     tie.close
@@ -15,4 +11,4 @@ given-spec =
     (λ c. search needs)
     (λ c κs. search needs)
     (λ c κs. search needs)
-    returns)
+    (λ c. rw (c .before .wide .ensures) at (c .tail .ensures)))

@@ -8,55 +8,49 @@ use borrow.Author.Needs.{needs}
 use Rattle.rule_reader.proofs.read_whole_rule.Statement.{statement}
 use Rattle.rule_reader.proofs.read_whole_rule.Tie as tie
 
+-- the way from a place to one before it
+
+abbrev read-rule-start : tie.After-read-rule → tie.Start
+read-rule-start c = c .before .before .before .before .before
+
+abbrev else4-o : tie.Else4 → tie.After-o
+else4-o c = c .before .before .before
+
+abbrev refused4-o : tie.After-refused4 → tie.After-o
+refused4-o c = c .before .before .before .before
+
 -- question 7 and the rule's reading
-read : (c : tie.After-read-rule) → RuleAsked (c .before .before .before .before .before .args .parts) (c .before .before .before .before .before .args .rule .now) (c .read-rule .result)
+read : (c : tie.After-read-rule) → RuleAsked (read-rule-start c .args .parts) (read-rule-start c .args .rule .now) (c .read-rule .result)
 read c = record { some = omega arith; most = omega arith; rule = rw (c .before .vacant .ensures) at (c .read-rule .ensures) }
 
-returns : tie.Need-returns
-returns c = answers _ _ _ (c .refused .ensures ∙ rule-none _ (c .before .before .before .args .rule .now) (c .before .if1 .taken))
-
-returns-2 : tie.Need-returns-2
-returns-2 c = answers _ _ _ (c .refused2 .ensures ∙ rule-long _ (c .before .before .before .before .args .rule .now) (c .before .if2 .taken))
-
-read-rule-requires : tie.Need-read-rule-requires
-read-rule-requires c κs = omega (arith, ap (λ (x : RuleTable). x .count) (c .vacant .ensures))
-
-returns-3 : tie.Need-returns-3
-returns-3 c = answers _ _ _ (rule-refused (c .before .before .before .before .before .before .before .args .parts) (read (c .before .before)) _ _ (c .enum-told .given .1))
-
 returns-4 : tie.Need-returns-4
-returns-4 c = answers _ _ _ (c .refused3 .ensures ∙ rule-behind (c .before .before .before .before .before .before .before .before .before .before .args .parts) (read (c .before .before .before .before .before)) _ (c .before .before .before .o .given .1) (omega arith))
-
-returns-5 : tie.Need-returns-5
-returns-5 c = answers _ _ _ (c .refused4 .ensures ∙ rule-many (c .before .before .before .before .before .before .before .before .before .before .before .args .parts) (read (c .before .before .before .before .before .before)) _ (c .before .before .before .before .o .given .1) (omega arith) (omega arith))
-
-add-if5 : tie.Need-add-if5
-add-if5 c = omega (arith, rule-fewer (c .before .before .before .before .before .before .before .before .before .before .args .parts) (read (c .before .before .before .before .before)) _ (c .before .before .before .o .given .1))
+returns-4 c =
+    let at-o = c .before .before .before in
+    answers _ _ _ (c .refused3 .ensures ∙ rule-behind _ (read (at-o .before .before)) _ (at-o .o .given .1) (omega arith))
 
 returns-6 : tie.Need-returns-6
-returns-6 c = answers _ _ _ (c .refused5 .ensures ∙ rule-many (c .before .before .before .before .before .before .before .before .before .before .before .before .args .parts) (read (c .before .before .before .before .before .before .before)) _ (c .before .before .before .before .before .o .given .1) (omega arith) (omega arith))
-
-returns-7 : tie.Need-returns-7
-returns-7 c = answers _ _ _ (rule-whole (c .before .before .before .before .before .before .before .before .before .before .before .args .parts) (read (c .before .before .before .before .before .before)) _ (c .before .before .before .before .o .given .1) (omega arith) (omega arith))
+returns-6 c =
+    let at-o = else4-o (c .before .before) in
+    answers _ _ _ (c .refused5 .ensures ∙ rule-many _ (read (at-o .before .before)) _ (at-o .o .given .1) (omega arith) (omega arith))
 
 pub read-whole-rule-spec : {M : Type 1} → statement M
 read-whole-rule-spec =
     tie.close
     (tie.spec
     (λ c κs. search needs)
-    returns
+    (λ c. answers _ _ _ (c .refused .ensures ∙ rule-none _ _ (c .before .if1 .taken)))
     (λ c κs. search needs)
-    returns-2
+    (λ c. answers _ _ _ (c .refused2 .ensures ∙ rule-long _ _ (c .before .if2 .taken)))
     (λ c κs. search needs)
-    read-rule-requires
+    (λ c κs. omega (arith, ap (λ (x : RuleTable). x .count) (c .vacant .ensures)))
     (λ c. search needs)
     (λ c. search needs)
-    returns-3
+    (λ c. answers _ _ _ (rule-refused _ (read (c .before .before)) _ _ (c .enum-told .given .1)))
     (λ c κs. search needs)
     returns-4
     (λ c κs. search needs)
-    returns-5
-    add-if5
+    (λ c. answers _ _ _ (c .refused4 .ensures ∙ rule-many _ (read (refused4-o c .before .before)) _ (refused4-o c .o .given .1) (omega arith) (omega arith)))
+    (λ c. omega (arith, rule-fewer (read-rule-start (else4-o c .before .before) .args .parts) (read (else4-o c .before .before)) _ (else4-o c .o .given .1)))
     (λ c κs. search needs)
     returns-6
-    returns-7)
+    (λ c. answers _ _ _ (rule-whole _ (read (else4-o (c .before) .before .before)) _ (else4-o (c .before) .o .given .1) (omega arith) (omega arith))))

@@ -15,14 +15,15 @@ Inv-loop rule greatest₀ i₀ greatest i = (i ≤ length rule) × (greatest ≡
 abbrev μ-loop : tie.MeasureT-loop
 μ-loop rule greatest₀ i₀ greatest i = i
 
-loop-holds : tie.Need-loop-holds Inv-loop μ-loop
-loop-holds c = (search needs, sym (greatest-end (c .before .args .rule .now)))
-
 loop-again : tie.Need-loop-again Inv-loop μ-loop
-loop-again c = (search needs, greatest-more (c .before .before .before .before .before .before .args .rule .now) _ _ _ (c .before .before .before .loop-test .taken) (c .before .before .before .before .loop .inv .0) (c .before .before .before .before .loop .inv .1) (omega arith))
+loop-again c =
+    let at-in-loop = c .before .before .before in
+    (search needs, greatest-more _ _ _ _ (at-in-loop .loop-test .taken) (at-in-loop .before .loop .inv .0) (at-in-loop .before .loop .inv .1) (omega arith))
 
 loop-again-2 : tie.Need-loop-again-2 Inv-loop μ-loop
-loop-again-2 c = (search needs, greatest-more (c .before .before .before .before .before .before .args .rule .now) _ _ _ (c .before .before .before .loop-test .taken) (c .before .before .before .before .loop .inv .0) (c .before .before .before .before .loop .inv .1) (omega arith))
+loop-again-2 c =
+    let at-in-loop = c .before .before .before in
+    (search needs, greatest-more _ _ _ _ (at-in-loop .loop-test .taken) (at-in-loop .before .loop .inv .0) (at-in-loop .before .loop .inv .1) (omega arith))
 
 returns : tie.Need-returns Inv-loop μ-loop
 returns c =
@@ -35,7 +36,7 @@ greatest-rule-name-spec =
     (tie.spec
     Inv-loop
     μ-loop
-    loop-holds
+    (λ c. (search needs, sym (greatest-end (c .before .args .rule .now))))
     (λ c. search needs)
     (λ c. search needs)
     (λ c. search needs)

@@ -10,6 +10,11 @@ use borrow.Author.Needs.{needs}
 use Rattle.scripts.proofs.enter_part.Statement.{statement}
 use Rattle.scripts.proofs.enter_part.Tie as tie
 
+-- the way from a place to one before it
+
+abbrev with-start : tie.After-with → tie.Start
+with-start c = c .before .before .before .before
+
 returns : tie.Need-returns
 unfolding entered
 returns c = rw (le-ltb (c .before .args .table .count) 64 (omega arith))
@@ -17,12 +22,12 @@ returns c = rw (le-ltb (c .before .args .table .count) 64 (omega arith))
 returns-2 : tie.Need-returns-2
 unfolding entered
 returns-2 c =
-    let l : length (c .before .before .args .table .kids) ≡ 65 = search needs in
-    rw (lt-ltb (c .before .before .args .table .count) 64 (omega arith), set-out (c .before .before .args .table .kids) (c .before .before .args .owner) _ (omega arith))
+    let start = c .before .before in let l : length (start .args .table .kids) ≡ 65 = search needs in
+    rw (lt-ltb (start .args .table .count) 64 (omega arith), set-out (start .args .table .kids) (start .args .owner) _ (omega arith))
 
 returns-3 : tie.Need-returns-3
 unfolding entered
-returns-3 c = rw (lt-ltb (c .before .before .before .before .args .table .count) 64 (omega arith), ← c .with .ensures, mask-members _ (c .with .ok))
+returns-3 c = rw (lt-ltb (with-start c .args .table .count) 64 (omega arith), ← c .with .ensures, mask-members _ (c .with .ok))
 
 pub enter-part-spec : {M : Type 1} → statement M
 enter-part-spec =

@@ -16,20 +16,23 @@ Inv-loop s greatest₀ i₀ greatest i = (i ≤ length s) × (greatest ≡ great
 abbrev μ-loop : tie.MeasureT-loop
 μ-loop s greatest₀ i₀ greatest i = i
 
-loop-holds : tie.Need-loop-holds Inv-loop μ-loop
-loop-holds c = (search needs, sym (greatest-end (c .args .s .now)))
-
 loop-again : tie.Need-loop-again Inv-loop μ-loop
 unfolding kind operand
-loop-again c = (search needs, greatest-name (c .before .before .before .before .before .args .s .now) _ _ (c .before .before .before .loop-test .taken) (c .before .before .before .before .loop .inv .0) (c .before .before .before .before .loop .inv .1) _ (c .before .if1 .taken) (omega arith))
+loop-again c =
+    let at-in-loop = c .before .before .before in
+    (search needs, greatest-name _ _ _ (at-in-loop .loop-test .taken) (at-in-loop .before .loop .inv .0) (at-in-loop .before .loop .inv .1) _ (c .before .if1 .taken) (omega arith))
 
 loop-again-2 : tie.Need-loop-again-2 Inv-loop μ-loop
 unfolding kind operand
-loop-again-2 c = (search needs, greatest-name (c .before .before .before .before .before .args .s .now) _ _ (c .before .before .before .loop-test .taken) (c .before .before .before .before .loop .inv .0) (c .before .before .before .before .loop .inv .1) _ (c .before .if1 .taken) (omega arith))
+loop-again-2 c =
+    let at-in-loop = c .before .before .before in
+    (search needs, greatest-name _ _ _ (at-in-loop .loop-test .taken) (at-in-loop .before .loop .inv .0) (at-in-loop .before .loop .inv .1) _ (c .before .if1 .taken) (omega arith))
 
 loop-again-3 : tie.Need-loop-again-3 Inv-loop μ-loop
 unfolding kind operand
-loop-again-3 c = (search needs, greatest-other (c .before .before .before .before .args .s .now) _ _ (c .before .before .loop-test .taken) (c .before .before .before .loop .inv .0) (c .before .before .before .loop .inv .1) (c .if1 .left))
+loop-again-3 c =
+    let at-in-loop = c .before .before in
+    (search needs, greatest-other _ _ _ (at-in-loop .loop-test .taken) (at-in-loop .before .loop .inv .0) (at-in-loop .before .loop .inv .1) (c .if1 .left))
 
 returns : tie.Need-returns Inv-loop μ-loop
 returns c =
@@ -42,7 +45,7 @@ greatest-name-spec =
     (tie.spec
     Inv-loop
     μ-loop
-    loop-holds
+    (λ c. (search needs, sym (greatest-end (c .args .s .now))))
     (λ c. search needs)
     (λ c. search needs)
     (λ c. search needs)
