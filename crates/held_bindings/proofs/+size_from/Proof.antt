@@ -40,34 +40,41 @@ abbrev size-from-claims : ℕ → size-from-lts.Claims
 size-from-claims t = (first-word-reads.Asked, first-word-reads.Learnt, own-size-reads.Asked, own-size-reads.Learnt, arity-reads.Asked, arity-reads.Learnt, tail-reads.Asked, tail-reads.Learnt, size-from-below t, size-from.Post, sum-reads.Asked, sum-reads.Learnt)
 
 module _ (t : ℕ) where
+  -- the way from a place to one before it
+
+  abbrev then1-start : size-from-lts.Then1 (size-from-claims t) (size-from-at t) size-from.Post → size-from-lts.Start (size-from-claims t) (size-from-at t) size-from.Post
+  then1-start c = c .before .before .before .before
+
+  abbrev first-word-start : size-from-lts.After-first-word (size-from-claims t) (size-from-at t) size-from.Post → size-from-lts.Start (size-from-claims t) (size-from-at t) size-from.Post
+  first-word-start c = c .before .before .before .before .before
+
+  abbrev tail-first-word : size-from-lts.After-tail (size-from-claims t) (size-from-at t) size-from.Post → size-from-lts.After-first-word (size-from-claims t) (size-from-at t) size-from.Post
+  tail-first-word c = c .before .before .before
+
+  abbrev tail-start : size-from-lts.After-tail (size-from-claims t) (size-from-at t) size-from.Post → size-from-lts.Start (size-from-claims t) (size-from-at t) size-from.Post
+  tail-start c = first-word-start (tail-first-word c)
+
   size-from-returns : size-from-lts.Need-returns (size-from-claims t) (size-from-at t) size-from.Post
   size-from-returns c =
-      let s = c .before .before .before .before in
-      λ script places ok. none-size (bindingsIn script (s .args .variables .now) places) (s .args .pending) (spelled (s .args .words .now)) (c .if1 .taken)
-
-  size-from-own-size-requires : size-from-lts.Need-own-size-requires (size-from-claims t) (size-from-at t) size-from.Post
-  size-from-own-size-requires c κs =
-      c .before .before .before .before .before .pre .1 .1
+      λ script places ok. none-size (bindingsIn script (then1-start c .args .variables .now) places) (then1-start c .args .pending) (spelled (then1-start c .args .words .now)) (c .if1 .taken)
 
   size-from-add-size-from : size-from-lts.Need-add-size-from (size-from-claims t) (size-from-at t) size-from.Post
   size-from-add-size-from c =
-      let s = c .before .before .before .before .before .before .before .before in
-      rw (c .before .arity .ensures, c .before .before .before .first-word .ensures) (omega (arith, room (s .args .words .now) (s .args .pending) (arityOf (firstWord (s .args .words .now))) 0 (omega arith) (omega arith) .0))
+      rw (c .before .arity .ensures, tail-first-word c .first-word .ensures) (omega (arith, room (tail-start c .args .words .now) (tail-start c .args .pending) (arityOf (firstWord (tail-start c .args .words .now))) 0 (omega arith) (omega arith) .0))
 
   size-from-size-from-requires : size-from-lts.Need-size-from-requires (size-from-claims t) (size-from-at t) size-from.Post
   size-from-size-from-requires c κs =
-      let s = c .before .before .before .before .before .before .before .before in
       let l = ap length (c .tail .ensures) in
-      let r = room (s .args .words .now) (s .args .pending) (arityOf (firstWord (s .args .words .now))) 0 (omega arith) (omega arith) in
-      rw (c .before .arity .ensures, c .before .before .before .first-word .ensures) (omega arith, (omega arith, s .pre .1 .1))
+      let r = room (tail-start c .args .words .now) (tail-start c .args .pending) (arityOf (firstWord (tail-start c .args .words .now))) 0 (omega arith) (omega arith) in
+      rw (c .before .arity .ensures, tail-first-word c .first-word .ensures) (omega arith, (omega arith, tail-start c .pre .1 .1))
 
   size-from-returns-2 : size-from-lts.Need-returns-2 (size-from-claims t) (size-from-at t) size-from.Post
   size-from-returns-2 c =
-      let s = c .before .before .before .before .before .before .before .before .before .before in
-      λ script places ok. let σ = bindingsIn script (s .args .variables .now) places in
-      capped-sum (ownSize σ (firstWord (s .args .words .now))) (allSizes σ (firsts (s .args .pending - 1 + arityOf (firstWord (s .args .words .now))) (spelled (drop 1 (s .args .words .now)))))
-      (sizes-first σ (s .args .words .now) (s .args .pending) (omega arith))
-      (rw (c .before .before .before .before .before .first-word .ensures) at (c .before .before .before .before .own-size .ensures script places ok)) (rw (c .before .before .tail .ensures, c .before .before .before .arity .ensures, c .before .before .before .before .before .first-word .ensures) at (c .before .size-from .ensures script places ok)) (c .sum .ensures)
+      let at-tail = c .before .before in let start = tail-start at-tail in
+      λ script places ok. let σ = bindingsIn script (start .args .variables .now) places in
+      capped-sum (ownSize σ (firstWord (start .args .words .now))) (allSizes σ (firsts (start .args .pending - 1 + arityOf (firstWord (start .args .words .now))) (spelled (drop 1 (start .args .words .now)))))
+      (sizes-first σ (start .args .words .now) (start .args .pending) (omega arith))
+      (rw (tail-first-word at-tail .first-word .ensures) at (at-tail .before .before .own-size .ensures script places ok)) (rw (at-tail .tail .ensures, at-tail .before .arity .ensures, tail-first-word at-tail .first-word .ensures) at (c .before .size-from .ensures script places ok)) (c .sum .ensures)
 
 pub +size-from-spec : {M : Type 1} → statement M
 +size-from-spec =
@@ -79,7 +86,7 @@ pub +size-from-spec : {M : Type 1} → statement M
     size-from.Post
     (size-from-returns t)
     (λ c κs. search needs)
-    (size-from-own-size-requires t)
+    (λ c κs. first-word-start t c .pre .1 .1)
     (λ c κs. search needs)
     (λ c κs. search needs)
     (λ c. omega arith)

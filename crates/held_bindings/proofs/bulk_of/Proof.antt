@@ -10,11 +10,15 @@ use Rattle.bindings.proofs.Passing.{one-message}
 use Rattle.held_bindings.proofs.bulk_of.Statement.{statement}
 use Rattle.held_bindings.proofs.bulk_of.Tie as tie
 
+-- the way from a place to one before it
+
+abbrev tail-start : tie.After-tail → tie.Start
+tail-start c = c .before .before .before .before .before .before .before
+
 returns : tie.Need-returns
 returns c =
-    let s = c .before .before .before .before .before .before .before .before in
     (rw (c .before .tail .ensures) at (c .bulk-from .ensures))
-    ∙ ap (λ (l : List Message). capped (bulk l)) (one-message _ (drop (s .args .at) (s .args .script .now)))
+    ∙ ap (λ (l : List Message). capped (bulk l)) (one-message _ (drop (tail-start (c .before) .args .at) (tail-start (c .before) .args .script .now)))
 
 pub bulk-of-spec : {M : Type 1} → statement M
 bulk-of-spec =

@@ -1,7 +1,7 @@
 -- `held_bindings::item_words` meets its contract: an action's items are written with one word less than their bulk, and
 -- none of them with one word. Assumes nothing.
 use mathlib.Core.List.{List}
-use mathlib.Core.Path.{ap, _∙_}
+use mathlib.Core.Path.{_≡_, ap, _∙_}
 use borrow.Author.Needs.{needs}
 use lib.ListN.{drop}
 use Rattle.messages.specs.Message.{Message, items}
@@ -14,19 +14,14 @@ use Rattle.held_bindings.proofs.Sizing.{words-none, words-some}
 use Rattle.held_bindings.proofs.item_words.Statement.{statement}
 use Rattle.held_bindings.proofs.item_words.Tie as tie
 
-returns : tie.Need-returns
-returns c =
-    let s = c .before .before .before .before .before .before .before .before .before in
-    words-none (drop (s .args .offset) (items (resolve (bindingsIn (s .args .script .now) (s .args .variables .now) (s .args .places .now)) (messageAt (drop (s .args .at) (s .args .script .now)))))) (c .before .bulk-from .result)
-    ((rw (c .before .before .tail .ensures) at (c .before .bulk-from .ensures)) ∙ ap (λ (l : List Message). capped (bulk (drop (s .args .offset) l))) (one-message _ (drop (s .args .at) (s .args .script .now))))
-    (c .if1 .taken)
+abbrev bulk-start : tie.After-bulk-from → tie.Start
+bulk-start c = c .before .before .before .before .before .before .before .before
 
-returns-2 : tie.Need-returns-2
-returns-2 c =
-    let s = c .before .before .before .before .before .before .before .before .before in
-    words-some (drop (s .args .offset) (items (resolve (bindingsIn (s .args .script .now) (s .args .variables .now) (s .args .places .now)) (messageAt (drop (s .args .at) (s .args .script .now)))))) (c .before .bulk-from .result)
-    ((rw (c .before .before .tail .ensures) at (c .before .bulk-from .ensures)) ∙ ap (λ (l : List Message). capped (bulk (drop (s .args .offset) l))) (one-message _ (drop (s .args .at) (s .args .script .now))))
-    (c .if1 .left)
+-- the bulk of the items from the offset on
+counted : (c : tie.After-bulk-from) → let a = bulk-start c .args in c .bulk-from .result ≡ capped (bulk (drop (a .offset) (items (resolve (bindingsIn (a .script .now) (a .variables .now) (a .places .now)) (messageAt (drop (a .at) (a .script .now)))))))
+counted c =
+    let a = bulk-start c .args in
+    (rw (c .before .tail .ensures) at (c .bulk-from .ensures)) ∙ ap (λ (l : List Message). capped (bulk (drop (a .offset) l))) (one-message _ (drop (a .at) (a .script .now)))
 
 pub item-words-spec : {M : Type 1} → statement M
 item-words-spec =
@@ -35,5 +30,5 @@ item-words-spec =
     (λ c κs. search needs)
     (λ c κs. search needs)
     (λ c. search needs)
-    returns
-    returns-2)
+    (λ c. words-none _ _ (counted (c .before)) (c .if1 .taken))
+    (λ c. words-some _ _ (counted (c .before)) (c .if1 .left)))

@@ -10,16 +10,21 @@ use Rattle.held_bindings.proofs.Sizing.{given-size, capped-one}
 use Rattle.held_bindings.proofs.own_size.Statement.{statement}
 use Rattle.held_bindings.proofs.own_size.Tie as tie
 
+-- the way from a place to one before it
+
+abbrev bound-start : tie.After-bound → tie.Start
+bound-start c = c .before .before .before
+
 returns : tie.Need-returns
 returns c =
-    let s = c .before .before .before .before .before in
-    λ script places ok. kept-given ok (c .before .before .bound .result) (c .before .if1 .taken)
-    ∙ ap capped (given-size script (s .args .variables .now) places (ok .aligned) (c .before .before .bound .result) (c .before .if1 .taken) (s .args .m) (c .before .before .bound .ensures))
+    let at-bound = c .before .before in
+    λ script places ok. kept-given ok _ (c .before .if1 .taken)
+    ∙ ap capped (given-size script (bound-start at-bound .args .variables .now) places (ok .aligned) _ (c .before .if1 .taken) (bound-start at-bound .args .m) (at-bound .bound .ensures))
 
 returns-2 : tie.Need-returns-2
 returns-2 c =
-    let s = c .before .before .before .before in
-    λ script places ok. capped-one (bindingsIn script (s .args .variables .now) places) (s .args .m) (unbound-free script (s .args .variables .now) places (s .args .m) (omega (arith, c .before .bound .ensures, c .if1 .left)))
+    let start = bound-start (c .before) in
+    λ script places ok. capped-one (bindingsIn script (start .args .variables .now) places) (start .args .m) (unbound-free script (start .args .variables .now) places (start .args .m) (omega (arith, c .before .bound .ensures, c .if1 .left)))
 
 pub own-size-spec : {M : Type 1} → statement M
 own-size-spec =

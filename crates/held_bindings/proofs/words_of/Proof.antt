@@ -9,21 +9,20 @@ use Rattle.held_bindings.proofs.Sizing.{one-size}
 use Rattle.held_bindings.proofs.words_of.Statement.{statement}
 use Rattle.held_bindings.proofs.words_of.Tie as tie
 
-size-from-requires : tie.Need-size-from-requires
-size-from-requires c κs =
-    let s = c .before .before .before .before .before in
-    (omega (arith, ap length (c .tail .ensures), length-drop (s .args .at) (s .args .script .now)), kept-length (s .pre))
+-- the start, from the first call
+abbrev known-start : tie.After-shared-slice-known4 → tie.Start
+known-start c = c .before .before .before .before
 
 returns : tie.Need-returns
 returns c =
-    let s = c .before .before .before .before .before .before in
-    (rw (c .before .tail .ensures) at (c .size-from .ensures (s .args .script .now) (s .args .places .now) (s .pre)))
-    ∙ ap capped (one-size _ (drop (s .args .at) (s .args .script .now)))
+    let start = known-start (c .before .before) in
+    (rw (c .before .tail .ensures) at (c .size-from .ensures (start .args .script .now) (start .args .places .now) (start .pre)))
+    ∙ ap capped (one-size _ (drop (start .args .at) (start .args .script .now)))
 
 pub words-of-spec : {M : Type 1} → statement M
 words-of-spec =
     tie.close
     (tie.spec
     (λ c κs. search needs)
-    size-from-requires
+    (λ c κs. (omega (arith, ap length (c .tail .ensures), length-drop (known-start (c .before) .args .at) (known-start (c .before) .args .script .now)), kept-length (known-start (c .before) .pre)))
     returns)
