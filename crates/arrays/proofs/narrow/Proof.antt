@@ -15,14 +15,8 @@ Inv-loop from r₀ j₀ r j = (j ≤ 64) × (length r ≡ 64) × (((i : ℕ) →
 abbrev μ-loop : tie.MeasureT-loop
 μ-loop from r₀ j₀ r j = 64 - j
 
-loop-holds : tie.Need-loop-holds Inv-loop μ-loop
-loop-holds c = (search needs, search needs, λ low i m. absurd (let z : ⊥ = omega arith in z))
-
 loop-again : tie.Need-loop-again Inv-loop μ-loop
 loop-again c = (search needs, length-set (c .before .loop .r) (c .before .loop .j) _ ∙ c .before .loop .inv .1, λ low. copied-next (λ i. getD (c .before .before .args .t1) i 0) (c .before .loop .j) _ (c .before .loop .r) (omega (arith, c .before .loop .inv .1, c .loop-test .taken)) (c .before .loop .inv .2 low) (mod-eq-of-lt (low (c .before .loop .j) (c .loop-test .taken))))
-
-returns : tie.Need-returns Inv-loop μ-loop
-returns c low = copy-is _ _ 64 (c .before .loop .inv .1) (search needs) (λ i m. c .before .loop .inv .2 low i (omega (arith, c .loop-test .left)))
 
 pub narrow-spec : {M : Type 1} → statement M
 narrow-spec =
@@ -30,12 +24,8 @@ narrow-spec =
     (tie.spec
     Inv-loop
     μ-loop
-    loop-holds
-    (λ c. search needs)
-    (λ c. search needs)
-    (λ c. search needs)
-    (λ c. search needs)
-    (λ c. search needs)
+    (λ c. (search needs, search needs, λ low i m. absurd (let z : ⊥ = omega arith in z)))
+    (λ c. search needs) (λ c. search needs) (λ c. search needs) (λ c. search needs) (λ c. search needs)
     (λ c. search needs)
     loop-again
-    returns)
+    (λ c low. copy-is _ _ 64 (c .before .loop .inv .1) (search needs) (λ i m. c .before .loop .inv .2 low i (omega (arith, c .loop-test .left)))))

@@ -15,7 +15,6 @@ abbrev μ-loop : tie.MeasureT-loop
 μ-loop to₀ at from i₀ to i = length from - i
 
 -- the way from a place to one before it
-
 abbrev known-start : tie.After-shared-slice-known Inv-loop μ-loop → tie.Start Inv-loop μ-loop
 known-start c = c .before .before .before
 
@@ -31,12 +30,10 @@ put-numbers-spec =
     Inv-loop
     μ-loop
     (λ c. (search needs, c .pre .0, putting-none (c .args .at) (c .args .from .now) (c .args .to .now)))
-    (λ c. search needs)
-    (λ c. search needs)
+    (λ c. search needs) (λ c. search needs)
     (λ c. omega (arith, c .before .loop-test .taken, known-start c .pre .1))
     (λ c. omega (arith, c .before .loop-test .taken, known-start c .pre .1))
     (λ c. omega (arith, c .before .loop-test .taken, known-start c .pre .1))
-    (λ c. search needs)
-    (λ c. search needs)
+    (λ c. search needs) (λ c. search needs)
     loop-again
     (λ c. (c .before .loop .inv .1, put-all _ _ _ _ _ (omega (arith, c .before .loop .inv .0, c .loop-test .left)) (c .before .loop .inv .2))))

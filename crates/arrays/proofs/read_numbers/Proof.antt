@@ -31,13 +31,8 @@ read-numbers-spec =
     Inv-loop
     μ-loop
     (λ c. (search needs, refl, λ j m. absurd (let z : ⊥ = omega arith in z)))
-    (λ c. search needs)
-    (λ c. search needs)
-    (λ c. search needs)
-    (λ c. search needs)
-    (λ c. search needs)
-    (λ c. search needs)
-    (λ c. search needs)
+    (λ c. search needs) (λ c. search needs) (λ c. search needs) (λ c. search needs) (λ c. search needs)
+    (λ c. search needs) (λ c. search needs)
     loop-again
     (λ c. search needs)
     returns)

@@ -17,9 +17,6 @@ Inv-loop from r₀ j₀ r j = (j ≤ 64) × (length r ≡ 64) × Copied (λ i. g
 abbrev μ-loop : tie.MeasureT-loop
 μ-loop from r₀ j₀ r j = 64 - j
 
-loop-holds : tie.Need-loop-holds Inv-loop μ-loop
-loop-holds c = (search needs, search needs, λ i m. absurd (let z : ⊥ = omega arith in z))
-
 loop-again : tie.Need-loop-again Inv-loop μ-loop
 loop-again c = (search needs, length-set (c .before .loop .r) (c .before .loop .j) _ ∙ c .before .loop .inv .1, copied-next (λ i. getD (c .before .before .args .t1) i 0) (c .before .loop .j) _ (c .before .loop .r) (omega (arith, c .before .loop .inv .1, c .loop-test .taken)) (c .before .loop .inv .2) refl)
 
@@ -34,12 +31,8 @@ widen-spec =
     (tie.spec
     Inv-loop
     μ-loop
-    loop-holds
-    (λ c. search needs)
-    (λ c. search needs)
-    (λ c. search needs)
-    (λ c. search needs)
-    (λ c. search needs)
+    (λ c. (search needs, search needs, λ i m. absurd (let z : ⊥ = omega arith in z)))
+    (λ c. search needs) (λ c. search needs) (λ c. search needs) (λ c. search needs) (λ c. search needs)
     (λ c. search needs)
     loop-again
     returns)

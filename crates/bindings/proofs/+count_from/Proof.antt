@@ -38,7 +38,6 @@ count-from-claims t = (own-reads.Asked, own-reads.Learnt, after-own-reads.Asked,
 
 module _ (t : ℕ) where
   -- the way from a place to one before it
-
   abbrev then1-start : count-from-lts.Then1 (count-from-claims t) (count-from-at t) count-from.Post → count-from-lts.Start (count-from-claims t) (count-from-at t) count-from.Post
   then1-start c = c .before .before .before .before
 
@@ -74,8 +73,7 @@ pub +count-from-spec : {M : Type 1} → statement M
     count-from.Post
     (count-from-returns t)
     (λ c κs. else1-start t c .pre .1 .1)
-    (λ c κs. omega arith)
-    (λ c κs. search needs)
+    (λ c κs. omega arith) (λ c κs. search needs)
     (count-from-count-from-requires t)
     (λ c κs. search needs)
     (count-from-returns-2 t))

@@ -33,7 +33,6 @@ name-of-claims t = (first-word-reads.Asked, first-word-reads.Learnt, bound-reads
 
 module _ (t : ℕ) where
   -- the way from a place to one before it
-
   abbrev bound-start : name-of-lts.After-bound (name-of-claims t) (name-of-at t) name-of.Post → name-of-lts.Start (name-of-claims t) (name-of-at t) name-of.Post
   bound-start c = c .before .before .before .before .before .before
 
@@ -66,13 +65,8 @@ pub +name-of-spec : {M : Type 1} → statement M
     (name-of-claims t)
     (name-of-at t)
     name-of.Post
-    (λ c κs. search needs)
-    (λ c κs. search needs)
-    (λ c κs. omega arith)
-    (λ c. omega arith)
-    (λ c κs. search needs)
-    (λ c. omega arith)
-    (λ c κs. search needs)
+    (λ c κs. search needs) (λ c κs. search needs) (λ c κs. omega arith) (λ c. omega arith) (λ c κs. search needs)
+    (λ c. omega arith) (λ c κs. search needs)
     (name-of-name-of-requires t)
     (name-of-returns t)
     (λ c κs. search needs)

@@ -31,7 +31,6 @@ skip-claims t = (first-word-reads.Asked, first-word-reads.Learnt, arity-reads.As
 
 module _ (t : ℕ) where
   -- the way from a place to one before it
-
   abbrev tail-start : skip-lts.After-tail (skip-claims t) (skip-at t) skip.Post → skip-lts.Start (skip-claims t) (skip-at t) skip.Post
   tail-start c = c .before .before .before .before .before .before
 
@@ -61,10 +60,7 @@ pub +skip-spec : {M : Type 1} → statement M
     skip.Post
     (λ c. (omega arith, rw (c .if1 .taken)))
     (skip-returns-2 t)
-    (λ c κs. search needs)
-    (λ c κs. search needs)
-    (λ c κs. search needs)
-    (λ c. omega arith)
+    (λ c κs. search needs) (λ c κs. search needs) (λ c κs. search needs) (λ c. omega arith)
     (λ c. omega (arith, c .before .arity .ensures, arity-small (c .before .before .first-word .result)))
     (skip-skip-requires t)
     (λ c. omega (arith, ap length (c .before .tail .ensures), length-drop 1 (tail-start t (c .before) .args .words .now)))

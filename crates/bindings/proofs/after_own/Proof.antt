@@ -10,7 +10,6 @@ use Rattle.bindings.proofs.after_own.Statement.{statement}
 use Rattle.bindings.proofs.after_own.Tie as tie
 
 -- the way from a place to one before it
-
 abbrev tail-start : tie.After-tail → tie.Start
 tail-start c = c .before .before .before .before
 
@@ -35,11 +34,8 @@ pub after-own-spec : {M : Type 1} → statement M
 after-own-spec =
     tie.close
     (tie.spec
-    (λ c κs. search needs)
-    (λ c κs. search needs)
-    (λ c κs. search needs)
+    (λ c κs. search needs) (λ c κs. search needs) (λ c κs. search needs)
     skip-requires
-    (λ c. search needs)
-    (λ c. search needs)
+    (λ c. search needs) (λ c. search needs)
     add-t11
     returns)

@@ -8,7 +8,6 @@ use Rattle.bindings.proofs.name_at.Statement.{statement}
 use Rattle.bindings.proofs.name_at.Tie as tie
 
 -- the way from a place to one before it
-
 abbrev else1-start : tie.Else1 → tie.Start
 else1-start c = c .before .before .before .before
 
@@ -29,8 +28,6 @@ pub name-at-spec : {M : Type 1} → statement M
 name-at-spec =
     tie.close
     (tie.spec
-    (λ c κs. search needs)
-    (λ c κs. search needs)
-    (λ c κs. search needs)
+    (λ c κs. search needs) (λ c κs. search needs) (λ c κs. search needs)
     returns
     returns-2)

@@ -14,7 +14,6 @@ use Rattle.bindings.proofs.own.Statement.{statement}
 use Rattle.bindings.proofs.own.Tie as tie
 
 -- the way from a place to one before it
-
 abbrev bound-start : tie.After-bound → tie.Start
 bound-start c = c .before .before .before .before .before
 
@@ -35,10 +34,7 @@ pub own-spec : {M : Type 1} → statement M
 own-spec =
     tie.close
     (tie.spec
-    (λ c κs. search needs)
-    (λ c κs. search needs)
-    (λ c. search needs)
-    (λ c. search needs)
+    (λ c κs. search needs) (λ c κs. search needs) (λ c. search needs) (λ c. search needs)
     returns
     (λ c κs. search needs)
     returns-2)

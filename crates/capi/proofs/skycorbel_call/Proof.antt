@@ -7,7 +7,6 @@ use Rattle.capi.proofs.skycorbel_call.Statement.{statement}
 use Rattle.capi.proofs.skycorbel_call.Tie as tie
 
 -- the way from a place to one before it
-
 abbrev test-start : tie.After-slice-known2 → tie.Start
 test-start c = c .before .before .before .before .before
 

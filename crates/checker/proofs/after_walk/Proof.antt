@@ -11,7 +11,6 @@ use Rattle.checker.proofs.after_walk.Statement.{statement}
 use Rattle.checker.proofs.after_walk.Tie as tie
 
 -- the way from a place to one before it
-
 abbrev w-start : tie.After-w → tie.Start
 w-start c = c .before .before .before .before
 
@@ -53,9 +52,7 @@ after-walk-spec =
     (λ c κs. w-start (c .before .before) .pre)
     (λ c. search needs)
     (λ c κs. w2-start (c .before .before) .pre)
-    (λ c. search needs)
-    (λ c κs. search needs)
-    (λ c. search needs)
+    (λ c. search needs) (λ c κs. search needs) (λ c. search needs)
     returns
     (λ c. search needs)
     returns-2

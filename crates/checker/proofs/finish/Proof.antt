@@ -24,7 +24,6 @@ long : (s : Start) → length (s .args .state .bindings .variables) ≡ 32
 long s = search (s .good .1 .1 .1 .0 .1 .1 .1 .1 .1 .0, s .good .1 .1 .1 .0 .1 .1 .1 .1 .0, needs)
 
 -- the way from a place to one before it
-
 abbrev write-state-arg-start : tie.After-write-state-arg → tie.Start
 write-state-arg-start c = c .before .before .before
 
@@ -59,10 +58,7 @@ finish-spec =
     tie.close
     (tie.spec
     (λ c κs. write-state-arg-start c .pre)
-    (λ c. search needs)
-    (λ c κs. search needs)
-    (λ c. search needs)
-    (λ c κs. search needs)
+    (λ c. search needs) (λ c κs. search needs) (λ c. search needs) (λ c κs. search needs)
     (λ c κs. write-state-arg-start (said-write-state c .before) .pre .0 .bound .within)
     (λ c. search needs)
     returns

@@ -6,7 +6,6 @@ use Rattle.checker.proofs.greatest.Statement.{statement}
 use Rattle.checker.proofs.greatest.Tie as tie
 
 -- the way from a place to one before it
-
 abbrev greatest-name-start : tie.After-greatest-name → tie.Start
 greatest-name-start c = c .before .before .before
 

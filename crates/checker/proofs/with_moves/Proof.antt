@@ -8,7 +8,6 @@ use Rattle.checker.proofs.with_moves.Statement.{statement}
 use Rattle.checker.proofs.with_moves.Tie as tie
 
 -- the way from a place to one before it
-
 abbrev greatest-start : tie.After-greatest → tie.Start
 greatest-start c = c .before .before .before .before .before .before
 

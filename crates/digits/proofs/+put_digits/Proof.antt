@@ -51,7 +51,5 @@ pub +put-digits-spec : {M : Type 1} → statement M
     (λ c. puts-as (hex-none _ _ (c .if1 .taken)) puts-none)
     (λ c. search needs)
     (λ c κs. (omega (arith, c .before .if1 .left), tt))
-    (λ c κs. search needs)
-    (λ c κs. search needs)
-    (λ c. search needs)
+    (λ c κs. search needs) (λ c κs. search needs) (λ c. search needs)
     (returns-2 t)

@@ -14,7 +14,6 @@ abbrev μ-loop : tie.MeasureT-loop
 μ-loop text₀ at piece next₀ i₀ text next i = length piece - i
 
 -- the way from a place to one before it
-
 abbrev put-byte-in-loop : tie.After-put-byte Inv-loop μ-loop → tie.In-loop Inv-loop μ-loop
 put-byte-in-loop c = c .before .before .before
 
@@ -30,10 +29,7 @@ put-bytes-spec =
     Inv-loop
     μ-loop
     (λ c. (search needs, puts-none))
-    (λ c. search needs)
-    (λ c κs. search needs)
-    (λ c. search needs)
-    (λ c. search needs)
+    (λ c. search needs) (λ c κs. search needs) (λ c. search needs) (λ c. search needs)
     loop-again
     (λ c. c .before .loop .inv .1 .kept)
     (λ c. puts-as (whole _ _ (c .loop-test .left)) (c .before .loop .inv .1)))

@@ -6,7 +6,6 @@ use Rattle.digits.proofs.put_word.Statement.{statement}
 use Rattle.digits.proofs.put_word.Tie as tie
 
 -- the way from a place to one before it
-
 abbrev put-byte-put-digits : tie.After-put-byte → tie.After-put-digits
 put-byte-put-digits c = c .before .before .before .before
 

@@ -21,7 +21,6 @@ unfolding lines
 loop-holds c = (search needs, puts-none)
 
 -- the way from a place to one before it
-
 abbrev put-word-in-loop : tie.After-put-word Inv-loop μ-loop → tie.In-loop Inv-loop μ-loop
 put-word-in-loop c = c .before .before .before
 
@@ -37,11 +36,7 @@ put-words-spec =
     Inv-loop
     μ-loop
     loop-holds
-    (λ c. search needs)
-    (λ c. search needs)
-    (λ c κs. search needs)
-    (λ c. search needs)
-    (λ c. search needs)
+    (λ c. search needs) (λ c. search needs) (λ c κs. search needs) (λ c. search needs) (λ c. search needs)
     loop-again
     (λ c. c .before .loop .inv .1 .kept)
     (λ c. puts-as (ap (λ (p : List ℕ). lines p) (whole _ _ (c .loop-test .left))) (c .before .loop .inv .1)))

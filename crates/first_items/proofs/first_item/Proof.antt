@@ -119,20 +119,6 @@ add-k c =
     let b = c .before in
     omega (arith, bound-within (b .before .before .first-word .result) (b .before .tail2 .result .now), b .bound .ensures, ap length (b .before .tail2 .ensures), length-drop (s b .older) (bound-start b .args .variables .now), bound-loop b .loop .inv .older, bound-start b .good .1 .1 .1 .0)
 
-mul-at-variable : tie.Need-mul-at-variable Inv-loop μ-loop
-mul-at-variable c =
-    omega (arith, kept-length (then-start c .pre .0), c .if2 .taken, then-start c .good .1 .1 .1 .1 .1 .0)
-
-shared-slice-read-at-variable : tie.Need-shared-slice-read-at-variable Inv-loop μ-loop
-shared-slice-read-at-variable c = omega (arith, kept-length (then-start (c .before) .pre .0), c .before .if2 .taken)
-
-mul-wide : tie.Need-mul-wide Inv-loop μ-loop
-mul-wide c =
-    omega (arith, then-start (c .before) .pre .0 .aligned, c .before .if2 .taken, then-start (c .before) .good .1 .1 .1 .1 .0)
-
-shared-slice-read-wide : tie.Need-shared-slice-read-wide Inv-loop μ-loop
-shared-slice-read-wide c = omega (arith, then-start (c .before .before) .pre .0 .aligned, c .before .before .if2 .taken)
-
 at-variable-requires : tie.Need-at-variable-requires Inv-loop μ-loop
 at-variable-requires c κs =
     let t = wide-then c in
@@ -173,29 +159,22 @@ first-item-spec =
     μ-loop
     (λ c κs. search needs)
     loop-holds
-    (λ c. search needs)
-    (λ c κs. search needs)
-    (λ c κs. search needs)
-    (λ c κs. search needs)
-    (λ c κs. search needs)
+    (λ c. search needs) (λ c κs. search needs) (λ c κs. search needs) (λ c κs. search needs) (λ c κs. search needs)
     add-k
-    mul-at-variable
-    shared-slice-read-at-variable
-    mul-wide
-    shared-slice-read-wide
+    (λ c. omega (arith, kept-length (then-start c .pre .0), c .if2 .taken, then-start c .good .1 .1 .1 .1 .1 .0))
+    (λ c. omega (arith, kept-length (then-start (c .before) .pre .0), c .before .if2 .taken))
+    (λ c. omega (arith, then-start (c .before) .pre .0 .aligned, c .before .if2 .taken, then-start (c .before) .good .1 .1 .1 .1 .0))
+    (λ c. omega (arith, then-start (c .before .before) .pre .0 .aligned, c .before .before .if2 .taken))
     (λ c κs. search needs)
     at-variable-requires
     (λ c. on-bound c .fewer)
     (λ c. on-bound c .stands)
-    (λ c κs. search needs)
-    (λ c κs. search needs)
-    (λ c κs. search needs)
+    (λ c κs. search needs) (λ c κs. search needs) (λ c κs. search needs)
     name-of-requires
     (λ c κs. search needs)
     returns
     after-own-requires
-    (λ c κs. search needs)
-    (λ c. search needs)
+    (λ c κs. search needs) (λ c. search needs)
     (λ c. on-free (c .before .before) .fewer)
     (λ c. on-free (c .before .before) .stands)
     returns-2)

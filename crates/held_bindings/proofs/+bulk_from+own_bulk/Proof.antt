@@ -65,7 +65,6 @@ own-bulk-claims t = (first-word-reads.Asked, first-word-reads.Learnt, bound-read
 
 module _ (t : ℕ) where
   -- the way from a place to one before it
-
   abbrev bulk-from-then1-start : bulk-from-lts.Then1 (bulk-from-claims t) (bulk-from-at t) bulk-from.Post → bulk-from-lts.Start (bulk-from-claims t) (bulk-from-at t) bulk-from.Post
   bulk-from-then1-start c = c .before .before .before .before .before .before .before .before
 
@@ -211,17 +210,13 @@ pub +bulk-from+own-bulk-spec : {M : Type 1} → statement M
     (own-bulk-claims t)
     (own-bulk-at t)
     own-bulk.Post
-    (λ c κs. search needs)
-    (λ c κs. search needs)
+    (λ c κs. search needs) (λ c κs. search needs)
     (own-bulk-mul-result t)
     (λ c. let g = c .before .before in omega (arith, kept-length (bound-start t (g .before) .pre .1 .0 .bulked), g .if1 .taken))
     (own-bulk-returns t)
     (λ c. omega (arith, c .before .if1 .taken, bound-start t (c .before .before) .good .1 .1 .1 .0))
     (λ c κs. omega (arith, bound-start t (c .before .before) .pre .1 .0 .counted .aligned, c .before .if1 .taken))
-    (λ c κs. search needs)
-    (λ c κs. search needs)
-    (λ c κs. search needs)
-    (λ c κs. search needs)
+    (λ c κs. search needs) (λ c κs. search needs) (λ c κs. search needs) (λ c κs. search needs)
     (λ c κs. search needs)
     (own-bulk-bulk-from-requires t)
     (own-bulk-returns-2 t)

@@ -41,7 +41,6 @@ size-from-claims t = (first-word-reads.Asked, first-word-reads.Learnt, own-size-
 
 module _ (t : ℕ) where
   -- the way from a place to one before it
-
   abbrev then1-start : size-from-lts.Then1 (size-from-claims t) (size-from-at t) size-from.Post → size-from-lts.Start (size-from-claims t) (size-from-at t) size-from.Post
   then1-start c = c .before .before .before .before
 
@@ -87,9 +86,7 @@ pub +size-from-spec : {M : Type 1} → statement M
     (size-from-returns t)
     (λ c κs. search needs)
     (λ c κs. first-word-start t c .pre .1 .1)
-    (λ c κs. search needs)
-    (λ c κs. search needs)
-    (λ c. omega arith)
+    (λ c κs. search needs) (λ c κs. search needs) (λ c. omega arith)
     (size-from-add-size-from t)
     (size-from-size-from-requires t)
     (λ c κs. search needs)

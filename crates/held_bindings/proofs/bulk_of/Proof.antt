@@ -11,7 +11,6 @@ use Rattle.held_bindings.proofs.bulk_of.Statement.{statement}
 use Rattle.held_bindings.proofs.bulk_of.Tie as tie
 
 -- the way from a place to one before it
-
 abbrev tail-start : tie.After-tail → tie.Start
 tail-start c = c .before .before .before .before .before .before .before
 
@@ -24,6 +23,5 @@ pub bulk-of-spec : {M : Type 1} → statement M
 bulk-of-spec =
     tie.close
     (tie.spec
-    (λ c κs. search needs)
-    (λ c κs. search needs)
+    (λ c κs. search needs) (λ c κs. search needs)
     returns)

@@ -27,8 +27,6 @@ pub item-words-spec : {M : Type 1} → statement M
 item-words-spec =
     tie.close
     (tie.spec
-    (λ c κs. search needs)
-    (λ c κs. search needs)
-    (λ c. search needs)
+    (λ c κs. search needs) (λ c κs. search needs) (λ c. search needs)
     (λ c. words-none _ _ (counted (c .before)) (c .if1 .taken))
     (λ c. words-some _ _ (counted (c .before)) (c .if1 .left)))

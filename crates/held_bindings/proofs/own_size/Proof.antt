@@ -11,7 +11,6 @@ use Rattle.held_bindings.proofs.own_size.Statement.{statement}
 use Rattle.held_bindings.proofs.own_size.Tie as tie
 
 -- the way from a place to one before it
-
 abbrev bound-start : tie.After-bound → tie.Start
 bound-start c = c .before .before .before
 
@@ -30,8 +29,6 @@ pub own-size-spec : {M : Type 1} → statement M
 own-size-spec =
     tie.close
     (tie.spec
-    (λ c κs. search needs)
-    (λ c. search needs)
-    (λ c. search needs)
+    (λ c κs. search needs) (λ c. search needs) (λ c. search needs)
     returns
     returns-2)

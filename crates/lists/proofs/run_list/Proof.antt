@@ -100,11 +100,7 @@ run-list-spec =
     Inv-loop
     μ-loop
     (λ c. (search needs, c .before .before .pre .2, refl, refl, going-none _ (kindsIn _) (startsIn _) _ _ (standing _ _)))
-    (λ c. search needs)
-    (λ c. search needs)
-    (λ c κs. search needs)
-    (λ c κs. search needs)
-    (λ c κs. search needs)
+    (λ c. search needs) (λ c. search needs) (λ c κs. search needs) (λ c κs. search needs) (λ c κs. search needs)
     try-move-requires
     (λ c. let l = fit (c .before) .before .before in omega (arith, l .loop-test .taken, loop-start (l .before) .pre .1))
     (λ c. search needs)

@@ -10,6 +10,5 @@ first-word-spec =
     tie.close
     (tie.spec
     (λ c. first-none _ (c .if1 .taken))
-    (λ c. search needs)
-    (λ c κs. search needs)
+    (λ c. search needs) (λ c κs. search needs)
     (λ c. c .message-word .ensures ∙ first-some _ (c .before .before .if1 .left)))

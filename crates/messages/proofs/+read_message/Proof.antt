@@ -35,7 +35,6 @@ claims t = (ask-message-reads.Asked, ask-message-reads.Learnt, read-message-belo
 
 module _ (t : ℕ) where
   -- the way from a place to one before it
-
   abbrev ask-message-start : lts.After-ask-message (claims t) (read-message-at t) read-message.Post → lts.Start (claims t) (read-message-at t) read-message.Post
   ask-message-start c = c .before .before .before .before .before
 
@@ -91,12 +90,6 @@ module _ (t : ℕ) where
       let l = length-part (left-start at-left .args .s .now) (at-left .left .given .0 .0 - left-start at-left .args .at) in
       (omega arith, (omega arith, omega (arith, level (asked-at (left-enum-told3 at-left .before .before)) _ (left-enum-told3 at-left .enum-told3 .given .1))))
 
-  returns-3 : lts.Need-returns-3 (claims t) (read-message-at t) read-message.Post
-  returns-3 c number = no-read (asked-at (c .before .before .before)) number _ (c .before .a .given .1)
-
-  returns-4 : lts.Need-returns-4 (claims t) (read-message-at t) read-message.Post
-  returns-4 c number = leaf-read (asked-at (c .before .before)) number (c .enum-told .given .1)
-
   returns-5 : lts.Need-returns-5 (claims t) (read-message-at t) read-message.Post
   returns-5 c number =
       let at-enum-told2 = c .before .before in
@@ -116,36 +109,21 @@ pub +read-message-spec : {M : Type 1} → statement M
     (read-message-at t)
     read-message.Post
     (returns t)
-    (λ c. omega arith)
-    (λ c κs. tt)
-    (λ c. search needs)
-    (λ c. search needs)
-    (λ c. omega arith)
-    (λ c. search needs)
-    (λ c. omega arith)
-    (λ c. omega arith)
-    (λ c. omega arith)
-    (λ c. omega arith)
-    (λ c. omega arith)
+    (λ c. omega arith) (λ c κs. tt) (λ c. search needs) (λ c. search needs) (λ c. omega arith) (λ c. search needs)
+    (λ c. omega arith) (λ c. omega arith) (λ c. omega arith) (λ c. omega arith) (λ c. omega arith)
     (read-message-requires t)
-    (λ c. search needs)
-    (λ c. omega arith)
-    (λ c. omega arith)
-    (λ c. omega arith)
-    (λ c. omega arith)
+    (λ c. search needs) (λ c. omega arith) (λ c. omega arith) (λ c. omega arith) (λ c. omega arith)
     (λ c. omega arith)
     (read-message-requires-2 t)
-    (λ c. search needs)
-    (λ c. search needs)
+    (λ c. search needs) (λ c. search needs)
     (returns-2 t)
     (λ c. omega (arith, bounds t c))
     (λ c. omega (arith, bounds t c))
     (λ c. omega (arith, bounds t c))
     (λ c. omega (arith, bounds t c))
-    (λ c. omega arith)
-    (λ c. omega arith)
+    (λ c. omega arith) (λ c. omega arith)
     (read-message-requires-3 t)
-    (returns-3 t)
-    (returns-4 t)
+    (λ c number. no-read (asked-at t (c .before .before .before)) number _ (c .before .a .given .1))
+    (λ c number. leaf-read (asked-at t (c .before .before)) number (c .enum-told .given .1))
     (returns-5 t)
     (returns-6 t)

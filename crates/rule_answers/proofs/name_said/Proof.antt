@@ -7,7 +7,6 @@ use Rattle.rule_answers.proofs.name_said.Statement.{statement}
 use Rattle.rule_answers.proofs.name_said.Tie as tie
 
 -- the way from a place to one before it
-
 abbrev result-t2 : tie.After-result → tie.After-t2
 result-t2 c = c .before .before .before
 
@@ -20,12 +19,8 @@ pub name-said-spec : {M : Type 1} → statement M
 name-said-spec =
     tie.close
     (tie.spec
-    (λ c κs. search needs)
-    (λ c. search needs)
-    (λ c. search needs)
+    (λ c κs. search needs) (λ c. search needs) (λ c. search needs)
     returns
-    (λ c. search needs)
-    (λ c. search needs)
-    (λ c. search needs)
+    (λ c. search needs) (λ c. search needs) (λ c. search needs)
     (λ c. said-constant _ _ _ (sym (c .before .t .given .1) ∙ c .before .before .before .term-of .ensures))
     (λ c. said-chosen _ _ _ (sym (result-t2 c .t2 .given .1) ∙ result-t2 c .before .before .term-of .ensures) (omega (arith, c .before .if1 .left))))

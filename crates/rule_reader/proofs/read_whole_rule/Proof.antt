@@ -9,7 +9,6 @@ use Rattle.rule_reader.proofs.read_whole_rule.Statement.{statement}
 use Rattle.rule_reader.proofs.read_whole_rule.Tie as tie
 
 -- the way from a place to one before it
-
 abbrev read-rule-start : tie.After-read-rule → tie.Start
 read-rule-start c = c .before .before .before .before .before
 
@@ -43,8 +42,7 @@ read-whole-rule-spec =
     (λ c. answers _ _ _ (c .refused2 .ensures ∙ rule-long _ _ (c .before .if2 .taken)))
     (λ c κs. search needs)
     (λ c κs. omega (arith, ap (λ (x : RuleTable). x .count) (c .vacant .ensures)))
-    (λ c. search needs)
-    (λ c. search needs)
+    (λ c. search needs) (λ c. search needs)
     (λ c. answers _ _ _ (rule-refused _ (read (c .before .before)) _ _ (c .enum-told .given .1)))
     (λ c κs. search needs)
     returns-4

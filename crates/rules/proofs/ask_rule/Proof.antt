@@ -9,17 +9,9 @@ pub ask-rule-spec : {M : Type 1} → statement M
 ask-rule-spec =
     tie.close
     (tie.spec
-    (λ c κs. search needs)
-    (λ c κs. search needs)
-    (λ c κs. search needs)
-    (λ c κs. search needs)
-    (λ c κs. search needs)
-    (λ c κs. search needs)
-    (λ c. search needs)
-    (λ c κs. search needs)
-    (λ c κs. search needs)
-    (λ c κs. search needs)
-    (λ c κs. search needs)
+    (λ c κs. search needs) (λ c κs. search needs) (λ c κs. search needs) (λ c κs. search needs)
+    (λ c κs. search needs) (λ c κs. search needs) (λ c. search needs) (λ c κs. search needs) (λ c κs. search needs)
+    (λ c κs. search needs) (λ c κs. search needs)
     (λ c. c .ask-plain .ensures ∙ word-asked _ _ _ 0 (c .before .match .keys1))
     (λ c. c .ask-plain2 .ensures ∙ word-asked _ _ _ 1 (c .before .match .keys2))
     (λ c. c .ask-plain3 .ensures ∙ word-asked _ _ _ 2 (c .before .match .keys3))

@@ -37,11 +37,7 @@ greatest-rule-name-spec =
     Inv-loop
     μ-loop
     (λ c. (search needs, sym (greatest-end (c .before .args .rule .now))))
-    (λ c. search needs)
-    (λ c. search needs)
-    (λ c. search needs)
-    (λ c κs. search needs)
-    (λ c. search needs)
+    (λ c. search needs) (λ c. search needs) (λ c. search needs) (λ c κs. search needs) (λ c. search needs)
     loop-again
     (λ c. search needs)
     loop-again-2

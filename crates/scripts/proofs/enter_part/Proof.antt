@@ -11,7 +11,6 @@ use Rattle.scripts.proofs.enter_part.Statement.{statement}
 use Rattle.scripts.proofs.enter_part.Tie as tie
 
 -- the way from a place to one before it
-
 abbrev with-start : tie.After-with → tie.Start
 with-start c = c .before .before .before .before
 
@@ -35,13 +34,7 @@ enter-part-spec =
     (tie.spec
     (λ c. search needs)
     returns
-    (λ c. search needs)
-    (λ c. search needs)
-    (λ c. search needs)
+    (λ c. search needs) (λ c. search needs) (λ c. search needs)
     returns-2
-    (λ c. search needs)
-    (λ c. search needs)
-    (λ c κs. search needs)
-    (λ c. search needs)
-    (λ c. search needs)
+    (λ c. search needs) (λ c. search needs) (λ c κs. search needs) (λ c. search needs) (λ c. search needs)
     returns-3)

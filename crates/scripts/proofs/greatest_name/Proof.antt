@@ -46,10 +46,7 @@ greatest-name-spec =
     Inv-loop
     μ-loop
     (λ c. (search needs, sym (greatest-end (c .args .s .now))))
-    (λ c. search needs)
-    (λ c. search needs)
-    (λ c. search needs)
-    (λ c. search needs)
+    (λ c. search needs) (λ c. search needs) (λ c. search needs) (λ c. search needs)
     loop-again
     (λ c. search needs)
     loop-again-2

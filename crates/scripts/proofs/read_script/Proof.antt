@@ -9,7 +9,6 @@ use Rattle.scripts.proofs.read_script.Statement.{statement}
 use Rattle.scripts.proofs.read_script.Tie as tie
 
 -- the way from a place to one before it
-
 abbrev vacant-start : tie.After-vacant → tie.Start
 vacant-start c = c .before .before .before .before
 
@@ -40,8 +39,7 @@ read-script-spec =
     (λ c. answers _ _ (c .refused2 .ensures ∙ script-long _ (c .before .if2 .taken)))
     (λ c κs. search needs)
     (λ c κs. omega (arith, ap (λ (x : Table). x .count) (c .vacant .ensures)))
-    (λ c. search needs)
-    (λ c. search needs)
+    (λ c. search needs) (λ c. search needs)
     (λ c. answers _ _ (script-refused (read (c .before .before)) _ _ (c .enum-told .given .1)))
     (λ c κs. search needs)
     returns-4

@@ -9,7 +9,6 @@ use Rattle.skycorbel.proofs.reply_to_bytes.Statement.{statement}
 use Rattle.skycorbel.proofs.reply_to_bytes.Tie as tie
 
 -- the way from a place to one before it
-
 abbrev head-unpack : tie.After-head → tie.After-unpack
 head-unpack c = c .before .before .before
 
@@ -22,10 +21,6 @@ pub reply-to-bytes-spec : {M : Type 1} → statement M
 reply-to-bytes-spec =
     tie.close
     (tie.spec
-    (λ c. search needs)
-    (λ c κs. search needs)
-    (λ c. search needs)
-    (λ c κs. search needs)
-    (λ c κs. search needs)
+    (λ c. search needs) (λ c κs. search needs) (λ c. search needs) (λ c κs. search needs) (λ c κs. search needs)
     (λ c. search needs)
     returns)

@@ -14,7 +14,6 @@ abbrev μ-loop : tie.MeasureT-loop
 μ-loop input count words₀ i₀ words i = count - i
 
 -- the way from a place to one before it
-
 abbrev in-loop-start : tie.In-loop Inv-loop μ-loop → tie.Start Inv-loop μ-loop
 in-loop-start c = c .before .before .before .before
 
@@ -37,8 +36,7 @@ unpack-spec =
     (λ c κs. omega (arith, c .loop-test .taken, in-loop-start c .pre .0))
     (λ c. omega (arith, c .before .loop-test .taken, in-loop-start (c .before) .pre .1, c .before .before .loop .inv .1 .0))
     (λ c. omega (arith, c .before .loop-test .taken, in-loop-start (c .before) .pre .1, c .before .before .loop .inv .1 .0))
-    (λ c. search needs)
-    (λ c. search needs)
+    (λ c. search needs) (λ c. search needs)
     loop-again
     (λ c. c .before .loop .inv .1 .0)
     (λ c. unpacked-all _ (c .before .loop .words) _ _ _ (c .loop-test .left) (c .before .loop .inv .0) (c .before .loop .inv .1)))

@@ -19,15 +19,8 @@ pub put-answer-spec : {M : Type 1} → statement M
 put-answer-spec =
     tie.close
     (tie.spec
-    (λ c. search needs)
-    (λ c. search needs)
-    (λ c κs. search needs)
-    (λ c. search needs)
-    (λ c. search needs)
-    (λ c κs. search needs)
-    (λ c. search needs)
-    (λ c κs. search needs)
-    (λ c. search needs)
+    (λ c. search needs) (λ c. search needs) (λ c κs. search needs) (λ c. search needs) (λ c. search needs)
+    (λ c κs. search needs) (λ c. search needs) (λ c κs. search needs) (λ c. search needs)
     (λ c. puts-as (yes-text _ _ (said-yes (c .before .before) .enum-told .given .1)) (c .before .before .put-said .ensures))
     (λ c. search needs)
     (λ c. puts-as (no-text _ _ (said-no (c .before .before) .enum-told2 .given .1)) (c .before .before .put-said2 .ensures))

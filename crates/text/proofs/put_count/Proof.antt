@@ -6,7 +6,6 @@ use Rattle.text.proofs.put_count.Statement.{statement}
 use Rattle.text.proofs.put_count.Tie as tie
 
 -- the way from a place to one before it
-
 abbrev bytes-start : tie.After-put-bytes → tie.Start
 bytes-start c = c .before .before .before .before
 

@@ -9,7 +9,6 @@ use Rattle.text.proofs.put_said.Statement.{statement}
 use Rattle.text.proofs.put_said.Tie as tie
 
 -- the way from a place to one before it
-
 abbrev head-counts : tie.After-head → tie.After-put-counts
 head-counts c = c .before .before .before .before .before
 
@@ -25,10 +24,6 @@ pub put-said-spec : {M : Type 1} → statement M
 put-said-spec =
     tie.close
     (tie.spec
-    (λ c κs. search needs)
-    (λ c κs. search needs)
-    (λ c. search needs)
-    (λ c κs. search needs)
-    (λ c κs. search needs)
+    (λ c κs. search needs) (λ c κs. search needs) (λ c. search needs) (λ c κs. search needs) (λ c κs. search needs)
     (λ c. search needs)
     returns)

@@ -17,7 +17,6 @@ abbrev pub μ-loop : lts.MeasureT-loop
 
 module _ (t : ℕ) where
   -- the way from a place to one before it
-
   abbrev asked-loop : lts.After-ask-part (read-body-claims t) (read-body-at t) reads.Post Inv-loop μ-loop → lts.At-loop (read-body-claims t) (read-body-at t) reads.Post Inv-loop μ-loop
   asked-loop c = c .before .before .before
 

@@ -14,7 +14,6 @@ use Rattle.scripts.proofs.+read_body+read_guarded+read_part.Proof.Measu
 
 module _ (t : ℕ) where
   -- the way from a place to one before it
-
   abbrev all2-start : lts.After-all2 (read-guarded-claims t) (read-guarded-at t) reads.Post → lts.Start (read-guarded-claims t) (read-guarded-at t) reads.Post
   all2-start c = c .before .before .before .before
 

@@ -16,7 +16,6 @@ use Rattle.scripts.proofs.+read_body+read_guarded+read_part.Proof.Measu
 
 module _ (t : ℕ) where
   -- the way from a place to one before it
-
   abbrev refused2-start : lts.After-refused2 (read-part-claims t) (read-part-at t) reads.Post → lts.Start (read-part-claims t) (read-part-at t) reads.Post
   refused2-start c = c .before .before .before .before
 
