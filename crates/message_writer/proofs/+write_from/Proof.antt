@@ -184,8 +184,8 @@ module _ (t : ℕ) where
   long : (s : Start) → length (s .args .out .now) * 4 < 2 ^ 63
   long s = omega arith
 
-  some : (c : Found) → 0 < found-start c .args .pending
-  some c = omega (arith, found-else c .if1 .left)
+  pending-left : (c : Found) → 0 < found-start c .args .pending
+  pending-left c = omega (arith, found-else c .if1 .left)
 
   first : (c : Found) → found-first c .first-word .result ≡ firstWord (found-start c .args .words .now)
   first c = found-first c .first-word .ensures
@@ -208,7 +208,7 @@ module _ (t : ℕ) where
       (p + length (c .tail4 .result .now) ≤ s .args .pending + length (s .args .words .now)) × (3 * length (c .tail4 .result .now) + p < 3 * length (s .args .words .now) + s .args .pending)
   less-word c =
       let s = word-start (tail-word c) in
-      less-behind (s .args .words .now) (s .args .pending) (tail-arity c .arity .result) (c .tail4 .ensures) (some (word-found (tail-word c))) (omega (arith, opened (tail-arity c)))
+      less-behind (s .args .words .now) (s .args .pending) (tail-arity c .arity .result) (c .tail4 .ensures) (pending-left (word-found (tail-word c))) (omega (arith, opened (tail-arity c)))
 
   -- ---- the needs
 
@@ -232,7 +232,7 @@ module _ (t : ℕ) where
       (rank-older _ _ _ _ _ (s .pre .0) fewer (omega (arith, few)), (few, older-aligned (a .variables .now) (a .places .now) (f .bound .result + 1) (older-variables o .tail .ensures) (o .tail2 .ensures) (s .pre .1 .1), s .pre .1 .2))
 
   write-from-sub-write-from : write-from-lts.Need-sub-write-from (write-from-claims t) (write-from-at t) write-from.Post
-  write-from-sub-write-from c = omega (arith, some (older-found (given-older (tail-given c))))
+  write-from-sub-write-from c = omega (arith, pending-left (older-found (given-older (tail-given c))))
 
   write-from-write-from-requires-2 : write-from-lts.Need-write-from-requires-2 (write-from-claims t) (write-from-at t) write-from.Post
   write-from-write-from-requires-2 c κs =
@@ -241,7 +241,7 @@ module _ (t : ℕ) where
       let s = found-start (older-found o) in
       let e = ap length (l .tail3 .ensures) in
       let d = length-drop 1 (s .args .words .now) in
-      let p = some (older-found o) in
+      let p = pending-left (older-found o) in
       (rank-less _ _ _ _ (s .pre .0) (omega (arith, e, d, p)), (omega (arith, e, d, p, s .pre .1 .0), s .pre .1 .1, s .pre .1 .2))
 
   write-from-add-result : write-from-lts.Need-add-result (write-from-claims t) (write-from-at t) write-from.Post
@@ -258,7 +258,7 @@ module _ (t : ℕ) where
       let f = older-found o in
       let s = found-start f in
       let a = s .args in
-      wrote-as (written-bound (ix s) (a .script .now) (a .variables .now) (a .places .now) (a .words .now) (a .pending) (f .bound .result) (some f) (s .pre .1 .1) (found f) (older-then o .if2 .taken)
+      wrote-as (written-bound (ix s) (a .script .now) (a .variables .now) (a .places .now) (a .words .now) (a .pending) (f .bound .result) (pending-left f) (s .pre .1 .1) (found f) (older-then o .if2 .taken)
       (older-variables o .tail .ensures) (o .tail2 .ensures) (older-given o .given .ensures) (more-tail m .tail3 .ensures))
       (wrote-more (partly-given g) (g .write-from .ensures) (m .write-from2 .ensures))
 
@@ -268,7 +268,7 @@ module _ (t : ℕ) where
       (s .pre .1 .2, λ n e. first-name (s .args .words .now) n (sym (first (else-found c)) ∙ e))
 
   write-from-sub-write-from-3 : write-from-lts.Need-sub-write-from-3 (write-from-claims t) (write-from-at t) write-from.Post
-  write-from-sub-write-from-3 c = omega (arith, some (word-found (tail-word c)))
+  write-from-sub-write-from-3 c = omega (arith, pending-left (word-found (tail-word c)))
 
   write-from-add-write-from : write-from-lts.Need-add-write-from (write-from-claims t) (write-from-at t) write-from.Post
   write-from-add-write-from c = omega (arith, less-word c .0, word-start (tail-word c) .pre .1 .0)
@@ -294,7 +294,7 @@ module _ (t : ℕ) where
       let s = found-start f in
       let a = s .args in
       let free = unbound-free (a .script .now) (a .variables .now) (a .places .now) (firstWord (a .words .now)) (omega (arith, found f, word-else w .if2 .left)) in
-      wrote-as (written-first (ix s) (σ s) (a .words .now) (a .pending) (some f) free
+      wrote-as (written-first (ix s) (σ s) (a .words .now) (a .pending) (pending-left f) free
       (word-plain w .plain-word .ensures ∙ ap (plainWord (ix s)) (first f)) (opened (tail-arity l)) (l .tail4 .ensures))
       (wrote-more (partly-word w) (w .write-word .ensures) (m .write-from3 .ensures))
 

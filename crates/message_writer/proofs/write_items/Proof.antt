@@ -62,8 +62,8 @@ abbrev σ : tie.Start → List (ℕ × Message)
 abbrev words : tie.Start → List ℕ
 words s = drop (s .args .at) (s .args .script .now)
 
-abbrev all : tie.Start → List Message
-all s = items (resolve (σ s) (messageAt (words s)))
+abbrev message-items : tie.Start → List Message
+message-items s = items (resolve (σ s) (messageAt (words s)))
 
 -- ---- the needs
 
@@ -76,7 +76,7 @@ returns c =
     let w = end-empty c in
     let n = then-count (empty-then w) in
     let s = count-start n in
-    wrote-as (items-none (ix s) (s .args .offset) (n .item-count .result) (all s) (n .item-count .ensures) (empty-then w .if1 .taken) (omega (arith, s .pre .2))) (w .write-word .ensures)
+    wrote-as (items-none (ix s) (s .args .offset) (n .item-count .result) (message-items s) (n .item-count .ensures) (empty-then w .if1 .taken) (omega (arith, s .pre .2))) (w .write-word .ensures)
 
 sub-write-rest : tie.Need-sub-write-rest
 sub-write-rest c = omega (arith, tail-else c .if1 .left)
@@ -86,7 +86,7 @@ few : (c : tie.After-tail) → 1 + length (c .tail .result .now) < 2 ^ 64
 few c = let s = count-start (tail-count c) in few-words (s .args .script .now) (s .args .at) (c .tail .ensures) (s .good .0 .1)
 
 -- the items of the message that is pending
-read : (c : tie.After-tail) → let s = count-start (tail-count c) in allItems (σ s) (firsts 1 (spelled (c .tail .result .now))) ≡ all s
+read : (c : tie.After-tail) → let s = count-start (tail-count c) in allItems (σ s) (firsts 1 (spelled (c .tail .result .now))) ≡ message-items s
 read c = let s = count-start (tail-count c) in ap (λ (l : List ℕ). allItems (σ s) (firsts 1 (spelled l))) (c .tail .ensures) ∙ one-message (σ s) (words s)
 
 write-rest-requires : tie.Need-write-rest-requires
@@ -98,7 +98,7 @@ returns-2 c =
     let l = rest-tail w in
     let n = tail-count l in
     let s = count-start n in
-    wrote-if (λ h. items-some (ix s) (s .args .offset) (n .item-count .result) (all s) (n .item-count .ensures) (tail-else l .if1 .left) (read l) (omega (arith, h, s .pre .2))) (w .write-rest .ensures)
+    wrote-if (λ h. items-some (ix s) (s .args .offset) (n .item-count .result) (message-items s) (n .item-count .ensures) (tail-else l .if1 .left) (read l) (omega (arith, h, s .pre .2))) (w .write-rest .ensures)
 
 pub write-items-spec : {M : Type 1} → statement M
 write-items-spec =

@@ -111,8 +111,8 @@ module _ (t : ℕ) where
   abbrev body-w : BodyStart → ℕ → ClosureHead
   body-w s = heads (s .args .script .now) (s .args .kinds .now) (s .args .starts .now) (s .args .offsets .now)
 
-  some : (c : First) → 0 < first-start c .args .fuel
-  some c = omega (arith, first-some c .if2 .left)
+  fuel-left : (c : First) → 0 < first-start c .args .fuel
+  fuel-left c = omega (arith, first-some c .if2 .left)
 
   first-then : (c : First) → let m = members (first-start c .args .left) in m ≡ c .first .result ∷ tail m
   first-then c = let s = first-start c in first-is (s .args .left) (c .first .result) (s .fits .left .fits) (first-else c .if1 .left) (c .first .ensures)
@@ -131,13 +131,13 @@ module _ (t : ℕ) where
   count-body-count-part-requires : count-body-lts.Need-count-part-requires (count-body-claims t) (count-body-at t) count-body.Post
   count-body-count-part-requires c κs =
       let s = first-start c in
-      (omega (arith, s .pre .0, some c), (s .pre .1 .0, s .pre .1 .1, first-below (s .args .left) (c .first .result) (tail (members (s .args .left))) (first-then c)))
+      (omega (arith, s .pre .0, fuel-left c), (s .pre .1 .0, s .pre .1 .1, first-below (s .args .left) (c .first .result) (tail (members (s .args .left))) (first-then c)))
 
   count-body-rest-requires : count-body-lts.Need-rest-requires (count-body-claims t) (count-body-at t) count-body.Post
   count-body-rest-requires c κs = let f = counted-first c in let s = first-start f in not-none (s .args .left) (s .fits .left .fits) (first-else f .if1 .left)
 
   count-body-count-body-requires : count-body-lts.Need-count-body-requires (count-body-claims t) (count-body-at t) count-body.Post
-  count-body-count-body-requires c κs = let f = rest-first c in let s = first-start f in (omega (arith, s .pre .0, some f), s .pre .1)
+  count-body-count-body-requires c κs = let f = rest-first c in let s = first-start f in (omega (arith, s .pre .0, fuel-left f), s .pre .1)
 
   count-body-returns-3 : count-body-lts.Need-returns-3 (count-body-claims t) (count-body-at t) count-body.Post
   count-body-returns-3 c =
@@ -241,10 +241,10 @@ pub +count-body+count-part-spec : {M : Type 1} → statement M
     (count-body-returns t)
     (count-body-returns-2 t)
     (λ c κs. search needs)
-    (λ c. omega (arith, some t c))
+    (λ c. omega (arith, fuel-left t c))
     (count-body-count-part-requires t)
     (count-body-rest-requires t)
-    (λ c. omega (arith, some t (rest-first t c)))
+    (λ c. omega (arith, fuel-left t (rest-first t c)))
     (count-body-count-body-requires t)
     (λ c κs. search needs)
     (count-body-returns-3 t))

@@ -159,8 +159,8 @@ module _ (t : ℕ) where
   body-long : (s : BodyStart) → length (s .args .out .now) * 4 < 2 ^ 63
   body-long s = omega arith
 
-  some : (c : First) → 0 < first-start c .args .fuel
-  some c = omega (arith, first-fuel c .if3 .left)
+  fuel-left : (c : First) → 0 < first-start c .args .fuel
+  fuel-left c = omega (arith, first-fuel c .if3 .left)
 
   first-then : (c : First) → let m = members (first-start c .args .left) in m ≡ c .first .result ∷ tail m
   first-then c = let s = first-start c in first-is (s .args .left) (c .first .result) (s .fits .left .fits) (first-some c .if2 .left) (c .first .ensures)
@@ -197,7 +197,7 @@ module _ (t : ℕ) where
       let f = asked-first c in
       let s = first-start f in
       let low = first-below (s .args .left) (f .first .result) (tail (members (s .args .left))) (first-then f) in
-      (omega (arith, s .pre .0, some f), (s .pre .1 .0, s .pre .1 .1, s .pre .1 .2, omega (arith, s .pre .1 .3, some f), low, omega (arith, first-else f .if1 .left), s .pre .1 .4))
+      (omega (arith, s .pre .0, fuel-left f), (s .pre .1 .0, s .pre .1 .1, s .pre .1 .2, omega (arith, s .pre .1 .3, fuel-left f), low, omega (arith, first-else f .if1 .left), s .pre .1 .4))
 
   write-body-rest-requires : write-body-lts.Need-rest-requires (write-body-claims t) (write-body-at t) write-body.Post
   write-body-rest-requires c κs = let f = part-first (known-part c) in let s = first-start f in not-none (s .args .left) (s .fits .left .fits) (first-some f .if2 .left)
@@ -206,7 +206,7 @@ module _ (t : ℕ) where
   write-body-write-body-requires c κs =
       let p = rest-part (asked-rest c) in
       let s = body-start p in
-      (omega (arith, s .pre .0, some (part-first p)), (s .pre .1 .0, s .pre .1 .1, s .pre .1 .2, omega (arith, s .pre .1 .3), omega (arith, s .pre .1 .4, partly-lent (partly-part p))))
+      (omega (arith, s .pre .0, fuel-left (part-first p)), (s .pre .1 .0, s .pre .1 .1, s .pre .1 .2, omega (arith, s .pre .1 .3), omega (arith, s .pre .1 .4, partly-lent (partly-part p))))
 
   write-body-add-result : write-body-lts.Need-add-result (write-body-claims t) (write-body-at t) write-body.Post
   write-body-add-result c = let p = end-part c in omega (arith, partly-within (partly-part p) (end-more c .write-body .ensures .within), body-long (body-start p))
@@ -370,11 +370,11 @@ pub +write-body+write-part-spec : {M : Type 1} → statement M
     (λ c. search needs)
     (write-body-returns-3 t)
     (λ c κs. search needs)
-    (λ c. omega (arith, some t c))
+    (λ c. omega (arith, fuel-left t c))
     (write-body-write-part-requires t)
     (write-body-rest-requires t)
     (λ c. let p = rest-part t c in omega (arith, body-start t p .pre .1 .4, partly-part t p .within))
-    (λ c. omega (arith, some t (part-first t (rest-part t c))))
+    (λ c. omega (arith, fuel-left t (part-first t (rest-part t c))))
     (λ c. let p = rest-part t c in omega (arith, partly-part t p .within, body-long t (body-start t p)))
     (λ c. omega (arith, partly-behind (partly-part t (rest-part t c))))
     (λ c. omega (arith, partly-behind (partly-part t (rest-part t c))))
