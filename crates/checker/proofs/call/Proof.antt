@@ -18,12 +18,15 @@ lent s = callOf (s .args .script .now) (s .args .moves .now) (s .args .rule .now
 
 with-script-requires : tie.Need-with-script-requires
 with-script-requires c κs =
-    let yes = c .before .enum-told .given in let r = c .before .before .before in
+    let yes = c .before .enum-told .given in
+    let r = c .before .before .before in
     script-held (read-start r .args .script .now) (r .read-script .result) (r .read-script .ensures .0) (yes .0 .0) (yes .1) (r .read-script .ensures .1)
 
 returns : tie.Need-returns
 returns c =
-    let no = c .before .enum-told2 .given in let r = c .before .before .before in let s = read-start r in
+    let no = c .before .enum-told2 .given in
+    let r = c .before .before .before in
+    let s = read-start r in
     call-kept (lent s) (c .handed-up .result) (s .args .out .now)
     (c .handed-up .ensures (no .0 .0) (no .0 .1 .0) (s .args .out .now) (no .1)
     ∙ sym (answers-script (lent s) (no .0 .0) (no .0 .1 .0) (script-refused (s .args .script .now) (r .read-script .result) (r .read-script .ensures .0) (no .0 .0) (no .0 .1 .0) (no .1))))
@@ -37,7 +40,10 @@ pub call-spec : {M : Type 1} → statement M
 call-spec =
     tie.close
     (tie.spec
-    (λ c κs. search needs) (λ c. search needs) (λ c. search needs) (λ c κs. search needs)
+    (λ c κs. search needs)
+    (λ c. search needs)
+    (λ c. search needs)
+    (λ c κs. search needs)
     returns
     with-script-requires
     (λ c. search needs)

@@ -30,7 +30,11 @@ pub with-rule-spec : {M : Type 1} → statement M
 with-rule-spec =
     tie.close
     (tie.spec
-    (λ c κs. search needs) (λ c. search needs) (λ c. search needs) (λ c κs. search needs)
+    (λ c κs. search needs)
+    (λ c. search needs)
+    (λ c. search needs)
+    (λ c κs. search needs)
     returns
     with-terms-requires
-    (λ c. search needs) (λ c. search needs))
+    (λ c. search needs)
+    (λ c. search needs))

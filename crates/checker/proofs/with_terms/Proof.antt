@@ -75,6 +75,9 @@ ready c =
 
 -- ---- the needs
 
+lend-requires : tie.Need-lend-requires
+lend-requires c κs = c .first-state .ensures .0 .0 .bound .within
+
 run-list-requires : tie.Need-run-list-requires
 run-list-requires c κs =
     let l = c .before .before .before .before in
@@ -117,11 +120,14 @@ with-terms-spec =
     tie.close
     (tie.spec
     (λ c κs. search needs)
-    (λ c κs. c .first-state .ensures .0 .0 .bound .within)
+    lend-requires
     run-list-requires
-    (λ c. search needs) (λ c κs. search needs)
+    (λ c. search needs)
+    (λ c κs. search needs)
     returns
-    (λ c. search needs) (λ c. search needs) (λ c κs. search needs)
+    (λ c. search needs)
+    (λ c. search needs)
+    (λ c κs. search needs)
     with-moves-requires
     (λ c. search needs)
     returns-2)

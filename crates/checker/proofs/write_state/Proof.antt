@@ -56,7 +56,8 @@ bound c = let t = bulks-counts (c .before) .before in λ q. bindingsIn (tails-st
 
 write-tree-requires : tie.Need-write-tree-requires
 write-tree-requires c κs =
-    let u = c .before .before .before in let t = u .before .before .before .before in
+    let u = c .before .before .before in
+    let t = bulks-counts (c .before .before) .before in
     let s = tails-start (c .before) in
     (transport (λ q. Cached (s .args .script .now) (sym (t .before .before .tail .ensures) q) (sym (t .tail2 .ensures) q) (sym (u .before .before .tail3 .ensures) q) (sym (u .tail4 .ensures) q) (sym (c .before .tail5 .ensures) q)) (s .pre .0 .bound .cached), s .pre .1)
 

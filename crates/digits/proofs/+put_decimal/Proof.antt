@@ -44,7 +44,7 @@ pub +put-decimal-spec : {M : Type 1} → statement M
     (put-decimal-at t)
     put-decimal.Post
     (λ c. search needs) (λ c. search needs) (λ c κs. search needs) (λ c. search needs)
-    (λ c k h. puts-as (decimal-one k _ (c .before .before .before .before .if1 .taken)) (c .before .before .put-byte .ensures))
+    (λ c k h. let b = c .before .before in puts-as (decimal-one k _ (b .before .before .if1 .taken)) (b .put-byte .ensures))
     (λ c κs. (omega (arith, c .before .if1 .left), tt))
     (λ c. search needs) (λ c. search needs) (λ c κs. search needs) (λ c. search needs)
     (returns-2 t)

@@ -11,10 +11,13 @@ use Rattle.held_bindings.proofs.Sizing.{cached-more}
 use Rattle.held_bindings.proofs.bind.Statement.{statement}
 use Rattle.held_bindings.proofs.bind.Tie as tie
 
+abbrev held-start : tie.After-measure-held → tie.Start
+held-start c = c .before .before .before
+
 returns : tie.Need-returns
 unfolding bindingsOf bindingsIn
 returns c =
-    let s = c .before .before .before .before in
+    let s = held-start (c .before) in
     let l-variables : length (s .args .b .variables) ≡ 32 = search needs in
     let l-places : length (s .args .b .places) ≡ 32 = search needs in
     let l-counts : length (s .args .b .counts) ≡ 32 = search needs in

@@ -54,8 +54,11 @@ is-around-cast-if2 t c = omega (arith, c .shared-slice-known2 .given 0)
 is-around-returns-2 : (t : ℕ) → is-around-lts.Need-returns-2 (claims t) (is-around-at t) is-around.Post
 is-around-returns-2 t c = member-here _ _ (omega arith) (c .if2 .taken)
 
+abbrev arg-start : (t : ℕ) → is-around-lts.After-is-around-arg (claims t) (is-around-at t) is-around.Post → is-around-lts.Start (claims t) (is-around-at t) is-around.Post
+arg-start t c = c .before .before .before .before .before
+
 is-around-is-around-requires : (t : ℕ) → is-around-lts.Need-is-around-requires (claims t) (is-around-at t) is-around.Post
-is-around-is-around-requires t c κs = (omega (arith, length-part (c .before .before .before .before .before .args .around .now) 1), tt)
+is-around-is-around-requires t c κs = (omega (arith, length-part (arg-start t c .args .around .now) 1), tt)
 
 is-around-returns-3 : (t : ℕ) → is-around-lts.Need-returns-3 (claims t) (is-around-at t) is-around.Post
 is-around-returns-3 t c = c .is-around .ensures ∙ member-later _ _ (omega arith) (c .before .before .if2 .left)
