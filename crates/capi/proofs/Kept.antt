@@ -7,17 +7,17 @@ use mathlib.Core.Path.{_≡_, refl, sym, ap, _∙_, subst}
 use native.Mathlib.Omega.{arith}
 use lib.ListN.{length, drop, getD}
 use borrow.Author.Tests.{le-leb, lt-leb}
-use Rattle.plain_call.specs.Call.{Call, Verdict, accepted, refused, Answer, leftBy, answer}
+use Rattle.theory_call.specs.Call.{Call, Verdict, accepted, refused, Answer, leftBy, answer}
 use Rattle.checker.specs.Answering.{verdictOf, answerOf}
 use Rattle.checker.specs.declared.Answer as engine
-use Rattle.plain_call.specs.Standing.{Decides, Reduces, MovesBounded, WeightHolds, WeightBounded}
+use Rattle.theory_call.specs.Standing.{Decides, Reduces, MovesBounded, WeightHolds, WeightBounded}
 use Rattle.checker.proofs.Concluding.{decides}
-use Rattle.plain_call.proofs.ClosureRuns.{moves-bounded}
-use Rattle.plain_call.proofs.Runs.{weight-holds}
-use Rattle.plain_call.proofs.Reducing.{reduces}
-use Rattle.plain_call.proofs.Leaving as leaving
-use Rattle.plain_call.proofs.Small.{PlaceWithin, Small, answer-small, weight-bounded}
-use Rattle.answer_words.specs.Told.{saidOf, placeOf, told}
+use Rattle.theory_call.proofs.ClosureRuns.{moves-bounded}
+use Rattle.theory_call.proofs.Runs.{weight-holds}
+use Rattle.theory_call.proofs.Reducing.{reduces}
+use Rattle.theory_call.proofs.Leaving as leaving
+use Rattle.theory_call.proofs.Small.{PlaceWithin, Small, answer-small, weight-bounded}
+use Rattle.host_answer_words.specs.Told.{saidOf, placeOf, told}
 use Rattle.capi.specs.Told.{returned, answered, written, Decided, ReducedBy, ReturnedBy, ReadmittedBy, left}
 
 -- what is kept to where the call returns r, given words for its answer, and leaves these and those in the output buffer

@@ -7,9 +7,9 @@ use mathlib.Core.List.{List, _++_}
 use mathlib.Core.Path.{_≡_}
 use lib.ListN.{length, getD, take, drop}
 use lib.Dec.{leb}
-use Rattle.plain_call.specs.Call.{Call, accepted, refused, answer}
-use Rattle.plain_call.specs.Standing.{Standing, Holds, Reduces, Returned, Readmitted}
-use Rattle.answer_words.specs.Told.{told}
+use Rattle.theory_call.specs.Call.{Call, accepted, refused, answer}
+use Rattle.theory_call.specs.Standing.{Standing, Holds, Reduces, Returned, Readmitted}
+use Rattle.host_answer_words.specs.Told.{told}
 
 -- whether there is room for the eight words
 abbrev pub hasRoom : List ℕ → Bool

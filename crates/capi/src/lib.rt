@@ -1,10 +1,10 @@
 // The call for C and Rust. It rests on the promises of checker's `call` and of answer_words.
-use answer_words::tell;
+use host_answer_words::tell;
 use checker::call;
 ghost use mathlib.Core.Path.{_≡_};
 ghost use lib.ListN.{getD};
 ghost use Rattle.checker.specs.Answering.{callOf};
-ghost use Rattle.plain_call.specs.Standing.{MovesBounded, WeightHolds, WeightBounded};
+ghost use Rattle.theory_call.specs.Standing.{MovesBounded, WeightHolds, WeightBounded};
 ghost use Rattle.capi.specs.Told.{returned, answered, written, Decided, ReducedBy, ReturnedBy, ReadmittedBy, left};
 
 // The whole call. Where `answer` has fewer than eight words, nothing is done.

@@ -9,38 +9,38 @@ use lib.Dec.{leb, ltb, eqb}
 use lib.ListN.{length, take}
 use lib.Seq.{take-all}
 use borrow.Author.Tests.{leb-true, le-leb, lt-leb}
-use Rattle.messages.specs.Words.{kind, operand}
-use Rattle.messages.specs.Reading.{Cursor, Reading, refuse, got, _>>=_, outcome}
-use Rattle.messages.specs.declared.Outcome.{Outcome}
-use Rattle.messages.specs.declared.Outcome.the-variants.{Read, Refused}
-use Rattle.scripts.specs.Tree.{parts}
-use Rattle.scripts.specs.Script.{Script, readScript}
-use Rattle.scripts.specs.Measures.{greatestName}
-use Rattle.scripts.specs.Represents.{Tabled}
-use Rattle.scripts.specs.Table as table
-use Rattle.scripts.specs.declared.Table.{Table}
-use Rattle.scripts.specs.declared.Scan.{Scan}
-use Rattle.scripts.proofs.Tabled.{script-number}
-use Rattle.slices.proofs.Tests.{byTest}
-use Rattle.rules.specs.Rule.{Rule, ruleName, greatestRuleName}
-use Rattle.rules.specs.ReadRule.{readWholeRule}
-use Rattle.rule_reader.specs.Ruled as ruled
-use Rattle.rule_reader.specs.RuleTable as rules
-use Rattle.rule_reader.specs.declared.RuleTable.{RuleTable}
-use Rattle.rule_reader.specs.declared.RuleScan.{RuleScan}
-use Rattle.closure_machine.specs.Closure.{Closure, ClosureMachine, settleUnder, closureOf, Bindings}
-use Rattle.closures.specs.Represents.{boundIn, Represents}
-use Rattle.closures.specs.declared.State.{State}
-use Rattle.plain_call.specs.Call.{Call, refusal, startOf, Question, question, asking, terms, door, answer}
-use Rattle.plain_call.specs.ClosureCall.{ClosureRan, halted, moved, closureRun, begun}
-use Rattle.lists.specs.Running.{endedOf, madeOf, Left, Runs}
+use Rattle.read_messages.specs.Words.{kind, operand}
+use Rattle.read_messages.specs.Reading.{Cursor, Reading, refuse, got, _>>=_, outcome}
+use Rattle.read_messages.specs.declared.Outcome.{Outcome}
+use Rattle.read_messages.specs.declared.Outcome.the-variants.{Read, Refused}
+use Rattle.read_scripts.specs.Tree.{parts}
+use Rattle.read_scripts.specs.Script.{Script, readScript}
+use Rattle.read_scripts.specs.Measures.{greatestName}
+use Rattle.read_scripts.specs.Represents.{Tabled}
+use Rattle.read_scripts.specs.Table as table
+use Rattle.read_scripts.specs.declared.Table.{Table}
+use Rattle.read_scripts.specs.declared.Scan.{Scan}
+use Rattle.read_scripts.proofs.Tabled.{script-number}
+use Rattle.base_slices.proofs.Tests.{byTest}
+use Rattle.read_rule_words.specs.Rule.{Rule, ruleName, greatestRuleName}
+use Rattle.read_rule_words.specs.ReadRule.{readWholeRule}
+use Rattle.read_rules.specs.Ruled as ruled
+use Rattle.read_rules.specs.RuleTable as rules
+use Rattle.read_rules.specs.declared.RuleTable.{RuleTable}
+use Rattle.read_rules.specs.declared.RuleScan.{RuleScan}
+use Rattle.theory_closures.specs.Closure.{Closure, ClosureMachine, settleUnder, closureOf, Bindings}
+use Rattle.engine_states.specs.Represents.{boundIn, Represents}
+use Rattle.engine_states.specs.declared.State.{State}
+use Rattle.theory_call.specs.Call.{Call, refusal, startOf, Question, question, asking, terms, door, answer}
+use Rattle.theory_call.specs.ClosureCall.{ClosureRan, halted, moved, closureRun, begun}
+use Rattle.call_lists.specs.Running.{endedOf, madeOf, Left, Runs}
 use Rattle.checker.specs.Answering.{askedOf, callOf}
 use Rattle.checker.specs.Calling.{ScriptHeld, RuleHeld, Stands}
-use Rattle.lists.specs.declared.Ended.{Ended}
-use Rattle.lists.specs.declared.Ended.the-variants.{Made, Halted}
-use Rattle.plain_call.proofs.Asking.{AllYes, asking-yes, asking-no}
-use Rattle.plain_call.proofs.Entering.{terms-few, door-unread, own-unasked, own-got}
-use Rattle.plain_call.proofs.Called.{answers-door, answers-halted}
+use Rattle.call_lists.specs.declared.Ended.{Ended}
+use Rattle.call_lists.specs.declared.Ended.the-variants.{Made, Halted}
+use Rattle.theory_call.proofs.Asking.{AllYes, asking-yes, asking-no}
+use Rattle.theory_call.proofs.Entering.{terms-few, door-unread, own-unasked, own-got}
+use Rattle.theory_call.proofs.Called.{answers-door, answers-halted}
 
 -- ---- names have 28 bits
 

@@ -7,38 +7,38 @@ use mathlib.Core.Path.{_≡_, refl, sym, ap, _∙_, subst}
 use native.Mathlib.Omega.{arith}
 use lib.Dec.{eqb}
 use lib.ListN.{length, take}
-use Rattle.messages.specs.Reading.{got}
-use Rattle.scripts.specs.Tree.{oneIf, timesIn}
-use Rattle.scripts.specs.Measures.{greatestName}
-use Rattle.scripts.specs.declared.Table.{Table}
-use Rattle.machine.proofs.Sums.{map-total}
-use Rattle.rules.specs.Rule.{greatestRuleName}
-use Rattle.rules.specs.ReadRule.{readWholeRule}
-use Rattle.rule_reader.specs.declared.RuleTable.{RuleTable}
-use Rattle.closure_machine.specs.Closure.{unfoldHead, unfolded, unfoldMachine}
-use Rattle.closures.specs.Represents.{boundIn}
-use Rattle.closures.specs.declared.State.{State}
-use Rattle.writer.specs.Bodies.{Scripted}
-use Rattle.decision.specs.Walk.{walkFrom}
-use Rattle.decision.specs.ClosureWalk.{closureSpace}
-use Rattle.stages.specs.Visits.{walkedOf, Walks}
-use Rattle.stages.specs.declared.Walked.{Walked}
-use Rattle.rules.proofs.Order.{rule-ordered}
-use Rattle.plain_call.specs.Call.{Call, Verdict, accepted, refused, leftBy, walked, startOf, setting, door, answer}
-use Rattle.plain_call.specs.Call as plain
-use Rattle.plain_call.specs.ClosureCall.{moved, closureRun, unfoldRan, begun}
+use Rattle.read_messages.specs.Reading.{got}
+use Rattle.read_scripts.specs.Tree.{oneIf, timesIn}
+use Rattle.read_scripts.specs.Measures.{greatestName}
+use Rattle.read_scripts.specs.declared.Table.{Table}
+use Rattle.theory_machine.proofs.Sums.{map-total}
+use Rattle.read_rule_words.specs.Rule.{greatestRuleName}
+use Rattle.read_rule_words.specs.ReadRule.{readWholeRule}
+use Rattle.read_rules.specs.declared.RuleTable.{RuleTable}
+use Rattle.theory_closures.specs.Closure.{unfoldHead, unfolded, unfoldMachine}
+use Rattle.engine_states.specs.Represents.{boundIn}
+use Rattle.engine_states.specs.declared.State.{State}
+use Rattle.write_trees.specs.Bodies.{Scripted}
+use Rattle.theory_decision.specs.Walk.{walkFrom}
+use Rattle.theory_decision.specs.ClosureWalk.{closureSpace}
+use Rattle.walk_stages.specs.Visits.{walkedOf, Walks}
+use Rattle.walk_stages.specs.declared.Walked.{Walked}
+use Rattle.read_rule_words.proofs.Order.{rule-ordered}
+use Rattle.theory_call.specs.Call.{Call, Verdict, accepted, refused, leftBy, walked, startOf, setting, door, answer}
+use Rattle.theory_call.specs.Call as plain
+use Rattle.theory_call.specs.ClosureCall.{moved, closureRun, unfoldRan, begun}
 use Rattle.checker.specs.Answering.{verdictOf, answerOf, callOf}
 use Rattle.checker.specs.declared.Answer.{Answer}
 use Rattle.checker.specs.Calling.{Stands}
-use Rattle.plain_call.specs.Standing.{Standing, Decides, Reduces, Returned, Readmitted, MovesBounded, WeightHolds, WeightBounded}
-use Rattle.plain_call.proofs.ClosureRuns.{started-unfolded, moves-bounded}
-use Rattle.plain_call.proofs.Runs.{weight-holds}
-use Rattle.plain_call.proofs.Entering.{starting-got, terms-few, own-got}
-use Rattle.plain_call.proofs.Small.{weight-bounded}
-use Rattle.plain_call.proofs.Reducing.{reduces}
-use Rattle.plain_call.proofs.Leaving.{returned, readmitted}
-use Rattle.plain_call.proofs.Called.{answers-walked}
-use Rattle.plain_call.proofs.Verdicts.{answer-stands, standing-good, verdict-yes, verdict-no}
+use Rattle.theory_call.specs.Standing.{Standing, Decides, Reduces, Returned, Readmitted, MovesBounded, WeightHolds, WeightBounded}
+use Rattle.theory_call.proofs.ClosureRuns.{started-unfolded, moves-bounded}
+use Rattle.theory_call.proofs.Runs.{weight-holds}
+use Rattle.theory_call.proofs.Entering.{starting-got, terms-few, own-got}
+use Rattle.theory_call.proofs.Small.{weight-bounded}
+use Rattle.theory_call.proofs.Reducing.{reduces}
+use Rattle.theory_call.proofs.Leaving.{returned, readmitted}
+use Rattle.theory_call.proofs.Called.{answers-walked}
+use Rattle.theory_call.proofs.Verdicts.{answer-stands, standing-good, verdict-yes, verdict-no}
 use Rattle.checker.proofs.Calling.{number-is}
 
 -- ---- questions 17 to 19

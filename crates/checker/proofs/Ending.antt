@@ -5,21 +5,21 @@ use mathlib.Core.List.{List, [], _∷_}
 use mathlib.Core.Path.{_≡_, refl, sym, ap, _∙_}
 use native.Mathlib.Omega.{arith}
 use lib.ListN.{length, drop, length-drop}
-use Rattle.scripts.specs.Tree.{parts}
-use Rattle.bindings.specs.Resolve.{bindingsIn}
-use Rattle.held_bindings.specs.Held.{bindingsOf}
-use Rattle.machine.specs.PlainMachine.{Machine, weightOf}
-use Rattle.machine.proofs.Sums.{map-total}
-use Rattle.closure_machine.specs.Closure.{Closure, unfoldHead, unfolded, unfoldMachine}
-use Rattle.closures.specs.Represents.{boundIn, Counted}
-use Rattle.closures.specs.declared.State.{State}
-use Rattle.message_writer.specs.Buffer.{over}
-use Rattle.writer.specs.Room.{room, answered, buffered}
-use Rattle.writer.specs.declared.Fitting.{Fitting}
-use Rattle.writer.specs.declared.Fitting.the-variants.{Words, Refused}
-use Rattle.decision.specs.Walk.{Count}
-use Rattle.plain_call.specs.Call.{Call, accepted, refusal, written, finish, roomy, accepting}
-use Rattle.plain_call.specs.Call as plain
+use Rattle.read_scripts.specs.Tree.{parts}
+use Rattle.engine_bindings.specs.Bindings.{bindingsIn}
+use Rattle.engine_held_bindings.specs.Held.{bindingsOf}
+use Rattle.theory_machine.specs.PlainMachine.{Machine, weightOf}
+use Rattle.theory_machine.proofs.Sums.{map-total}
+use Rattle.theory_closures.specs.Closure.{Closure, unfoldHead, unfolded, unfoldMachine}
+use Rattle.engine_states.specs.Represents.{boundIn, Counted}
+use Rattle.engine_states.specs.declared.State.{State}
+use Rattle.write_messages.specs.Buffer.{over}
+use Rattle.write_trees.specs.Room.{room, answered, buffered}
+use Rattle.write_trees.specs.declared.Fitting.{Fitting}
+use Rattle.write_trees.specs.declared.Fitting.the-variants.{Words, Refused}
+use Rattle.theory_decision.specs.Walk.{Count}
+use Rattle.theory_call.specs.Call.{Call, accepted, refusal, written, finish, roomy, accepting}
+use Rattle.theory_call.specs.Call as plain
 use Rattle.checker.specs.Answering.{verdictOf, answerOf}
 use Rattle.checker.specs.declared.Answer.{Answer}
 

@@ -3,11 +3,11 @@
 use Prim.Native.Nat.{ℕ}
 use mathlib.Core.Bool.{true, false}
 use mathlib.Core.List.{List}
-use Rattle.messages.specs.Reading.{Reading, refuse, got}
-use Rattle.messages.specs.declared.Outcome.{Outcome}
-use Rattle.messages.specs.declared.Outcome.the-variants as outcome
-use Rattle.plain_call.specs.Call.{Call}
-use Rattle.plain_call.specs.Call as plain
+use Rattle.read_messages.specs.Reading.{Reading, refuse, got}
+use Rattle.read_messages.specs.declared.Outcome.{Outcome}
+use Rattle.read_messages.specs.declared.Outcome.the-variants as outcome
+use Rattle.theory_call.specs.Call.{Call}
+use Rattle.theory_call.specs.Call as plain
 use Rattle.checker.specs.declared.Verdict.{Verdict}
 use Rattle.checker.specs.declared.Verdict.the-variants.{Yes, No, Refused}
 use Rattle.checker.specs.declared.Answer.{Answer}

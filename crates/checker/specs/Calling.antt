@@ -4,19 +4,19 @@ use Prim.Native.Nat.{ℕ}
 use mathlib.Core.List.{List}
 use mathlib.Core.Path.{_≡_}
 use lib.ListN.{length}
-use Rattle.messages.specs.Reading.{Cursor, got}
-use Rattle.scripts.specs.Script.{Script, readScript}
-use Rattle.scripts.specs.Represents.{Tabled}
-use Rattle.scripts.specs.declared.Table.{Table}
-use Rattle.rules.specs.Rule.{Rule}
-use Rattle.rules.specs.ReadRule.{readWholeRule}
-use Rattle.rule_reader.specs.Ruled as rules
-use Rattle.rule_reader.specs.declared.RuleTable.{RuleTable}
-use Rattle.closure_machine.specs.Closure.{ClosureMachine}
-use Rattle.closures.specs.Represents.{boundIn, Represents}
-use Rattle.closures.specs.declared.State.{State}
-use Rattle.plain_call.specs.Call.{asking, terms}
-use Rattle.plain_call.specs.ClosureCall.{moved, closureRun, begun}
+use Rattle.read_messages.specs.Reading.{Cursor, got}
+use Rattle.read_scripts.specs.Script.{Script, readScript}
+use Rattle.read_scripts.specs.Represents.{Tabled}
+use Rattle.read_scripts.specs.declared.Table.{Table}
+use Rattle.read_rule_words.specs.Rule.{Rule}
+use Rattle.read_rule_words.specs.ReadRule.{readWholeRule}
+use Rattle.read_rules.specs.Ruled as rules
+use Rattle.read_rules.specs.declared.RuleTable.{RuleTable}
+use Rattle.theory_closures.specs.Closure.{ClosureMachine}
+use Rattle.engine_states.specs.Represents.{boundIn, Represents}
+use Rattle.engine_states.specs.declared.State.{State}
+use Rattle.theory_call.specs.Call.{asking, terms}
+use Rattle.theory_call.specs.ClosureCall.{moved, closureRun, begun}
 
 -- the script is read, and the table holds it
 pub record ScriptHeld (script : List ℕ) (t : Table) : Type 0 where

@@ -9,12 +9,12 @@ use borrow.Author.Tests.{leb-true}
 use lib.Dec.{ltb, lit≤}
 use lib.ListN.{length, take, drop, replicate, length-append, length-take, length-drop, length-replicate}
 use Rattle.io.specs.Counts.{Counts}
-use Rattle.plain_call.specs.Call.{Call, Verdict, accepted, refused, Answer, answer, refusal, written}
-use Rattle.plain_call.proofs.Answers.{answer-ends}
+use Rattle.theory_call.specs.Call.{Call, Verdict, accepted, refused, Answer, answer, refusal, written}
+use Rattle.theory_call.proofs.Answers.{answer-ends}
 use Rattle.checker.specs.Answering.{callOf}
-use Rattle.digits.specs.Digits.{digit, hexadecimal, line, lines, decimalBy, decimal, Puts}
-use Rattle.text.specs.Text.{refusedText, atText, movesText, visitsText, deepestText, weightText, wordsText, refusalText, countsText, saidText, verdictText}
-use Rattle.replies.specs.Reply.{counted, replied, unfitText, callReply, ruleReply, movesReply, scriptReply, wordsReply}
+use Rattle.program_digits.specs.Digits.{digit, hexadecimal, line, lines, decimalBy, decimal, Puts}
+use Rattle.program_text.specs.Text.{refusedText, atText, movesText, visitsText, deepestText, weightText, wordsText, refusalText, countsText, saidText, verdictText}
+use Rattle.program_replies.specs.Reply.{counted, replied, unfitText, callReply, ruleReply, movesReply, scriptReply, wordsReply}
 use Rattle.skycorbel.specs.Input.{reply}
 use Rattle.skycorbel.specs.Right.{Right}
 use Rattle.skycorbel.proofs.Deciding.{reply-right}

@@ -9,15 +9,15 @@ use native.Mathlib.Omega.{arith}
 use lib.Dec.{leb, eqb}
 use lib.ListN.{length, take, getD, replicate, length-take, take-append-drop}
 use borrow.Author.Tests.{leb-true, eqb-true}
-use Rattle.slices.proofs.Tests.{byTest}
-use Rattle.machine.proofs.Options.{some-is, none≢some}
-use Rattle.plain_call.specs.Call.{Call, Verdict, accepted, refused, Answer, answer}
-use Rattle.plain_call.specs.Standing.{Decides}
-use Rattle.plain_call.proofs.Answers.{refused≢accepted}
+use Rattle.base_slices.proofs.Tests.{byTest}
+use Rattle.theory_machine.proofs.Options.{some-is, none≢some}
+use Rattle.theory_call.specs.Call.{Call, Verdict, accepted, refused, Answer, answer}
+use Rattle.theory_call.specs.Standing.{Decides}
+use Rattle.theory_call.proofs.Answers.{refused≢accepted}
 use Rattle.checker.specs.Answering.{callOf}
 use Rattle.checker.proofs.Concluding.{decides}
-use Rattle.text.specs.Text.{refusalText, saidText, verdictText}
-use Rattle.replies.specs.Reply.{counted, replied, unfitText, callReply, ruleReply, movesReply, scriptReply, wordsReply}
+use Rattle.program_text.specs.Text.{refusalText, saidText, verdictText}
+use Rattle.program_replies.specs.Reply.{counted, replied, unfitText, callReply, ruleReply, movesReply, scriptReply, wordsReply}
 use Rattle.skycorbel.specs.Input.{wordsOf, reply}
 use Rattle.skycorbel.specs.Right.{counting, inputWords, Asks, Begins, Right}
 use Rattle.skycorbel.proofs.Reading.{length-words}

@@ -4,7 +4,7 @@ use mathlib.Core.List.{List}
 use mathlib.Core.Path.{_≡_, refl}
 use borrow.Author.Tests.{le-leb, lt-leb, eq-eqb, ne-eqb}
 use lib.ListN.{length}
-use Rattle.replies.specs.Reply.{unfitText, wordsReply}
+use Rattle.program_replies.specs.Reply.{unfitText, wordsReply}
 use Rattle.skycorbel.specs.Input.{wordsOf, reply}
 
 pub reply-long : (s : List ℕ) → 24576 < length s → unfitText ≡ reply s

@@ -4,9 +4,9 @@ use Prim.Native.Nat.{ℕ, _*_, _≤_}
 use mathlib.Core.List.{List, [], _∷_, _++_}
 use mathlib.Core.Path.{_≡_}
 use lib.ListN.{length, take, replicate}
-use Rattle.plain_call.specs.Call.{Call}
-use Rattle.plain_call.specs.Standing.{Standing, Holds}
-use Rattle.text.specs.Text.{yesText, noText}
+use Rattle.theory_call.specs.Call.{Call}
+use Rattle.theory_call.specs.Standing.{Standing, Holds}
+use Rattle.program_text.specs.Text.{yesText, noText}
 use Rattle.skycorbel.specs.Input.{wordsOf}
 
 -- a list behind its count

@@ -1,14 +1,14 @@
 // The program: the words that standard input spells, and the reply to them as text. Everything between the bytes read and
 // the bytes written is `reply`. It rests on the reply to words, and for reading and writing on io.
-use replies::put_unfit;
-use replies::reply_to_words;
-use slices::head;
+use program_replies::put_unfit;
+use program_replies::reply_to_words;
+use base_slices::head;
 ghost use mathlib.Core.Path.{_≡_};
 ghost use Prim.Native.Nat.{_+_, _*_, _≤_, _<_};
 ghost use lib.ListN.{length, take, drop};
 ghost use Rattle.io.specs.Counts.{Counts};
-ghost use Rattle.digits.specs.Digits.{Puts};
-ghost use Rattle.replies.specs.Reply.{wordsReply};
+ghost use Rattle.program_digits.specs.Digits.{Puts};
+ghost use Rattle.program_replies.specs.Reply.{wordsReply};
 ghost use Rattle.skycorbel.specs.Input.{wordOf, wordsOf, reply as replyOf};
 ghost use Rattle.skycorbel.specs.Right.{Right};
 

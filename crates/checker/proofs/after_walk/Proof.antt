@@ -1,10 +1,10 @@
 -- `after_walk` meets its contract: a stop is a refusal. Assumes nothing.
 use mathlib.Core.Path.{sym, ap, _∙_}
-use Rattle.closure_machine.specs.Closure.{unfoldMachine}
-use Rattle.closures.specs.Represents.{boundIn}
-use Rattle.stages.specs.Visits.{walkedOf}
-use Rattle.stages.specs.declared.Walked as declared
-use Rattle.plain_call.specs.Call.{refusal, walked}
+use Rattle.theory_closures.specs.Closure.{unfoldMachine}
+use Rattle.engine_states.specs.Represents.{boundIn}
+use Rattle.walk_stages.specs.Visits.{walkedOf}
+use Rattle.walk_stages.specs.declared.Walked as declared
+use Rattle.theory_call.specs.Call.{refusal, walked}
 use Rattle.checker.specs.Answering.{callOf}
 use borrow.Author.Needs.{needs}
 use Rattle.checker.proofs.after_walk.Statement.{statement}

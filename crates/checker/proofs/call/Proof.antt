@@ -1,8 +1,8 @@
 -- `call` meets its contract: questions 1 to 6, and what is promised of the answer. Assumes nothing.
 use mathlib.Core.Path.{sym, _∙_}
-use Rattle.plain_call.specs.Call.{Call}
+use Rattle.theory_call.specs.Call.{Call}
 use Rattle.checker.specs.Answering.{callOf}
-use Rattle.plain_call.proofs.Called.{answers-script}
+use Rattle.theory_call.proofs.Called.{answers-script}
 use Rattle.checker.proofs.Calling.{script-refused, script-held}
 use Rattle.checker.proofs.Concluding.{call-kept}
 use borrow.Author.Needs.{needs}

@@ -1,8 +1,8 @@
 -- `finish` meets its contract: the writer says whether the tree fits. Assumes nothing.
 use mathlib.Core.Path.{_≡_, refl, sym, _∙_}
 use lib.ListN.{length}
-use Rattle.closure_machine.specs.Closure.{unfoldMachine}
-use Rattle.closures.specs.Represents.{boundIn}
+use Rattle.theory_closures.specs.Closure.{unfoldMachine}
+use Rattle.engine_states.specs.Represents.{boundIn}
 use Rattle.checker.specs.Answering.{callOf}
 use Rattle.checker.proofs.Ending.{ends-refused, ends-words, weighs-so}
 use borrow.Author.Needs.{needs}
@@ -14,7 +14,7 @@ use Rattle.checker.proofs.finish.Lts as lts
 use Rattle.checker.proofs.refused.Reads as refused-reads
 use Rattle.checker.proofs.said.Reads as said-reads
 use Rattle.checker.proofs.write_state.Reads as write-state-reads
-use Rattle.closures.proofs.weigh.Reads as weigh-reads
+use Rattle.engine_states.proofs.weigh.Reads as weigh-reads
 
 -- the variables are an array
 abbrev Start : Type 0

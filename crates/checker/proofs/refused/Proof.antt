@@ -1,6 +1,6 @@
 -- `refused` meets its contract. Assumes nothing.
 use mathlib.Core.Path.{refl}
-use Rattle.plain_call.specs.Call.{refusal}
+use Rattle.theory_call.specs.Call.{refusal}
 use Rattle.checker.specs.Answering.{verdictOf, answerOf}
 use Rattle.checker.proofs.refused.Statement.{statement}
 use Rattle.checker.proofs.refused.Tie as tie

@@ -1,6 +1,6 @@
 -- `said` meets its contract. Assumes nothing.
 use mathlib.Core.Path.{sym, ap}
-use Rattle.plain_call.specs.Call.{accepted}
+use Rattle.theory_call.specs.Call.{accepted}
 use Rattle.checker.specs.Answering.{verdictOf}
 use Rattle.checker.proofs.said.Statement.{statement}
 use Rattle.checker.proofs.said.Tie as tie

@@ -1,7 +1,7 @@
 -- `with_rule` meets its contract: questions 13 and 14 let the call in, or refuse it. Assumes nothing.
 use mathlib.Core.Path.{sym, _∙_}
 use lib.ListN.{length}
-use Rattle.plain_call.specs.Call.{asking, terms}
+use Rattle.theory_call.specs.Call.{asking, terms}
 use Rattle.checker.proofs.Calling.{asked-read, says-terms}
 use borrow.Author.Needs.{needs}
 use Rattle.checker.proofs.with_rule.Statement.{statement}

@@ -1,12 +1,12 @@
 -- `with_terms` meets its contract: questions 15 and 16, and the list as the closure machine runs it. Assumes nothing.
 use mathlib.Core.Path.{_≡_, refl, sym, _∙_, transport}
 use lib.ListN.{length}
-use Rattle.closures.specs.Represents.{Ready}
-use Rattle.closures.specs.declared.State.{State}
-use Rattle.lent_states.specs.Lent.{standing}
-use Rattle.lists.specs.Running.{Runs}
-use Rattle.lists.specs.declared.Ended.{Ended}
-use Rattle.plain_call.proofs.Entering.{terms-few}
+use Rattle.engine_states.specs.Represents.{Ready}
+use Rattle.engine_states.specs.declared.State.{State}
+use Rattle.engine_state_arrays.specs.Lent.{standing}
+use Rattle.call_lists.specs.Running.{Runs}
+use Rattle.call_lists.specs.declared.Ended.{Ended}
+use Rattle.theory_call.proofs.Entering.{terms-few}
 use Rattle.checker.specs.Calling.{Stands}
 use Rattle.checker.proofs.Calling.{list-halted, list-made}
 use Rattle.checker.proofs.Concluding.{script-fits}

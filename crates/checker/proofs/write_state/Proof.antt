@@ -4,14 +4,14 @@ use mathlib.Core.List.{List, []}
 use mathlib.Core.Path.{_≡_, sym, ap, _∙_, transport}
 use lib.ListN.{length}
 use native.Mathlib.Omega.{arith}
-use Rattle.messages.specs.Message.{Message}
-use Rattle.bindings.specs.Resolve.{bindingsIn}
-use Rattle.held_bindings.specs.Held.{bindingsOf}
-use Rattle.held_bindings.specs.Sizes.{Cached}
-use Rattle.closure_machine.specs.Closure.{unfolded}
-use Rattle.closures.specs.Represents.{boundIn}
-use Rattle.written_trees.specs.Write.{write}
-use Rattle.writer.specs.Room.{answered, buffered}
+use Rattle.read_messages.specs.Message.{Message}
+use Rattle.engine_bindings.specs.Bindings.{bindingsIn}
+use Rattle.engine_held_bindings.specs.Held.{bindingsOf}
+use Rattle.engine_held_bindings.specs.Sizes.{Cached}
+use Rattle.theory_closures.specs.Closure.{unfolded}
+use Rattle.engine_states.specs.Represents.{boundIn}
+use Rattle.theory_written_trees.specs.Write.{write}
+use Rattle.write_trees.specs.Room.{answered, buffered}
 use borrow.Author.Needs.{needs}
 use Rattle.checker.proofs.write_state.Statement.{statement}
 use Rattle.checker.proofs.write_state.Tie as tie

@@ -2,8 +2,8 @@
 use Prim.Native.Nat.{ℕ}
 use mathlib.Core.List.{List}
 use mathlib.Core.Path.{ap, _∙_}
-use Rattle.digits.proofs.Putting.{puts-as}
-use Rattle.replies.specs.Reply.{wordsReply}
+use Rattle.program_digits.proofs.Putting.{puts-as}
+use Rattle.program_replies.specs.Reply.{wordsReply}
 use borrow.Author.Needs.{needs}
 use Rattle.skycorbel.proofs.reply_to_bytes.Statement.{statement}
 use Rattle.skycorbel.proofs.reply_to_bytes.Tie as tie

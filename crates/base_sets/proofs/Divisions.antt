@@ -1,0 +1,185 @@
+-- The divisions of a list in two, by their numbers. Assumes nothing.
+use mathlib.Core.Path.{_≡_, refl, sym, ap, ap₂, _∙_}
+use mathlib.Core.Bool.{Bool, true, false, not, _||_}
+use mathlib.Core.Logic.{_⊎_, inl, inr}
+use mathlib.Core.List.{List, [], _∷_, map}
+use Prim.Native.Nat.{ℕ, zero, suc, _+_, _-_, _*_, _/_, _%_, _^_, _≤_, _<_}
+use native.Mathlib.Nat.{pow-suc, zero-mul, sub-zero}
+use native.Mathlib.Omega.{arith}
+use lib.ListN.{length}
+use lib.Pow.{pow-mono}
+use borrow.Author.Tests.{eq-eqb, ne-eqb}
+use Rattle.base_sets.specs.Sets.{odd, keepIf, keep, members, elem, mask, Rising, but}
+use Rattle.base_sets.specs.Shares.{putIf, picked, left, spread, shares}
+use Rattle.base_sets.proofs.Places.{parity, odd-0, odd-1}
+use Rattle.base_sets.proofs.Members.{rising-down, members-empty}
+
+module _ {A : Type 0} where
+  pub picked-0 : (x : A) (l : List A) (k : ℕ) → k % 2 ≡ 0 → picked (x ∷ l) k ≡ picked l (k / 2)
+  unfolding picked
+  picked-0 x l k e = ap (λ (t : Bool). putIf t x (picked l (k / 2))) (odd-0 k e)
+
+  pub picked-1 : (x : A) (l : List A) (k : ℕ) → k % 2 ≡ 1 → picked (x ∷ l) k ≡ x ∷ picked l (k / 2)
+  unfolding picked
+  picked-1 x l k e = ap (λ (t : Bool). putIf t x (picked l (k / 2))) (odd-1 k e)
+
+  pub left-0 : (x : A) (l : List A) (k : ℕ) → k % 2 ≡ 0 → left (x ∷ l) k ≡ x ∷ left l (k / 2)
+  unfolding left
+  left-0 x l k e = ap (λ (t : Bool). putIf (not t) x (left l (k / 2))) (odd-0 k e)
+
+  pub left-1 : (x : A) (l : List A) (k : ℕ) → k % 2 ≡ 1 → left (x ∷ l) k ≡ left l (k / 2)
+  unfolding left
+  left-1 x l k e = ap (λ (t : Bool). putIf (not t) x (left l (k / 2))) (odd-1 k e)
+
+  -- the first division has nothing on the left, and the last all of it
+  pub picked-none : (l : List A) → picked l 0 ≡ []
+  unfolding picked
+  picked-none [] = refl
+  picked-none (x ∷ l) = picked-0 x l 0 refl ∙ picked-none l
+
+  -- division number k, and those from number k on, n of them
+  abbrev pub share : List A → ℕ → List A × List A
+  share l k = (picked l k, left l k)
+
+  unfoldable pub later : List A → ℕ → ℕ → List (List A × List A)
+  later l k zero = []
+  later l k (suc n) = share l k ∷ later l (suc k) n
+
+  later-spread : (x : A) (l : List A) (n k : ℕ) → later (x ∷ l) (k * 2) (n * 2) ≡ spread x (later l k n)
+  unfolding later spread
+  later-spread x l zero k = refl
+  later-spread x l (suc n) k =
+      let e : suc n * 2 ≡ suc (suc (n * 2)) = omega arith in
+      let f : suc (suc (k * 2)) ≡ suc k * 2 = omega arith in
+      let d0 : k * 2 / 2 ≡ k = omega arith in
+      let d1 : suc (k * 2) / 2 ≡ k = omega arith in
+      let a : share (x ∷ l) (k * 2) ≡ (picked l k, x ∷ left l k) =
+      λ i. ((picked-0 x l (k * 2) (omega arith) ∙ ap (picked l) d0) i, (left-0 x l (k * 2) (omega arith) ∙ ap (λ (j : ℕ). x ∷ left l j) d0) i) in
+      let b : share (x ∷ l) (suc (k * 2)) ≡ (x ∷ picked l k, left l k) =
+      λ i. ((picked-1 x l (suc (k * 2)) (omega arith) ∙ ap (λ (j : ℕ). x ∷ picked l j) d1) i, (left-1 x l (suc (k * 2)) (omega arith) ∙ ap (left l) d1) i) in
+      ap (later (x ∷ l) (k * 2)) e
+      ∙ (λ i. a i ∷ b i ∷ (ap (λ (j : ℕ). later (x ∷ l) j (n * 2)) f ∙ later-spread x l n (suc k)) i)
+
+  -- the divisions are those with the numbers from 0 up to 2 ^ length l
+  pub shares-later : (l : List A) → shares l ≡ later l 0 (2 ^ length l)
+  unfolding later shares picked left
+  shares-later [] = refl
+  shares-later (x ∷ l) =
+      ap (spread x) (shares-later l) ∙ sym (later-spread x l (2 ^ length l) 0)
+      ∙ ap₂ (later (x ∷ l)) (zero-mul 2) (sym (pow-suc 2 (length l)))
+
+  -- those from number k on
+  unfoldable pub from : List A → ℕ → List (List A × List A)
+  from l k = later l k (2 ^ length l - k)
+
+  pub from-zero : (l : List A) → from l 0 ≡ shares l
+  unfolding from
+  from-zero l = ap (later l 0) (sub-zero (2 ^ length l)) ∙ sym (shares-later l)
+
+  pub from-one : (l : List A) (k : ℕ) → k < 2 ^ length l → from l k ≡ share l k ∷ from l (suc k)
+  unfolding from later
+  from-one l k h =
+      let e : 2 ^ length l - k ≡ suc (2 ^ length l - suc k) = omega arith in
+      ap (later l k) e
+
+  pub from-end : (l : List A) (k : ℕ) → 2 ^ length l ≤ k → from l k ≡ []
+  unfolding from later
+  from-end l k h =
+      let e : 2 ^ length l - k ≡ 0 = omega arith in
+      ap (later l k) e
+
+-- a function of the elements passes through
+pub picked-map : {A B : Type 0} (f : A → B) (l : List A) (k : ℕ) → picked (map f l) k ≡ map f (picked l k)
+unfolding picked
+picked-map f [] k = refl
+picked-map f (x ∷ l) k = go (odd k) (picked-map f l (k / 2))
+  where
+    go : (t : Bool) → picked (map f l) (k / 2) ≡ map f (picked l (k / 2)) → putIf t (f x) (picked (map f l) (k / 2)) ≡ map f (putIf t x (picked l (k / 2)))
+    go true ih = ap (_∷_ (f x)) ih
+    go false ih = ih
+
+pub left-map : {A B : Type 0} (f : A → B) (l : List A) (k : ℕ) → left (map f l) k ≡ map f (left l k)
+unfolding left
+left-map f [] k = refl
+left-map f (x ∷ l) k = go (not (odd k)) (left-map f l (k / 2))
+  where
+    go : (t : Bool) → left (map f l) (k / 2) ≡ map f (left l (k / 2)) → putIf t (f x) (left (map f l) (k / 2)) ≡ map f (putIf t x (left l (k / 2)))
+    go true ih = ap (_∷_ (f x)) ih
+    go false ih = ih
+
+-- ---- rising lists of numbers
+
+pub picked-rising : (b : ℕ) (l : List ℕ) (k : ℕ) → Rising b l → Rising b (picked l k)
+unfolding picked
+picked-rising b [] k r = tt
+picked-rising b (x ∷ l) k r = go (odd k) (picked-rising (suc x) l (k / 2) (r .1))
+  where
+    go : (t : Bool) → Rising (suc x) (picked l (k / 2)) → Rising b (putIf t x (picked l (k / 2)))
+    go true q = (r .0, q)
+    go false q = rising-down (suc x) b (picked l (k / 2)) (let h : b ≤ x = r .0 in omega arith) q
+
+pub elem-below : (b i : ℕ) (l : List ℕ) → Rising b l → i < b → elem i l ≡ false
+unfolding elem
+elem-below b i [] r h = refl
+elem-below b i (x ∷ l) r h =
+    let q : b ≤ x = r .0 in
+    ap₂ (λ (t u : Bool). t || u) (ne-eqb i x (λ e. omega arith)) (elem-below (suc x) i l (r .1) (omega arith))
+
+keep-above : (p q : ℕ → Bool) (b : ℕ) (l : List ℕ) → Rising b l → ((j : ℕ) → b ≤ j → p j ≡ q j) → keep p l ≡ keep q l
+unfolding keep
+keep-above p q b [] r h = refl
+keep-above p q b (x ∷ l) r h =
+    let g : b ≤ x = r .0 in
+    ap₂ (λ (t : Bool) (k : List ℕ). keepIf t x k) (h x g) (keep-above p q (suc x) l (r .1) (λ j u. h j (omega arith)))
+
+-- what a share leaves
+pub but-picked : (b : ℕ) (l : List ℕ) (k : ℕ) → Rising b l → but l (picked l k) ≡ left l k
+unfolding keep left picked elem
+but-picked b [] k r = refl
+but-picked b (x ∷ l) k r = go (odd k) (but-picked (suc x) l (k / 2) (r .1))
+  where
+    P : List ℕ
+    P = picked l (k / 2)
+
+    go : (t : Bool) → but l P ≡ left l (k / 2) → keepIf (not (elem x (putIf t x P))) x (but l (putIf t x P)) ≡ putIf (not t) x (left l (k / 2))
+    go true ih =
+        ap (λ (u : Bool). keepIf (not (u || elem x P)) x (but l (x ∷ P))) (eq-eqb x x refl)
+        ∙ keep-above (λ j. not (elem j (x ∷ P))) (λ j. not (elem j P)) (suc x) l (r .1)
+        (λ j u. ap (λ (t : Bool). not (t || elem j P)) (ne-eqb j x (λ e. omega arith)))
+        ∙ ih
+    go false ih =
+        ap (λ (u : Bool). keepIf (not u) x (but l P)) (elem-below (suc x) x P (picked-rising (suc x) l (k / 2) (r .1)) (omega arith))
+        ∙ ap (λ (t : List ℕ). x ∷ t) ih
+
+-- THEOREM: the sum of 2 ^ i over a share is below that over the next: the shares come in rising order of it.
+pub picked-sum : (b : ℕ) (l : List ℕ) (k : ℕ) → Rising b l → suc k < 2 ^ length l → mask (picked l k) + 2 ^ b ≤ mask (picked l (suc k))
+unfolding mask picked
+picked-sum b [] k r h = absurd (let f : ⊥ = omega arith in f)
+picked-sum b (x ∷ l) k r h = go (parity k) (picked-sum (suc x) l (k / 2) (r .1))
+  where
+    small : 2 ^ b ≤ 2 ^ x
+    small = pow-mono (r .0)
+
+    go : (k % 2 ≡ 0) ⊎ (k % 2 ≡ 1) → (suc (k / 2) < 2 ^ length l → mask (picked l (k / 2)) + 2 ^ suc x ≤ mask (picked l (suc (k / 2))))
+        → mask (picked (x ∷ l) k) + 2 ^ b ≤ mask (picked (x ∷ l) (suc k))
+    go (inl e) ih =
+        let s : suc k / 2 ≡ k / 2 = omega arith in
+        omega
+        (arith, small, ap mask (picked-0 x l k e), ap mask (picked-1 x l (suc k) (omega arith)), ap (λ (j : ℕ). mask (picked l j)) s)
+    go (inr e) ih =
+        let s : suc k / 2 ≡ suc (k / 2) = omega arith in
+        omega (
+          arith,
+          small,
+          pow-suc 2 x,
+          ih (omega (arith, pow-suc 2 (length l))),
+          ap mask (picked-1 x l k e),
+          ap mask (picked-0 x l (suc k) (omega arith)),
+          ap (λ (j : ℕ). mask (picked l j)) s,
+        )
+
+-- ---- a loop over the shares of a set
+
+-- the empty set is the first
+pub share-first : (m : ℕ) → members 0 ≡ picked (members m) 0
+share-first m = members-empty ∙ sym (picked-none (members m))

@@ -1,0 +1,131 @@
+-- The members of a set by its digits, lowest first; their count, the first, the rest, and the sum of their powers. Assumes nothing.
+use mathlib.Core.Path.{_≡_, refl, sym, ap, ap₂, _∙_}
+use mathlib.Core.Bool.{Bool, true, false}
+use mathlib.Core.Logic.{_⊎_, inl, inr}
+use mathlib.Core.List.{List, [], _∷_, tail}
+use Prim.Native.Nat.{ℕ, zero, suc, _+_, _-_, _*_, _/_, _%_, _^_, _<_}
+use native.Mathlib.Nat.{div-one, pow-suc, mul-assoc, mul-comm, add-mul, one-mul, zero-mul}
+use native.Mathlib.Omega.{arith}
+use lib.Arith.{lt-one}
+use lib.Dec.{eqb}
+use lib.ListN.{length}
+use lib.Bits.{bitAnd, and-self}
+use lib.Count.{ones, ones-step, trailingZeros, under}
+use Rattle.base_sets.specs.Sets.{odd, has, keepIf, keep, span, members, headOr, mask}
+use Rattle.base_sets.proofs.Digits.{shr-suc', and-low, and-half}
+
+unfoldable pub places : ℕ → ℕ → ℕ → List ℕ
+places zero b x = []
+places (suc d) b x = keepIf (odd x) b (places d (suc b) (x / 2))
+
+pub keep-places : (m b d : ℕ) → keep (has m) (span b d) ≡ places d b (m / 2 ^ b)
+unfolding keep span places has
+keep-places m b zero = refl
+keep-places m b (suc d) =
+    ap (keepIf (odd (m / 2 ^ b)) b) (keep-places m (suc b) d ∙ ap (places d (suc b)) (shr-suc' m b))
+
+pub members-places : (m : ℕ) → members m ≡ places 64 0 m
+unfolding members
+members-places m = keep-places m 0 64 ∙ ap (places 64 0) (div-one m)
+
+-- ---- even and odd
+
+pub parity : (n : ℕ) → (n % 2 ≡ 0) ⊎ (n % 2 ≡ 1)
+parity n = go (n % 2) (omega arith)
+  where
+    go : (r : ℕ) → r < 2 → (r ≡ 0) ⊎ (r ≡ 1)
+    go zero h = inl refl
+    go (suc zero) h = inr refl
+    go (suc (suc r)) h = absurd (let f : ⊥ = omega arith in f)
+
+pub odd-0 : (n : ℕ) → n % 2 ≡ 0 → odd n ≡ false
+unfolding odd
+odd-0 n e = ap (λ (r : ℕ). eqb r 1) e
+
+pub odd-1 : (n : ℕ) → n % 2 ≡ 1 → odd n ≡ true
+unfolding odd
+odd-1 n e = ap (λ (r : ℕ). eqb r 1) e
+
+pub places-0 : (d b n : ℕ) → n % 2 ≡ 0 → places (suc d) b n ≡ places d (suc b) (n / 2)
+unfolding places
+places-0 d b n e = ap (λ (t : Bool). keepIf t b (places d (suc b) (n / 2))) (odd-0 n e)
+
+pub places-1 : (d b n : ℕ) → n % 2 ≡ 1 → places (suc d) b n ≡ b ∷ places d (suc b) (n / 2)
+unfolding places
+places-1 d b n e = ap (λ (t : Bool). keepIf t b (places d (suc b) (n / 2))) (odd-1 n e)
+
+pub places-zero : (d b : ℕ) → places d b 0 ≡ []
+unfolding places
+places-zero zero b = refl
+places-zero (suc d) b = places-0 d b 0 refl ∙ places-zero d (suc b)
+
+-- ---- the count
+
+pub count-places : (d b x : ℕ) → x < 2 ^ d → ones x ≡ length (places d b x)
+unfolding places ones
+count-places zero b x h = ap ones (lt-one h)
+count-places (suc d) b x h = go (count-places d (suc b) (x / 2) (omega (arith, pow-suc 2 d))) (parity x)
+  where
+    go : ones (x / 2) ≡ length (places d (suc b) (x / 2)) → (x % 2 ≡ 0) ⊎ (x % 2 ≡ 1) → ones x ≡ length (places (suc d) b x)
+    go ih (inl e) = omega (arith, ones-step x, ap length (places-0 d b x e))
+    go ih (inr e) = omega (arith, ones-step x, ap length (places-1 d b x e))
+
+-- ---- the first
+
+pub first-places : (d b x : ℕ) → headOr (b + d) (places d b x) ≡ b + trailingZeros d x
+unfolding places trailingZeros
+first-places zero b x = refl
+first-places (suc d) b x = go (first-places d (suc b) (x / 2)) (parity x)
+  where
+    go : headOr (suc b + d) (places d (suc b) (x / 2)) ≡ suc b + trailingZeros d (x / 2) → (x % 2 ≡ 0) ⊎ (x % 2 ≡ 1)
+        → headOr (b + suc d) (places (suc d) b x) ≡ b + trailingZeros (suc d) x
+    go ih (inl e) =
+        let s : b + suc d ≡ suc b + d = omega arith in
+        let z : suc b + trailingZeros d (x / 2) ≡ b + suc (trailingZeros d (x / 2)) = omega arith in
+        ap₂ headOr s (places-0 d b x e) ∙ ih ∙ z ∙ ap (λ (r : ℕ). b + under r (trailingZeros d (x / 2))) (sym e)
+    go ih (inr e) =
+        let z : b ≡ b + 0 = omega arith in
+        ap (headOr (b + suc d)) (places-1 d b x e) ∙ z ∙ ap (λ (r : ℕ). b + under r (trailingZeros d (x / 2))) (sym e)
+
+-- ---- the rest
+
+pub rest-places : (d b x : ℕ) → places d b (bitAnd x (x - 1)) ≡ tail (places d b x)
+unfolding places
+rest-places zero b x = refl
+rest-places (suc d) b x = go (rest-places d (suc b) (x / 2)) (parity x)
+  where
+    go : places d (suc b) (bitAnd (x / 2) (x / 2 - 1)) ≡ tail (places d (suc b) (x / 2)) → (x % 2 ≡ 0) ⊎ (x % 2 ≡ 1)
+        → places (suc d) b (bitAnd x (x - 1)) ≡ tail (places (suc d) b x)
+    go ih (inl e) =
+        let z : bitAnd x (x - 1) % 2 ≡ 0 = omega (arith, and-low x (x - 1)) in
+        let h : (x - 1) / 2 ≡ x / 2 - 1 = omega arith in
+        places-0 d b (bitAnd x (x - 1)) z
+        ∙ ap (places d (suc b)) (and-half x (x - 1) ∙ ap (bitAnd (x / 2)) h)
+        ∙ ih ∙ ap tail (sym (places-0 d b x e))
+    go ih (inr e) =
+        let z : bitAnd x (x - 1) % 2 ≡ 0 = omega (arith, and-low x (x - 1)) in
+        let h : (x - 1) / 2 ≡ x / 2 = omega arith in
+        places-0 d b (bitAnd x (x - 1)) z
+        ∙ ap (places d (suc b)) (and-half x (x - 1) ∙ ap (bitAnd (x / 2)) h ∙ and-self (x / 2))
+        ∙ ap tail (sym (places-1 d b x e))
+
+-- ---- the sum of the powers
+
+pub mask-places : (d b x : ℕ) → x < 2 ^ d → mask (places d b x) ≡ x * 2 ^ b
+unfolding places mask
+mask-places zero b x h = sym (ap (λ (n : ℕ). n * 2 ^ b) (lt-one h) ∙ zero-mul (2 ^ b))
+mask-places (suc d) b x h = go (mask-places d (suc b) (x / 2) (omega (arith, pow-suc 2 d))) (parity x)
+  where
+    up : x / 2 * 2 ^ suc b ≡ x / 2 * 2 * 2 ^ b
+    up = ap (λ (n : ℕ). x / 2 * n) (pow-suc 2 b ∙ mul-comm (2 ^ b) 2) ∙ sym (mul-assoc (x / 2) 2 (2 ^ b))
+
+    go : mask (places d (suc b) (x / 2)) ≡ x / 2 * 2 ^ suc b → (x % 2 ≡ 0) ⊎ (x % 2 ≡ 1) → mask (places (suc d) b x) ≡ x * 2 ^ b
+    go ih (inl e) =
+        let z : x / 2 * 2 ≡ x = omega arith in
+        ap mask (places-0 d b x e) ∙ ih ∙ up ∙ ap (λ (n : ℕ). n * 2 ^ b) z
+    go ih (inr e) =
+        let z : 1 + x / 2 * 2 ≡ x = omega arith in
+        ap mask (places-1 d b x e)
+        ∙ ap₂ (λ (p q : ℕ). p + q) (sym (one-mul (2 ^ b))) (ih ∙ up)
+        ∙ sym (add-mul 1 (x / 2 * 2) (2 ^ b))
+        ∙ ap (λ (n : ℕ). n * 2 ^ b) z

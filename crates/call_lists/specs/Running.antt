@@ -1,0 +1,35 @@
+-- How the engine's run of a list of moves ends, against the closure machine's. Assumes nothing: these are definitions.
+use Prim.Native.Nat.{ℕ, _+_, _<_}
+use mathlib.Core.List.{List}
+use mathlib.Core.Path.{_≡_}
+use lib.ListN.{length, take}
+use Rattle.theory_closures.specs.Closure.{Closure}
+use Rattle.engine_states.specs.Represents.{boundIn, Represents}
+use Rattle.engine_states.specs.declared.State.{State}
+use Rattle.theory_call.specs.ClosureCall.{ClosureRan, halted, moved, closureRun}
+use Rattle.call_lists.specs.declared.Ended.{Ended}
+use Rattle.call_lists.specs.declared.Ended.the-variants.{Made, Halted}
+
+-- how a run ends
+unfoldable pub endedOf : ClosureRan → Ended
+endedOf (halted q i) = Halted q i
+endedOf (moved m) = Made
+
+-- how many moves of a list are made that ends so: all, or those before the place
+abbrev pub madeOf : List ℕ → Ended → ℕ
+madeOf moves Made = length moves
+madeOf moves (Halted q i) = i
+
+module _ (script kinds starts : List ℕ) where
+  -- the state stands for the machine that a run leaves
+  abbrev pub Left : State → (weight spent : ℕ) → ClosureRan → Type 0
+  Left r weight spent (halted q i) = ⊥
+  Left r weight spent (moved m) = Represents script kinds starts weight spent r (m .tree) × (boundIn script r ≡ m .bindings)
+
+  -- For every closure for which s stands, n being the script's parts: the list ends as the closure machine's, and r stands for
+  -- the machine that the moves made leave. Offsets that fit into 32 bits do after the list.
+  abbrev pub Runs : (n : ℕ) (moves : List ℕ) (s : State) → Ended → State → Type 0
+  Runs n moves s e r =
+      (weight spent : ℕ) (b : Closure) → spent + length moves < 4294967295 → Represents script kinds starts weight spent s b
+      → (e ≡ endedOf (closureRun n 0 moves (record { tree = b; bindings = boundIn script s })))
+      × Left r weight (spent + madeOf moves e) (closureRun n 0 (take (madeOf moves e) moves) (record { tree = b; bindings = boundIn script s }))

@@ -1,6 +1,0 @@
--- Laws of the closure machine: it moves as the plain machine does, and each move takes one from a budget. Assumes nothing.
-pub mod Tallies
-pub mod Invariant
-pub mod Simulation
-pub mod Started
-pub mod Bound

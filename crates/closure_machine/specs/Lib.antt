@@ -1,2 +1,0 @@
--- The closure machine as definitions. Assumes nothing.
-pub mod Closure

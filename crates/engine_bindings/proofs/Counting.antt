@@ -1,0 +1,122 @@
+-- Laws of what is counted: numbers of items, what is kept with the bindings, and items from an offset on; and a measure for
+-- passes that go from binding to binding. Assumes nothing.
+use Prim.Native.Nat.{ℕ, zero, suc, _+_, _-_, _*_, _^_, _≤_, _<_}
+use mathlib.Core.List.{List, [], _∷_, _++_}
+use mathlib.Core.Path.{_≡_, refl, sym, ap, _∙_}
+use native.Mathlib.Omega.{arith}
+use lib.ListN.{length, drop, getD, length-append, length-drop}
+use lib.Seq.{drop-nil, drop-append-le, drop-append-add}
+use Rattle.read_messages.specs.Message.{Message, asks, firstItem}
+use Rattle.read_messages.specs.Spelling.{messageAt}
+use Rattle.read_messages.specs.declared.First.the-variants.{Nothing}
+use Rattle.base_slices.proofs.Capping.{capped-sum, below-count, whole-count}
+use Rattle.theory_closures.specs.Resolve.{resolve}
+use Rattle.engine_bindings.specs.Bindings.{bindingsIn}
+use Rattle.base_slices.specs.Sums.{capped}
+use Rattle.engine_bindings.specs.Measures.{keptOf, Kept}
+use Rattle.engine_message_words.specs.Words.{firstWord, shapeOf}
+use Rattle.engine_bindings.specs.Passes.{ownItems}
+use Rattle.engine_bindings.proofs.Bindings.{given, given-next}
+use Rattle.engine_message_words.proofs.FirstWords.{items-small}
+use Rattle.engine_bindings.proofs.Passing.{Free, own-free}
+
+-- numbers of items
+
+pub items-sum : (x a b : List Message) {o r t : ℕ} → x ≡ a ++ b → o ≡ capped (length a) → r ≡ capped (length b) → t ≡ capped (o + r) → t ≡ capped (length x)
+items-sum x a b e p q s = capped-sum (length a) (length b) (ap length e ∙ length-append a b) p q s
+
+pub no-items : (x : List Message) → x ≡ [] → 0 ≡ capped (length x)
+unfolding capped
+no-items x e = rw e
+
+-- a word that is no variable with a binding has as many items of its own as its shape says
+pub capped-shape : (σ : List (ℕ × Message)) (l : List ℕ) → Free σ (firstWord l) → shapeOf (firstWord l) .items ≡ capped (length (ownItems σ l))
+unfolding capped
+capped-shape σ l f = omega (arith, own-free σ l f, items-small (firstWord l))
+
+-- what is kept with the bindings
+
+module _ (f : Message → ℕ) (script : List ℕ) where
+  length-kept : (vs ps : List ℕ) → length ps ≡ length vs → length (keptOf f script vs ps) ≡ length vs
+  unfolding keptOf
+  length-kept [] ps l = refl
+  length-kept (v ∷ vs) [] l = absurd (omega arith)
+  length-kept (v ∷ vs) (a ∷ ps) l = ap suc (length-kept vs ps (omega arith))
+
+  kept-at : (vs ps : List ℕ) (k : ℕ) → length ps ≡ length vs → k < length vs → getD (keptOf f script vs ps) k 0 ≡ capped (f (given script vs ps k))
+  unfolding keptOf
+  kept-at [] ps k l h = absurd (omega arith)
+  kept-at (v ∷ vs) [] k l h = absurd (omega arith)
+  kept-at (v ∷ vs) (a ∷ ps) zero l h = refl
+  kept-at (v ∷ vs) (a ∷ ps) (suc k) l h = kept-at vs ps k (omega arith) (omega arith) ∙ ap (λ (m : Message). capped (f m)) (sym (given-next script v a vs ps k))
+
+  drop-kept : (vs ps : List ℕ) (k : ℕ) → length ps ≡ length vs → drop k (keptOf f script vs ps) ≡ keptOf f script (drop k vs) (drop k ps)
+  unfolding keptOf
+  drop-kept vs ps zero l = refl
+  drop-kept [] ps (suc k) l = refl
+  drop-kept (v ∷ vs) [] (suc k) l = absurd (omega arith)
+  drop-kept (v ∷ vs) (a ∷ ps) (suc k) l = drop-kept vs ps k (omega arith)
+
+  pub kept-none : Kept f script [] [] []
+  unfolding keptOf
+  kept-none = record { aligned = refl; right = refl }
+
+module _ {f : Message → ℕ} {script vs ps values : List ℕ} (ok : Kept f script vs ps values) where
+  pub kept-length : length values ≡ length vs
+  kept-length = ap length (ok .right) ∙ length-kept f script vs ps (ok .aligned)
+
+  -- the older bindings
+  pub kept-drop : (k : ℕ) → Kept f script (drop k vs) (drop k ps) (drop k values)
+  kept-drop k = record {
+    aligned = simp length-drop (omega (arith, ok .aligned));
+    right = ap (drop k) (ok .right) ∙ drop-kept f script vs ps k (ok .aligned);
+  }
+
+  pub kept-given : (k : ℕ) → k < length vs → getD values k 0 ≡ capped (f (given script vs ps k))
+  kept-given k h = rw (ok .right) (kept-at f script vs ps k (ok .aligned) h)
+
+  -- one binding more
+  pub kept-more : (v a n : ℕ) → n ≡ capped (f (resolve (bindingsIn script vs ps) (messageAt (drop a script)))) → Kept f script (v ∷ vs) (a ∷ ps) (n ∷ values)
+  unfolding keptOf
+  kept-more v a n e = record { aligned = ap suc (ok .aligned); right = rw (e, ok .right) }
+
+-- items from an offset on: those of a and then those of b are x, and c is what is kept of a's number
+
+pub drop-past : (x a b : List Message) (o c : ℕ) → x ≡ a ++ b → c ≡ capped (length a) → c ≤ o → o < 4294967295 → drop (o - c) b ≡ drop o x
+drop-past x a b o c e p h q =
+    let z : c ≡ length a = whole-count (length a) o c p h q in
+    let d : o ≡ length a + (o - c) = omega arith in
+    sym (ap (drop o) e ∙ ap (λ (j : ℕ). drop j (a ++ b)) d ∙ drop-append-add a b (o - c))
+
+pub drop-within : (x a b : List Message) (o c : ℕ) → x ≡ a ++ b → c ≡ capped (length a) → o < c → drop o a ++ b ≡ drop o x
+drop-within x a b o c e p h = sym (ap (drop o) e ∙ drop-append-le o a b (omega (arith, below-count (length a) o c p h)))
+
+first-left : (a b : List Message) → 0 < length a → firstItem (a ++ b) ≡ firstItem a
+unfolding firstItem
+first-left [] b h = absurd (omega arith)
+first-left (m ∷ a) b h = refl
+
+pub item-none : (x : List Message) (o : ℕ) → x ≡ [] → Nothing ≡ firstItem (drop o x)
+unfolding firstItem
+item-none x o e = rw (e, drop-nil {A = Message} o)
+
+pub item-here : (x a b : List Message) (o c : ℕ) → x ≡ a ++ b → c ≡ capped (length a) → o < c → firstItem (drop o a) ≡ firstItem (drop o x)
+item-here x a b o c e p h =
+    sym (first-left (drop o a) b (omega (arith, length-drop o a, below-count (length a) o c p h))) ∙ ap firstItem (drop-within x a b o c e p h)
+
+pub item-only : (x : List Message) (m : Message) → x ≡ m ∷ [] → firstItem x ≡ asks m
+unfolding firstItem
+item-only x m e = rw e
+
+-- A measure: first the bindings, then what is left of the pass. It is shut, so that its factor stands in no other sum.
+
+pub rank : ℕ → ℕ → ℕ
+rank v n = v * 2 ^ 67 + n
+
+pub rank-less : (v n n′ t : ℕ) → rank v n ≡ t → n′ < n → rank v n′ < t
+unfolding rank
+rank-less v n n′ t e h = omega arith
+
+pub rank-older : (v v′ n n′ t : ℕ) → rank v n ≡ t → v′ < v → n′ < 2 ^ 67 → rank v′ n′ < t
+unfolding rank
+rank-older v v′ n n′ t e h p = omega arith

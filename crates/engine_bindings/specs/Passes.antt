@@ -1,0 +1,37 @@
+-- What one pass over the words of messages goes by: the first word, what it has of its own, and what stands behind it.
+-- Words that end too early are read as if EMPTY stood behind them, as they are spelled.
+-- Assumes nothing: these are definitions.
+use Prim.Native.Nat.{ℕ, zero, suc, _+_}
+use mathlib.Core.List.{List, [], _∷_, _++_}
+use lib.ListN.{drop}
+use Rattle.read_messages.specs.Message.{Message, name, variable, enter, exit, opens, items}
+use Rattle.read_messages.specs.Spelling.{top, spelled}
+use Rattle.read_messages.specs.declared.MessageWord.{MessageWord}
+use Rattle.read_messages.specs.declared.MessageWord.the-variants.{Name, Variable, Enter, Exit, Open, Empty, Path, Unfit}
+use Rattle.engine_message_words.specs.Words.{firstWord}
+use Rattle.theory_closures.specs.Resolve.{resolve}
+
+-- the first so many of the messages; where there are not so many, empty ones
+unfoldable pub firsts : ℕ → List Message → List Message
+firsts zero s = []
+firsts (suc p) s = top s ∷ firsts p (drop 1 s)
+
+-- the items of the messages, one after another, each after the bindings
+unfoldable pub allItems : List (ℕ × Message) → List Message → List Message
+allItems σ [] = []
+allItems σ (m ∷ ms) = items (resolve σ m) ++ allItems σ ms
+
+-- the items that a word has of its own, after the bindings, `behind` being what is spelled behind it
+unfoldable pub wordItems : List (ℕ × Message) → MessageWord → (behind : List Message) → List Message
+wordItems σ (Name n) s = name n ∷ []
+wordItems σ (Variable v) s = items (resolve σ (variable v))
+wordItems σ Enter s = enter (resolve σ (top s)) ∷ []
+wordItems σ Exit s = exit (resolve σ (top s)) ∷ []
+wordItems σ Open s = opens (resolve σ (top s)) ∷ []
+wordItems σ Empty s = []
+wordItems σ Path s = []
+wordItems σ Unfit s = []
+
+-- the items that the first of the words has of its own
+unfoldable pub ownItems : List (ℕ × Message) → (words : List ℕ) → List Message
+ownItems σ ws = wordItems σ (firstWord ws) (spelled (drop 1 ws))

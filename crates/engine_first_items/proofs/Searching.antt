@@ -1,0 +1,185 @@
+-- Laws of the search for an item: where it stands, and that each turn of it goes on to where the same item is found.
+-- Assumes nothing.
+use Prim.Native.Nat.{ℕ, zero, suc, _+_, _-_, _*_, _^_, _≤_, _<_}
+use mathlib.Core.List.{List, [], _∷_, _++_}
+use mathlib.Core.Path.{_≡_, refl, sym, ap, _∙_}
+use native.Mathlib.Omega.{arith}
+use lib.Dec.{ltb}
+use lib.ListN.{length, drop, getD, length-drop}
+use lib.Seq.{drop-drop, drop-nil, getD-drop}
+use borrow.Author.Tests.{ltb-true, ltb-false}
+use Rattle.read_messages.specs.Message.{Message, items, nameOf, firstItem}
+use Rattle.read_messages.specs.Spelling.{spelled, messageAt}
+use Rattle.read_messages.specs.declared.MessageWord.{MessageWord}
+use Rattle.read_messages.specs.declared.First.{First}
+use Rattle.read_messages.specs.declared.Named.{Named}
+use Rattle.read_messages.specs.declared.First.the-variants.{Nothing}
+use Rattle.theory_closures.specs.Resolve.{resolve}
+use Rattle.engine_bindings.specs.Bindings.{bindingsIn}
+use Rattle.base_slices.specs.Sums.{capped}
+use Rattle.engine_bindings.specs.Measures.{itemCount, Kept}
+use Rattle.engine_message_words.specs.Words.{firstWord, shapeOf, boundAt, plainItem}
+use Rattle.engine_first_items.specs.Search.{searching}
+use Rattle.engine_bindings.specs.Passes.{firsts, allItems, ownItems}
+use Rattle.engine_first_items.specs.declared.Search.{Search}
+use Rattle.base_slices.proofs.Tests.{byTest}
+use Rattle.engine_bindings.proofs.Bindings.{given}
+use Rattle.engine_bindings.proofs.Passing.{none-pending, one-message, own-front, split-bound, unbound-free, item-free, single, given-items}
+use Rattle.base_slices.proofs.Capping.{below-count}
+use Rattle.engine_bindings.proofs.Counting.{capped-shape, kept-drop, kept-given, drop-past, item-none, item-here, item-only, rank, rank-less, rank-older}
+
+-- the words that are left
+
+abbrev pub wordsLeft : (script : List ℕ) (left : ℕ) → List ℕ
+wordsLeft script l = drop (length script - l) script
+
+-- from a word on
+pub left-from : (script : List ℕ) (at : ℕ) → wordsLeft script (length script - at) ≡ drop at script
+left-from [] at = drop-nil (0 - (0 - at)) ∙ sym (drop-nil at)
+left-from (w ∷ ws) zero =
+    let e : suc (length ws) - (suc (length ws) - 0) ≡ 0 = omega arith in
+    ap (λ (k : ℕ). drop k (w ∷ ws)) e
+left-from (w ∷ ws) (suc at) =
+    let e : suc (length ws) - (suc (length ws) - suc at) ≡ suc (length ws - (length ws - at)) = omega arith in
+    ap (λ (k : ℕ). drop k (w ∷ ws)) e ∙ left-from ws at
+
+-- behind so many words of them
+pub left-behind : (script : List ℕ) (l u : ℕ) → l ≤ length script → wordsLeft script (l - u) ≡ drop u (wordsLeft script l)
+left-behind script l u h =
+    let e : l - u ≡ length script - (length script - l + u) = omega arith in
+    ap (wordsLeft script) e ∙ left-from script (length script - l + u) ∙ sym (drop-drop u (length script - l) script)
+
+pub left-length : (script : List ℕ) (l : ℕ) → l ≤ length script → length (wordsLeft script l) ≡ l
+left-length script l h = omega (arith, length-drop (length script - l) script)
+
+-- a place behind all bindings, from the o-th on too
+pub unbound : (o j : ℕ) (vs : List ℕ) (m : MessageWord) → j ≡ boundAt m (drop o vs) → length vs ≤ o + j → length (drop o vs) ≤ boundAt m (drop o vs)
+unbound o j vs m e h = omega (arith, length-drop o vs)
+
+-- the item that a search is for, the bindings being those of the variables vs and the places ps
+
+pub sought : (script vs ps : List ℕ) → Search → First
+sought script vs ps s =
+    firstItem (drop (s .before) (allItems (bindingsIn script (drop (s .older) vs) (drop (s .older) ps)) (firsts (s .pending) (spelled (wordsLeft script (s .left))))))
+
+pub sought-first : (script vs ps : List ℕ) (at offset : ℕ) → firstItem (drop offset (items (resolve (bindingsIn script vs ps) (messageAt (drop at script))))) ≡ sought script vs ps (searching (length script - at) 1 offset 0)
+unfolding sought
+sought-first script vs ps at offset =
+    ap (λ (l : List Message). firstItem (drop offset l)) (sym (rw (left-from script at) (one-message (bindingsIn script vs ps) (drop at script))))
+
+pub sought-none : (script vs ps : List ℕ) (s : Search) → s .pending ≡ 0 → Nothing ≡ sought script vs ps s
+unfolding sought
+sought-none script vs ps s e = item-none _ (s .before) (none-pending _ _ _ e)
+
+module _ {script vs ps cs : List ℕ} (ok : Kept itemCount script vs ps cs) (l p b o : ℕ) (some : 0 < p) where
+  abbrev words : List ℕ
+  words = wordsLeft script l
+
+  abbrev σ : List (ℕ × Message)
+  σ = bindingsIn script (drop o vs) (drop o ps)
+
+  -- at a variable with a binding, the k-th
+  module _ (k j : ℕ) (at : k ≡ o + j) (e : j ≡ boundAt (firstWord words) (drop o vs)) (h : k < length vs) where
+    within : j < length (drop o vs)
+    within = omega (arith, length-drop o vs)
+
+    own-given : items (given script (drop o vs) (drop o ps) j) ≡ ownItems σ words
+    own-given = given-items script (drop o vs) (drop o ps) (kept-drop ok o .aligned) j within words e
+
+    own-count : getD cs k 0 ≡ capped (length (ownItems σ words))
+    own-count = ap (λ (i : ℕ). getD cs i 0) at ∙ sym (getD-drop o cs j 0) ∙ kept-given (kept-drop ok o) j within ∙ ap (λ (x : List Message). capped (length x)) own-given
+
+    older : (x : List ℕ) → drop (j + 1) (drop o x) ≡ drop (k + 1) x
+    older x =
+        let i : o + (j + 1) ≡ k + 1 = omega arith in
+        drop-drop (j + 1) o x ∙ ap (λ (n : ℕ). drop n x) i
+
+    own-split : allItems σ (firsts p (spelled words)) ≡ ownItems σ words ++ allItems σ (firsts (p - 1) (spelled (drop 1 words)))
+    own-split = split-bound σ (drop o vs) words p j some e within
+
+    pub sought-inside : b < getD cs k 0 → sought script vs ps (searching l p b o) ≡ sought script vs ps (searching (length script - getD ps k 0) 1 b (k + 1))
+    unfolding sought
+    sought-inside q =
+        let g : getD (drop o ps) j 0 ≡ getD ps k 0 = getD-drop o ps j 0 ∙ ap (λ (i : ℕ). getD ps i 0) (sym at) in
+        sym (item-here _ (ownItems σ words) _ b (getD cs k 0) own-split own-count q)
+        ∙ ap (λ (x : List Message). firstItem (drop b x)) (sym own-given ∙ rw (older vs, older ps, g, left-from script (getD ps k 0)) (sym (one-message _ _)))
+
+    pub sought-past : l ≤ length script → getD cs k 0 ≤ b → b < 4294967295 → sought script vs ps (searching l p b o) ≡ sought script vs ps (searching (l - 1) (p - 1) (b - getD cs k 0) o)
+    unfolding sought
+    sought-past w q r = rw (left-behind script l 1 w) (sym (ap firstItem (drop-past _ (ownItems σ words) _ b (getD cs k 0) own-split own-count q r)))
+
+  -- at another word
+  module _ (e : length (drop o vs) ≤ boundAt (firstWord words) (drop o vs)) where
+    free-count : shapeOf (firstWord words) .items ≡ capped (length (ownItems σ words))
+    free-count = capped-shape σ words (unbound-free script (drop o vs) (drop o ps) _ e)
+
+    pub sought-here : b < shapeOf (firstWord words) .items → plainItem (firstWord words) (nameOf (resolve σ (messageAt (drop 1 words)))) ≡ sought script vs ps (searching l p b o)
+    unfolding sought
+    sought-here q =
+        let f = unbound-free script (drop o vs) (drop o ps) _ e in
+        sym (item-only _ _ (single σ words b f (below-count _ _ _ free-count q)) ∙ item-free σ words f)
+        ∙ item-here _ (ownItems σ words) _ b _ (own-front σ words p some) free-count q
+
+    pub sought-behind : (u q : ℕ) → l ≤ length script → allItems σ (firsts p (spelled words)) ≡ ownItems σ words ++ allItems σ (firsts q (spelled (drop u words))) → shapeOf (firstWord words) .items ≤ b → b < 4294967295
+        → sought script vs ps (searching l p b o) ≡ sought script vs ps (searching (l - u) q (b - shapeOf (firstWord words) .items) o)
+    unfolding sought
+    sought-behind u q w x y r = rw (left-behind script l u w) (sym (ap firstItem (drop-past _ (ownItems σ words) _ b _ x free-count y r)))
+
+-- where a search for that item may stand, and what falls with each of its turns
+
+pub record Stands (script vs ps : List ℕ) (item : First) (s : Search) : Type 0 where
+  pub within : s .left ≤ length script
+  pub room : s .pending + s .left ≤ 1 + length script
+  pub small : s .before < 4294967295
+  pub older : s .older ≤ length vs
+  pub same : item ≡ sought script vs ps s
+
+abbrev pub turns : (vs : List ℕ) → Search → ℕ
+turns vs s = rank (length vs - s .older) (3 * s .left + s .pending)
+
+-- a search that goes on from s
+pub record On (script vs ps : List ℕ) (item : First) (s r : Search) : Type 0 where
+  pub fewer : turns vs r < turns vs s
+  pub stands : Stands script vs ps item r
+
+pub stands-first : (script vs ps : List ℕ) (at offset : ℕ) → offset < 4294967295 → Stands script vs ps (firstItem (drop offset (items (resolve (bindingsIn script vs ps) (messageAt (drop at script)))))) (searching (length script - at) 1 offset 0)
+stands-first script vs ps at offset h = record { within = omega arith; room = omega arith; small = h; older = omega arith; same = sought-first script vs ps at offset }
+
+module _ {script vs ps cs : List ℕ} (ok : Kept itemCount script vs ps cs) (item : First) (s : Search) (st : Stands script vs ps item s) (some : 0 < s .pending) where
+  module _ (k j : ℕ) (at : k ≡ s .older + j) (e : j ≡ boundAt (firstWord (wordsLeft script (s .left))) (drop (s .older) vs)) (h : k < length vs) (r : Search) where
+    inside : s .before < getD cs k 0 → r ≡ searching (length script - getD ps k 0) 1 (s .before) (k + 1) → Stands script vs ps item r
+    inside q x = rw x record { within = omega arith; room = omega arith; small = st .small; older = omega arith; same = st .same ∙ sought-inside ok (s .left) (s .pending) (s .before) (s .older) some k j at e h q }
+
+    past : getD cs k 0 ≤ s .before → r ≡ searching (s .left - 1) (s .pending - 1) (s .before - getD cs k 0) (s .older) → Stands script vs ps item r
+    past q x = rw x record { within = omega (arith, st .within); room = omega (arith, st .room); small = omega (arith, st .small); older = st .older; same = st .same ∙ sought-past ok (s .left) (s .pending) (s .before) (s .older) some k j at e h (st .within) q (st .small) }
+
+    pub on-variable : (s .before < getD cs k 0 → r ≡ searching (length script - getD ps k 0) 1 (s .before) (k + 1)) → (getD cs k 0 ≤ s .before → r ≡ searching (s .left - 1) (s .pending - 1) (s .before - getD cs k 0) (s .older)) → length script < 2 ^ 64 → On script vs ps item s r
+    on-variable f g w =
+        byTest (ltb (s .before) (getD cs k 0))
+        (λ t. record {
+          fewer = rw (f (ltb-true _ _ t)) (rank-older _ _ _ _ _ refl (omega arith) (omega arith));
+          stands = inside (ltb-true _ _ t) (f (ltb-true _ _ t));
+        })
+        (λ t. record { fewer = rw (g (ltb-false _ _ t)) (rank-less _ _ _ _ refl (omega (arith, some))); stands = past (ltb-false _ _ t) (g (ltb-false _ _ t)) })
+
+  module _ (e : length (drop (s .older) vs) ≤ boundAt (firstWord (wordsLeft script (s .left))) (drop (s .older) vs)) where
+    pub stands-here : s .before < shapeOf (firstWord (wordsLeft script (s .left))) .items → (m : MessageWord) (n : Named) → m ≡ firstWord (wordsLeft script (s .left)) → n ≡ nameOf (resolve (bindingsIn script (drop (s .older) vs) (drop (s .older) ps)) (messageAt (drop 1 (wordsLeft script (s .left))))) → plainItem m n ≡ item
+    stands-here q m n x y = rw (x, y) (sought-here ok (s .left) (s .pending) (s .before) (s .older) some e q ∙ sym (st .same))
+
+    module _ (u q : ℕ) (less : (q + length (drop u (wordsLeft script (s .left))) ≤ s .pending + length (wordsLeft script (s .left))) × (3 * length (drop u (wordsLeft script (s .left))) + q < 3 * length (wordsLeft script (s .left)) + s .pending)) where
+      left-now : length (drop u (wordsLeft script (s .left))) ≡ s .left - u
+      left-now = length-drop u (wordsLeft script (s .left)) ∙ ap (λ (n : ℕ). n - u) (left-length script (s .left) (st .within))
+
+      pub on-behind : shapeOf (firstWord (wordsLeft script (s .left))) .items ≤ s .before
+          → allItems (bindingsIn script (drop (s .older) vs) (drop (s .older) ps)) (firsts (s .pending) (spelled (wordsLeft script (s .left)))) ≡ ownItems (bindingsIn script (drop (s .older) vs) (drop (s .older) ps)) (wordsLeft script (s .left)) ++ allItems (bindingsIn script (drop (s .older) vs) (drop (s .older) ps)) (firsts q (spelled (drop u (wordsLeft script (s .left)))))
+          → On script vs ps item s (searching (s .left - u) q (s .before - shapeOf (firstWord (wordsLeft script (s .left))) .items) (s .older))
+      on-behind y x = record {
+        fewer = rank-less _ _ _ _ refl (omega (arith, less .1, left-now, left-length script (s .left) (st .within)));
+        stands = record {
+          within = omega (arith, st .within);
+          room = omega (arith, less .0, left-now, left-length script (s .left) (st .within), st .room);
+          small = omega (arith, st .small);
+          older = st .older;
+          same = st .same ∙ sought-behind ok (s .left) (s .pending) (s .before) (s .older) some e u q (st .within) x y (st .small);
+        };
+      }

@@ -1,0 +1,121 @@
+-- Laws of the words that messages are written with: what is kept of them with the bindings, a pass over words, and the bulk
+-- of items. Assumes nothing.
+use Prim.Native.Nat.{ℕ, zero, suc, _+_, _-_, _<_}
+use mathlib.Core.List.{List, [], _∷_, _++_}
+use mathlib.Core.Path.{_≡_, refl, sym, ap, _∙_}
+use native.Mathlib.Omega.{arith}
+use native.Mathlib.Nat.{add-zero}
+use lib.ListN.{length, drop}
+use lib.Seq.{drop-drop, drop-nil}
+use Rattle.read_messages.specs.Message.{Message}
+use Rattle.read_messages.specs.Spelling.{top, push, spelled, messageAt}
+use Rattle.read_messages.specs.declared.MessageWord.{MessageWord}
+use Rattle.read_messages.specs.declared.MessageWord.the-variants.{Name, Variable, Enter, Exit, Open, Empty, Path, Unfit}
+use Rattle.theory_closures.specs.Resolve.{resolve}
+use Rattle.engine_bindings.specs.Bindings.{bindingsIn}
+use Rattle.base_slices.specs.Sums.{capped}
+use Rattle.engine_bindings.specs.Measures.{itemCount}
+use Rattle.engine_message_words.specs.Words.{firstWord, shapeOf, arityOf, boundAt}
+use Rattle.engine_bindings.specs.Passes.{firsts}
+use Rattle.theory_closures.proofs.Resolving.{resolve-name, resolve-enter, resolve-exit, resolve-opens, resolve-empty, resolve-path}
+use Rattle.engine_bindings.proofs.Bindings.{given}
+use Rattle.engine_message_words.proofs.FirstWords.{bound, bound-variable}
+use Rattle.engine_bindings.proofs.Passing.{firsts-first, Free, given-place}
+use Rattle.base_slices.proofs.Capping.{capped-sum}
+use Rattle.engine_bindings.proofs.Counting.{kept-none, kept-drop, kept-more}
+use Rattle.engine_held_bindings.specs.Sizes.{size, itemsSize, bulk, cappedItems, itemBulk, Cached, allSizes, ownSize}
+use Rattle.engine_held_bindings.specs.Held.{Measures}
+use Rattle.engine_held_bindings.specs.declared.Measured.{Measured}
+
+-- what is kept with the bindings
+
+pub cached-none : (script : List ℕ) → Cached script [] [] [] [] []
+cached-none script = record { counted = kept-none itemCount script; sized = kept-none size script; bulked = kept-none itemBulk script }
+
+pub cached-drop : {script vs ps cs ss bs : List ℕ} (k : ℕ) → Cached script vs ps cs ss bs → Cached script (drop k vs) (drop k ps) (drop k cs) (drop k ss) (drop k bs)
+cached-drop k ok = record { counted = kept-drop (ok .counted) k; sized = kept-drop (ok .sized) k; bulked = kept-drop (ok .bulked) k }
+
+-- one binding more, and what was counted of its message
+pub cached-more : {script vs ps cs ss bs : List ℕ} (v a : ℕ) (r : Measured) → Cached script vs ps cs ss bs → Measures (resolve (bindingsIn script vs ps) (messageAt (drop a script))) r → Cached script (v ∷ vs) (a ∷ ps) (r .count ∷ cs) (r .size ∷ ss) (r .bulk ∷ bs)
+cached-more v a r ok m = record { counted = kept-more (ok .counted) v a (r .count) (m .count); sized = kept-more (ok .sized) v a (r .size) (m .size); bulked = kept-more (ok .bulked) v a (r .bulk) (m .bulk) }
+
+-- words
+
+pub none-size : (σ : List (ℕ × Message)) (p : ℕ) (s : List Message) → p ≡ 0 → 0 ≡ capped (allSizes σ (firsts p s))
+unfolding capped allSizes firsts
+none-size σ p s e = rw e
+
+pub one-size : (σ : List (ℕ × Message)) (l : List ℕ) → allSizes σ (firsts 1 (spelled l)) ≡ size (resolve σ (messageAt l))
+unfolding allSizes firsts messageAt
+one-size σ l = add-zero _
+
+sizes-word : (σ : List (ℕ × Message)) (m : MessageWord) (p : ℕ) (s : List Message) → allSizes σ (firsts (suc p) (push m s)) ≡ ownSize σ m + allSizes σ (firsts (p + arityOf m) s)
+unfolding allSizes firsts push top ownSize shapeOf size
+sizes-word σ (Name n) p s = rw (resolve-name, add-zero p)
+sizes-word σ (Variable v) p s = rw (add-zero p)
+sizes-word σ Enter p s = let e : p + 1 ≡ suc p = omega arith in rw (resolve-enter, e) (omega arith)
+sizes-word σ Exit p s = let e : p + 1 ≡ suc p = omega arith in rw (resolve-exit, e) (omega arith)
+sizes-word σ Open p s = let e : p + 1 ≡ suc p = omega arith in rw (resolve-opens, e) (omega arith)
+sizes-word σ Empty p s = rw (resolve-empty, add-zero p)
+sizes-word σ Path p s = let e : p + 2 ≡ suc (suc p) = omega arith in rw (resolve-path, e, drop-drop 1 1 s) (omega arith)
+sizes-word σ Unfit p s = rw (resolve-empty, add-zero p)
+
+pub sizes-first : (σ : List (ℕ × Message)) (l : List ℕ) (p : ℕ) → 0 < p
+    → allSizes σ (firsts p (spelled l)) ≡ ownSize σ (firstWord l) + allSizes σ (firsts (p - 1 + arityOf (firstWord l)) (spelled (drop 1 l)))
+sizes-first σ l zero h = absurd (omega arith)
+sizes-first σ l (suc p) h =
+    let q : suc p - 1 ≡ p = omega arith in
+    rw (q, firsts-first (suc p) l) (sizes-word σ (firstWord l) p (spelled (drop 1 l)))
+
+size-free : (σ : List (ℕ × Message)) (m : MessageWord) → Free σ m → ownSize σ m ≡ 1
+unfolding ownSize size
+size-free σ (Name n) f = refl
+size-free σ (Variable v) f = rw (f v refl)
+size-free σ Enter f = refl
+size-free σ Exit f = refl
+size-free σ Open f = refl
+size-free σ Empty f = refl
+size-free σ Path f = refl
+size-free σ Unfit f = refl
+
+pub capped-one : (σ : List (ℕ × Message)) (m : MessageWord) → Free σ m → 1 ≡ capped (ownSize σ m)
+unfolding capped
+capped-one σ m f = omega (arith, size-free σ m f)
+
+pub given-size : (script vs ps : List ℕ) → length ps ≡ length vs → (k : ℕ) → k < length vs → (m : MessageWord) → k ≡ boundAt m vs → size (given script vs ps k) ≡ ownSize (bindingsIn script vs ps) m
+unfolding ownSize
+given-size script vs ps l k h m e = elim (bound-variable vs m k e h) [ bound v q p ↦ rw q (ap size (given-place script vs ps l k h v p)) ]
+
+-- the items' bulk
+
+bulk-append : (a b : List Message) → bulk (a ++ b) ≡ bulk a + bulk b
+unfolding bulk
+bulk-append [] b = omega arith
+bulk-append (m ∷ a) b = omega (arith, bulk-append a b)
+
+pub bulk-sum : (a b x : List Message) {o r t : ℕ} → a ++ b ≡ x → o ≡ capped (bulk a) → r ≡ capped (bulk b) → t ≡ capped (o + r) → t ≡ capped (bulk x)
+bulk-sum a b x e p q s = capped-sum (bulk a) (bulk b) (ap bulk (sym e) ∙ bulk-append a b) p q s
+
+pub bulk-none : (x : List Message) (o : ℕ) → x ≡ [] → 0 ≡ capped (bulk (drop o x))
+unfolding bulk capped
+bulk-none x o e = rw (e, drop-nil {A = Message} o)
+
+pub bulk-only : (x : List Message) (m : Message) {r t : ℕ} → x ≡ m ∷ [] → r ≡ capped (size m) → t ≡ capped (1 + r) → t ≡ capped (bulk x)
+unfolding bulk capped
+bulk-only x m e p q = rw e (omega arith)
+
+-- An action's items are written with one PATH less than there are items, and none of them with one word.
+items-bulk : (m : Message) (ms : List Message) → suc (itemsSize (m ∷ ms)) ≡ bulk (m ∷ ms)
+unfolding itemsSize bulk
+items-bulk m [] = omega arith
+items-bulk m (k ∷ ms) = omega (arith, items-bulk k ms)
+
+pub words-none : (x : List Message) (b : ℕ) → b ≡ capped (bulk x) → b ≡ 0 → 1 ≡ cappedItems (itemsSize x)
+unfolding cappedItems itemsSize bulk capped
+words-none [] b e z = refl
+words-none (m ∷ x) b e z = absurd (omega arith)
+
+pub words-some : (x : List Message) (b : ℕ) → b ≡ capped (bulk x) → (b ≡ 0 → ⊥) → b - 1 ≡ cappedItems (itemsSize x)
+unfolding cappedItems capped
+words-some [] b e z = absurd (z (unfold bulk in e))
+words-some (m ∷ x) b e z = omega (arith, items-bulk m x)

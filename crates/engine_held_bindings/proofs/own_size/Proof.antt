@@ -1,0 +1,34 @@
+-- `engine_held_bindings::own_size` meets its contract. Assumes nothing.
+use mathlib.Core.Path.{ap, _∙_}
+use native.Mathlib.Omega.{arith}
+use borrow.Author.Needs.{needs}
+use Rattle.engine_bindings.specs.Bindings.{bindingsIn}
+use Rattle.base_slices.specs.Sums.{capped}
+use Rattle.engine_bindings.proofs.Passing.{unbound-free}
+use Rattle.engine_bindings.proofs.Counting.{kept-given}
+use Rattle.engine_held_bindings.proofs.Sizing.{given-size, capped-one}
+use Rattle.engine_held_bindings.proofs.own_size.Statement.{statement}
+use Rattle.engine_held_bindings.proofs.own_size.Tie as tie
+
+-- the way from a place to one before it
+abbrev bound-start : tie.After-bound → tie.Start
+bound-start c = c .before .before .before
+
+returns : tie.Need-returns
+returns c =
+    let at-bound = c .before .before in
+    λ script places ok. kept-given ok _ (c .before .if1 .taken)
+    ∙ ap capped (given-size script (bound-start at-bound .args .variables .now) places (ok .aligned) _ (c .before .if1 .taken) (bound-start at-bound .args .m) (at-bound .bound .ensures))
+
+returns-2 : tie.Need-returns-2
+returns-2 c =
+    let start = bound-start (c .before) in
+    λ script places ok. capped-one (bindingsIn script (start .args .variables .now) places) (start .args .m) (unbound-free script (start .args .variables .now) places (start .args .m) (omega (arith, c .before .bound .ensures, c .if1 .left)))
+
+pub own-size-spec : {M : Type 1} → statement M
+own-size-spec =
+    tie.close
+    (tie.spec
+    (λ c κs. search needs) (λ c. search needs) (λ c. search needs)
+    returns
+    returns-2)

@@ -1,0 +1,28 @@
+-- The bindings as they are held: arrays of 32, filled from the end, so that those from `first` on are newest first.
+-- Assumes nothing: these are definitions.
+use Prim.Native.Nat.{ℕ, _≤_}
+use mathlib.Core.List.{List}
+use mathlib.Core.Path.{_≡_}
+use lib.ListN.{drop}
+use Rattle.read_messages.specs.Message.{Message}
+use Rattle.engine_bindings.specs.Bindings.{bindingsIn}
+use Rattle.base_slices.specs.Sums.{capped}
+use Rattle.engine_bindings.specs.Measures.{itemCount}
+use Rattle.engine_held_bindings.specs.Sizes.{itemBulk, Cached}
+use Rattle.engine_held_bindings.specs.Sizes as sizes
+use Rattle.engine_held_bindings.specs.declared.Measured.{Measured}
+use Rattle.engine_held_bindings.specs.declared.Bindings.{Bindings}
+
+-- what is counted of a message
+pub record Measures (m : Message) (r : Measured) : Type 0 where
+  pub count : r .count ≡ capped (itemCount m)
+  pub size : r .size ≡ capped (sizes.size m)
+  pub bulk : r .bulk ≡ capped (itemBulk m)
+
+unfoldable pub bindingsOf : (script : List ℕ) → Bindings → List (ℕ × Message)
+bindingsOf script b = bindingsIn script (drop (b .first) (b .variables)) (drop (b .first) (b .places))
+
+-- there is no more than fits, and what is kept with the bindings is right
+pub record Held (script : List ℕ) (b : Bindings) : Type 0 where
+  pub within : b .first ≤ 32
+  pub cached : Cached script (drop (b .first) (b .variables)) (drop (b .first) (b .places)) (drop (b .first) (b .counts)) (drop (b .first) (b .sizes)) (drop (b .first) (b .bulks))

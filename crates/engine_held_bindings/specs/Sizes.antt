@@ -1,0 +1,59 @@
+-- The words that messages are written with: of a message, of an action's items, and of items with one PATH each; and that
+-- what is kept of them with the bindings is right. Assumes nothing: these are definitions.
+use Prim.Native.Nat.{ℕ, suc, _+_, min}
+use mathlib.Core.List.{List, [], _∷_}
+use Rattle.read_messages.specs.Message.{Message, name, variable, enter, exit, opens, empty, path, items}
+use Rattle.read_messages.specs.declared.MessageWord.{MessageWord}
+use Rattle.read_messages.specs.declared.MessageWord.the-variants.{Name, Variable, Enter, Exit, Open, Empty, Path, Unfit}
+use Rattle.theory_closures.specs.Resolve.{resolve}
+use Rattle.engine_bindings.specs.Measures.{itemCount, Kept}
+
+-- the number of words that a message is written with
+unfoldable pub size : Message → ℕ
+size (name n) = 1
+size (variable v) = 1
+size (enter m) = suc (size m)
+size (exit m) = suc (size m)
+size (opens m) = suc (size m)
+size empty = 1
+size (path m k) = suc (size m + size k)
+
+-- the number of words that an action's items are written with: "several as PATH item rest; none as one EMPTY"
+unfoldable pub itemsSize : List Message → ℕ
+itemsSize [] = 1
+itemsSize (m ∷ []) = size m
+itemsSize (m ∷ (k ∷ ks)) = suc (size m + itemsSize (k ∷ ks))
+
+-- the words of the items, and one PATH for each: a sum, so that it can be counted from any item on
+unfoldable pub bulk : List Message → ℕ
+bulk [] = 0
+bulk (m ∷ ms) = suc (size m) + bulk ms
+
+-- no more than 2^32 - 2: the words of an action's items are one less than their bulk, which stops at 2^32 - 1
+unfoldable pub cappedItems : ℕ → ℕ
+cappedItems n = min n 4294967294
+
+abbrev pub itemBulk : Message → ℕ
+itemBulk m = bulk (items m)
+
+-- the words that the messages are written with, each after the bindings
+unfoldable pub allSizes : List (ℕ × Message) → List Message → ℕ
+allSizes σ [] = 0
+allSizes σ (m ∷ ms) = size (resolve σ m) + allSizes σ ms
+
+-- the words that a word is written with itself, after the bindings
+unfoldable pub ownSize : List (ℕ × Message) → MessageWord → ℕ
+ownSize σ (Name n) = 1
+ownSize σ (Variable v) = size (resolve σ (variable v))
+ownSize σ Enter = 1
+ownSize σ Exit = 1
+ownSize σ Open = 1
+ownSize σ Empty = 1
+ownSize σ Path = 1
+ownSize σ Unfit = 1
+
+-- the three counts that are kept with the bindings are right
+pub record Cached (script variables places counts sizes bulks : List ℕ) : Type 0 where
+  pub counted : Kept itemCount script variables places counts
+  pub sized : Kept size script variables places sizes
+  pub bulked : Kept itemBulk script variables places bulks

@@ -1,0 +1,14 @@
+-- `engine_message_words::arity` meets its contract. Assumes nothing.
+use native.Mathlib.Omega.{arith}
+use borrow.Author.Needs.{needs}
+use Rattle.engine_message_words.proofs.FirstWords.{arity-small}
+use Rattle.engine_message_words.proofs.arity.Statement.{statement}
+use Rattle.engine_message_words.proofs.arity.Tie as tie
+
+pub arity-spec : {M : Type 1} → statement M
+arity-spec =
+    tie.close
+    (tie.spec
+    (λ c κs. search needs)
+    (λ c. rw (c .before .shape-of .ensures) (let l = arity-small (c .before .before .args .m) in omega arith))
+    (λ c. rw (c .before .shape-of .ensures)))

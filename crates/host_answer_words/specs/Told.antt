@@ -1,0 +1,33 @@
+-- The eight words of an answer. Assumes nothing: these are definitions.
+use Prim.Native.Nat.{ℕ}
+use mathlib.Core.Bool.{true, false}
+use mathlib.Core.List.{List, [], _∷_}
+use Rattle.theory_call.specs.Call.{Verdict, accepted, refused, Answer}
+
+-- what is said: 0 for a refusal, 1 for no, 2 for yes
+unfoldable pub saidOf : Verdict → ℕ
+saidOf (accepted true) = 2
+saidOf (accepted false) = 1
+saidOf (refused q i) = 0
+
+-- number and place of a refusal, 0 where there is none
+unfoldable pub questionOf : Verdict → ℕ
+questionOf (accepted a) = 0
+questionOf (refused q i) = q
+
+unfoldable pub placeOf : Verdict → ℕ
+placeOf (accepted a) = 0
+placeOf (refused q i) = i
+
+-- the eight words of an answer: what is said; number; place; moves; visits; deepest; weight; words
+unfoldable pub told : Answer → List ℕ
+told a =
+    saidOf (a .verdict)
+    ∷ questionOf (a .verdict)
+    ∷ placeOf (a .verdict)
+    ∷ a .moves
+    ∷ a .visits
+    ∷ a .deepest
+    ∷ a .weight
+    ∷ a .words
+    ∷ []

@@ -1,0 +1,30 @@
+-- `read_count` meets its contract. Assumes nothing.
+use native.Mathlib.Omega.{arith}
+use Rattle.program_replies.specs.Reply.{countedBy}
+use Rattle.program_replies.proofs.Replying.{counted-none, counted-short, counted-some}
+use borrow.Author.Needs.{needs}
+use Rattle.program_replies.proofs.read_count.Statement.{statement}
+use Rattle.program_replies.proofs.read_count.Tie as tie
+
+returns : tie.Need-returns
+unfolding countedBy
+returns c = counted-none (c .before .args .s .now) (c .if1 .taken)
+
+cast-n : tie.Need-cast-n
+cast-n c = omega (arith, c .shared-slice-known .given 0)
+
+returns-2 : tie.Need-returns-2
+unfolding countedBy
+returns-2 c =
+    let at-else1 = c .before .before in
+    counted-short (at-else1 .before .args .s .now) (omega (arith, at-else1 .if1 .left)) (c .if2 .taken)
+
+returns-3 : tie.Need-returns-3
+unfolding countedBy
+returns-3 c =
+    let at-else1 = c .before .before in
+    counted-some (at-else1 .before .args .s .now) (omega (arith, at-else1 .if1 .left)) (omega (arith, c .if2 .left))
+
+pub read-count-spec : {M : Type 1} → statement M
+read-count-spec =
+    tie.close (tie.spec returns (λ c. search needs) cast-n (λ c. search needs) returns-2 returns-3)

@@ -1,0 +1,173 @@
+-- Laws of rule words: the term that one says, questions 8 to 10, and the greatest name. Assumes nothing.
+use Prim.Native.Nat.{ℕ, zero, suc, _+_, _-_, _/_, _≤_, _<_, max}
+use mathlib.Core.Bool.{Bool, true, false, cond}
+use mathlib.Core.List.{List, [], _∷_}
+use mathlib.Core.Path.{_≡_, refl, sym, _∙_, subst}
+use native.Mathlib.Omega.{arith}
+use native.Mathlib.Numerals.{add-one}
+use lib.ListN.{length, drop, getD}
+use borrow.Author.Tests.{le-leb, lt-leb}
+use Rattle.read_messages.specs.Words.{kind, operand, nameFits, member}
+use Rattle.base_slices.proofs.Tails.{before}
+use Rattle.read_rule_words.specs.Rule.{Term, constant, chosen, ruleName, greatestRuleName}
+use Rattle.read_rule_words.specs.ReadRule.{RuleKind, TRUE, NOT, OR, VOID, AT, BESIDE, SOME, SOMETIME, SOMEWHERE, PLACED, OTHER, ruleKind, isChosen, termOf, fits, termBound, bound, somesWith}
+use Rattle.read_rule_words.specs.RuleWords.{termWord, follow, levelled, askedPlain, askedTerm, asked}
+use Rattle.read_rule_words.specs.declared.RuleTerm.{RuleTerm}
+use Rattle.read_rule_words.specs.declared.RuleTerm.the-variants.{Constant, Chosen}
+use Rattle.read_rule_words.specs.declared.Asked.{Asked}
+use Rattle.read_rule_words.specs.declared.Asked.the-variants.{Leaf, One, Two, Choice, Place, No}
+
+-- a term is the one or the other
+constant≢chosen : {B : Type 0} (n i : ℕ) → _≡_ {A = RuleTerm} (Constant n) (Chosen i) → B
+constant≢chosen n i e = let z : _≡_ {A = ℕ} 0 1 = cc in absurd (let w : ⊥ = omega arith in w)
+
+-- which term it is, by the code's answer
+pub constant-told : (t : Term) (n : ℕ) → Constant n ≡ termWord t → t ≡ constant n
+unfolding termWord
+constant-told (constant m) n e = let z : m ≡ n = cc in rw z
+constant-told (chosen i) n e = constant≢chosen n i e
+
+pub chosen-told : (t : Term) (i : ℕ) → Chosen i ≡ termWord t → t ≡ chosen i
+unfolding termWord
+chosen-told (constant n) i e = constant≢chosen n i (sym e)
+chosen-told (chosen j) i e = let z : j ≡ i = cc in rw z
+
+-- a kind by its number
+abbrev Numbered : RuleKind → ℕ → Type 0
+Numbered TRUE k = k ≡ 0
+Numbered NOT k = k ≡ 1
+Numbered OR k = k ≡ 2
+Numbered VOID k = k ≡ 3
+Numbered AT k = k ≡ 4
+Numbered BESIDE k = k ≡ 5
+Numbered SOME k = k ≡ 6
+Numbered SOMETIME k = k ≡ 7
+Numbered SOMEWHERE k = k ≡ 8
+Numbered PLACED k = k ≡ 9
+Numbered OTHER k = Unit {0}
+
+abbrev kindOf : ℕ → RuleKind
+kindOf k = getD (TRUE ∷ NOT ∷ OR ∷ VOID ∷ AT ∷ BESIDE ∷ SOME ∷ SOMETIME ∷ SOMEWHERE ∷ PLACED ∷ []) k OTHER
+
+kind-number : (k : ℕ) → Numbered (kindOf k) k
+kind-number zero = refl
+kind-number (suc zero) = refl
+kind-number (suc (suc zero)) = refl
+kind-number (suc (suc (suc zero))) = refl
+kind-number (suc (suc (suc (suc zero)))) = refl
+kind-number (suc (suc (suc (suc (suc zero))))) = refl
+kind-number (suc (suc (suc (suc (suc (suc zero)))))) = refl
+kind-number (suc (suc (suc (suc (suc (suc (suc zero))))))) = refl
+kind-number (suc (suc (suc (suc (suc (suc (suc (suc zero)))))))) = refl
+kind-number (suc (suc (suc (suc (suc (suc (suc (suc (suc zero))))))))) = refl
+kind-number (suc (suc (suc (suc (suc (suc (suc (suc (suc (suc k)))))))))) = tt
+
+pub kind-told : (w : ℕ) (k : RuleKind) → ruleKind w ≡ k → Numbered k (kind w)
+unfolding ruleKind
+kind-told w k e = subst (λ (x : RuleKind). Numbered x (kind w)) e (kind-number (kind w))
+
+-- what the code asks of a word of that kind
+abbrev askedBy : RuleKind → (around : ℕ) (somes : List ℕ) (n : ℕ) → Asked
+askedBy TRUE around somes n = askedPlain around (length somes) n Leaf
+askedBy NOT around somes n = askedPlain around (length somes) n One
+askedBy OR around somes n = askedPlain around (length somes) n Two
+askedBy VOID around somes n = askedPlain around (length somes) n Leaf
+askedBy AT around somes n = askedTerm around somes n One
+askedBy BESIDE around somes n = askedPlain around (length somes) n Two
+askedBy SOME around somes n = askedPlain around (length somes + 1) n Choice
+askedBy SOMETIME around somes n = askedPlain around (length somes) n One
+askedBy SOMEWHERE around somes n = askedPlain around (length somes) n One
+askedBy PLACED around somes n = askedTerm around somes n Place
+askedBy OTHER around somes n = No 8
+
+kind-asked : (k : RuleKind) (around : ℕ) (somes : List ℕ) (n : ℕ) → askedBy k around somes n ≡ asked around somes k n
+unfolding asked askedPlain askedTerm fits bound somesWith follow
+kind-asked TRUE around somes n = refl
+kind-asked NOT around somes n = refl
+kind-asked OR around somes n = refl
+kind-asked VOID around somes n = refl
+kind-asked AT around somes n = refl
+kind-asked BESIDE around somes n = refl
+kind-asked SOME around somes n = rw (add-one (length somes))
+kind-asked SOMETIME around somes n = refl
+kind-asked SOMEWHERE around somes n = refl
+kind-asked PLACED around somes n = refl
+kind-asked OTHER around somes n = refl
+
+module _ (around : ℕ) (somes : List ℕ) (w : ℕ) where
+  pub word-asked : (k : ℕ) → w / 268435456 ≡ k → askedBy (kindOf k) around somes (operand w) ≡ asked around somes (ruleKind w) (operand w)
+  unfolding ruleKind kind
+  word-asked k e = rw e (kind-asked (kindOf k) around somes (operand w))
+
+  -- kinds above 9 are none of a rule
+  pub other-asked : (w / 268435456 ≡ 0 → ⊥) → (w / 268435456 ≡ 1 → ⊥) → (w / 268435456 ≡ 2 → ⊥) → (w / 268435456 ≡ 3 → ⊥) → (w / 268435456 ≡ 4 → ⊥) → (w / 268435456 ≡ 5 → ⊥) → (w / 268435456 ≡ 6 → ⊥) → (w / 268435456 ≡ 7 → ⊥) → (w / 268435456 ≡ 8 → ⊥) → (w / 268435456 ≡ 9 → ⊥) → No 8 ≡ asked around somes (ruleKind w) (operand w)
+  unfolding kind
+  other-asked a b c d e f g h i j = rw (told (ruleKind w) refl) (kind-asked OTHER around somes (operand w))
+    where
+      told : (k : RuleKind) → ruleKind w ≡ k → k ≡ OTHER
+      told TRUE z = absurd (a (kind-told w TRUE z))
+      told NOT z = absurd (b (kind-told w NOT z))
+      told OR z = absurd (c (kind-told w OR z))
+      told VOID z = absurd (d (kind-told w VOID z))
+      told AT z = absurd (e (kind-told w AT z))
+      told BESIDE z = absurd (f (kind-told w BESIDE z))
+      told SOME z = absurd (g (kind-told w SOME z))
+      told SOMETIME z = absurd (h (kind-told w SOMETIME z))
+      told SOMEWHERE z = absurd (i (kind-told w SOMEWHERE z))
+      told PLACED z = absurd (j (kind-told w PLACED z))
+      told OTHER z = refl
+
+-- names 1 to 255 fit
+pub name-fits : (n : ℕ) → (n ≡ 0 → ⊥) → n ≤ 255 → nameFits n ≡ true
+unfolding nameFits
+name-fits n z h = rw (le-leb 1 n (omega arith), le-leb n 255 h)
+
+pub name-none : (n : ℕ) → n ≡ 0 → nameFits n ≡ false
+unfolding nameFits
+name-none n z = rw z
+
+pub name-large : (n : ℕ) → 255 < n → nameFits n ≡ false
+unfolding nameFits
+name-large n h = rw (le-leb 1 n (omega arith), lt-leb n 255 h)
+
+-- Questions 8, 9 and 10 of a word of AT or PLACED, n being its operand, by the term that it says.
+module _ (around : ℕ) (somes : List ℕ) (n : ℕ) (a : Asked) where
+  constant-asked : (m : ℕ) → Constant m ≡ termWord (termOf n) → cond (nameFits m) (levelled around (length somes) a) (No 8) ≡ askedTerm around somes n a
+  unfolding termWord termOf termBound askedTerm
+  constant-asked m e = told (isChosen n) refl (nameFits n) refl
+    where
+      told : (b : Bool) → isChosen n ≡ b → (d : Bool) → nameFits n ≡ d → cond (nameFits m) (levelled around (length somes) a) (No 8) ≡ askedTerm around somes n a
+      told true t d f = constant≢chosen m (n - 134217728) (e ∙ rw t)
+      told false t true f = let z : m ≡ n = cc (e ∙ (let y : termWord (termOf n) ≡ Constant n = rw t in y)) in rw (z, t, f)
+      told false t false f = let z : m ≡ n = cc (e ∙ (let y : termWord (termOf n) ≡ Constant n = rw t in y)) in rw (z, t, f)
+
+  pub term-unfit : (m : ℕ) → Constant m ≡ termWord (termOf n) → nameFits m ≡ false → No 8 ≡ askedTerm around somes n a
+  term-unfit m e f = rw (← constant-asked m e, f)
+
+  pub term-fits : (m : ℕ) → Constant m ≡ termWord (termOf n) → nameFits m ≡ true → levelled around (length somes) a ≡ askedTerm around somes n a
+  term-fits m e f = rw (← constant-asked m e, f)
+
+  chosen-asked : (i : ℕ) → Chosen i ≡ termWord (termOf n) → cond (member i somes) (levelled around (length somes) a) (No 9) ≡ askedTerm around somes n a
+  unfolding termWord termOf termBound askedTerm
+  chosen-asked i e = told (isChosen n) refl (nameFits n) refl
+    where
+      told : (b : Bool) → isChosen n ≡ b → (d : Bool) → nameFits n ≡ d → cond (member i somes) (levelled around (length somes) a) (No 9) ≡ askedTerm around somes n a
+      told true t true f = let z : i ≡ n - 134217728 = cc (e ∙ (let y : termWord (termOf n) ≡ Chosen (n - 134217728) = rw t in y)) in rw (z, t, f)
+      told true t false f = let z : i ≡ n - 134217728 = cc (e ∙ (let y : termWord (termOf n) ≡ Chosen (n - 134217728) = rw t in y)) in rw (z, t, f)
+      told false t d f = constant≢chosen n i (sym (e ∙ rw t))
+
+  pub term-around : (i : ℕ) → Chosen i ≡ termWord (termOf n) → member i somes ≡ true → levelled around (length somes) a ≡ askedTerm around somes n a
+  term-around i e f = rw (← chosen-asked i e, f)
+
+  pub term-free : (i : ℕ) → Chosen i ≡ termWord (termOf n) → member i somes ≡ false → No 9 ≡ askedTerm around somes n a
+  term-free i e f = rw (← chosen-asked i e, f)
+
+-- The greatest name, read from the end: none behind the end, and with the word before i in front.
+pub greatest-end : (l : List ℕ) → greatestRuleName (drop (length l) l) ≡ 0
+unfolding greatestRuleName
+greatest-end [] = refl
+greatest-end (w ∷ l) = greatest-end l
+
+pub greatest-more : (l : List ℕ) (i g r : ℕ) → 0 < i → i ≤ length l → g ≡ greatestRuleName (drop i l) → r ≡ max (ruleName (getD l (i - 1) 0)) g → r ≡ greatestRuleName (drop (i - 1) l)
+unfolding greatestRuleName
+greatest-more l i g r h k e f = rw (before l i h k, ← e) f

@@ -1,0 +1,18 @@
+-- `read_rule_words::ask_plain` meets its contract. Assumes nothing.
+use borrow.Author.Needs.{needs}
+use borrow.Author.Tests.{ne-eqb}
+use Rattle.read_messages.specs.Words.{operand}
+use Rattle.read_rule_words.specs.RuleWords.{askedPlain}
+use Rattle.read_rule_words.proofs.ask_plain.Statement.{statement}
+use Rattle.read_rule_words.proofs.ask_plain.Tie as tie
+
+returns : tie.Need-returns
+unfolding askedPlain operand
+returns c = rw (ne-eqb _ _ (c .if1 .taken))
+
+returns-2 : tie.Need-returns-2
+unfolding askedPlain operand
+returns-2 c = rw (c .before .if1 .left) (c .within .ensures)
+
+pub ask-plain-spec : {M : Type 1} → statement M
+ask-plain-spec = tie.close (tie.spec returns (λ c κs. search needs) returns-2)

@@ -1,0 +1,58 @@
+-- Laws of the part words and of the greatest name. Assumes nothing.
+use Prim.Native.Nat.{ℕ, _-_, _≤_, _<_, max}
+use mathlib.Core.List.{List, [], _∷_}
+use mathlib.Core.Logic.{⊎-elim}
+use mathlib.Core.Path.{_≡_, refl}
+use native.Mathlib.Omega.{arith}
+use borrow.Author.Tests.{le-leb, lt-leb, ne-eqb}
+use denote.Enum.Declared.{tagOf}
+use types.Run.{OneOf}
+use lib.ListN.{length, drop, getD}
+use Rattle.read_messages.specs.Words.{kind, operand}
+use Rattle.base_slices.proofs.Tails.{before}
+use Rattle.read_scripts.proofs.PartWord.{the-type}
+use Rattle.read_scripts.specs.declared.PartWord.{PartWord}
+use Rattle.read_scripts.specs.declared.PartWord.the-variants.{Close, Ambient, Action, Receipt, Output, No}
+use Rattle.read_scripts.specs.Script.{fits, askedPart}
+use Rattle.read_scripts.specs.Measures.{greatestName}
+
+-- the variants before `No`
+abbrev pub Fit : PartWord → Type 0
+Fit p = OneOf (0 ∷ 1 ∷ 2 ∷ 3 ∷ 4 ∷ []) (tagOf the-type p)
+
+no-fit : OneOf (0 ∷ 1 ∷ 2 ∷ 3 ∷ 4 ∷ []) 5 → ⊥
+no-fit = ⊎-elim (λ e. omega arith) (⊎-elim (λ e. omega arith) (⊎-elim (λ e. omega arith) (⊎-elim (λ e. omega arith) (λ e. omega arith))))
+
+-- What is asked of a part word: question 2 is answered by the word itself, and then question 4.
+pub asked-deep : (nest : ℕ) (p : PartWord) → Fit p → 64 < nest → askedPart nest p ≡ No 4
+unfolding askedPart fits
+asked-deep nest Close f h = rw (lt-leb nest 64 h)
+asked-deep nest Ambient f h = rw (lt-leb nest 64 h)
+asked-deep nest Action f h = rw (lt-leb nest 64 h)
+asked-deep nest Receipt f h = rw (lt-leb nest 64 h)
+asked-deep nest Output f h = rw (lt-leb nest 64 h)
+asked-deep nest (No q) f h = absurd (no-fit f)
+
+pub asked-within : (nest : ℕ) (p : PartWord) → nest ≤ 64 → askedPart nest p ≡ p
+unfolding askedPart fits
+asked-within nest Close h = rw (le-leb nest 64 h)
+asked-within nest Ambient h = rw (le-leb nest 64 h)
+asked-within nest Action h = rw (le-leb nest 64 h)
+asked-within nest Receipt h = rw (le-leb nest 64 h)
+asked-within nest Output h = rw (le-leb nest 64 h)
+asked-within nest (No q) h = refl
+
+-- The greatest name, read from the end: none behind the end, and with the word before i in front.
+pub greatest-end : (l : List ℕ) → greatestName (drop (length l) l) ≡ 0
+unfolding greatestName
+greatest-end [] = refl
+greatest-end (w ∷ l) = greatest-end l
+
+module _ (l : List ℕ) (i g : ℕ) (h : 0 < i) (k : i ≤ length l) (e : g ≡ greatestName (drop i l)) where
+  pub greatest-other : (kind (getD l (i - 1) 0) ≡ 8 → ⊥) → g ≡ greatestName (drop (i - 1) l)
+  unfolding greatestName
+  greatest-other n = rw (before l i h k, ne-eqb _ _ n) e
+
+  pub greatest-name : (r : ℕ) → kind (getD l (i - 1) 0) ≡ 8 → r ≡ max (operand (getD l (i - 1) 0)) g → r ≡ greatestName (drop (i - 1) l)
+  unfolding greatestName
+  greatest-name r n f = rw (before l i h k, n, ← e) f

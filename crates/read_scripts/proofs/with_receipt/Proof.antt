@@ -1,0 +1,16 @@
+-- `read_scripts::with_receipt` meets its contract. Assumes nothing.
+use native.Mathlib.Omega.{arith}
+use mathlib.Core.Path.{_≡_}
+use lib.ListN.{length}
+use borrow.Author.Needs.{needs}
+use Rattle.base_slices.proofs.Tails.{drop-set}
+use Rattle.read_scripts.proofs.with_receipt.Statement.{statement}
+use Rattle.read_scripts.proofs.with_receipt.Tie as tie
+
+returns : tie.Need-returns
+returns c =
+    let l : length (c .before .args .around .indices) ≡ 65 = search needs in
+    (omega arith, drop-set _ _ _ (c .before .pre .0) (omega arith))
+
+pub with-receipt-spec : {M : Type 1} → statement M
+with-receipt-spec = tie.close (tie.spec (λ c. search needs) (λ c. search needs) (λ c. search needs) returns)

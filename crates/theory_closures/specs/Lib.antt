@@ -1,0 +1,3 @@
+-- The closure machine as definitions. Assumes nothing.
+pub mod Resolve
+pub mod Closure

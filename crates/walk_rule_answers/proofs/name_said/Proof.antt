@@ -1,0 +1,26 @@
+-- `name_said` meets its contract: a name, or the one chosen. Assumes nothing.
+use mathlib.Core.Path.{sym, _∙_}
+use native.Mathlib.Omega.{arith}
+use Rattle.walk_rule_answers.proofs.Said.{said-constant, said-chosen, said-none}
+use borrow.Author.Needs.{needs}
+use Rattle.walk_rule_answers.proofs.name_said.Statement.{statement}
+use Rattle.walk_rule_answers.proofs.name_said.Tie as tie
+
+-- the way from a place to one before it
+abbrev result-t2 : tie.After-result → tie.After-t2
+result-t2 c = c .before .before .before
+
+returns : tie.Need-returns
+returns c =
+    let at-t2 = c .before .before in
+    said-none _ _ _ (sym (at-t2 .t2 .given .1) ∙ at-t2 .before .before .term-of .ensures) (c .if1 .taken)
+
+pub name-said-spec : {M : Type 1} → statement M
+name-said-spec =
+    tie.close
+    (tie.spec
+    (λ c κs. search needs) (λ c. search needs) (λ c. search needs)
+    returns
+    (λ c. search needs) (λ c. search needs) (λ c. search needs)
+    (λ c. said-constant _ _ _ (sym (c .before .t .given .1) ∙ c .before .before .before .term-of .ensures))
+    (λ c. said-chosen _ _ _ (sym (result-t2 c .t2 .given .1) ∙ result-t2 c .before .before .term-of .ensures) (omega (arith, c .before .if1 .left))))

@@ -1,0 +1,89 @@
+// What a rule word answers from the counts, the chosen names and the set of top parts alone (document 01, "The rule and its
+// walk"). It rests on stages, which has the definitions, and on the promises of rules.
+use read_rule_words::RuleTerm;
+use read_rule_words::term_of;
+use walk_stages::Counts;
+use walk_stages::Walked;
+ghost use mathlib.Core.Path.{_≡_};
+ghost use Prim.Native.Nat.{ℕ, _+_, _≤_, _<_, max};
+ghost use lib.Dec.{eqb};
+ghost use lib.ListN.{getD};
+ghost use Rattle.read_messages.specs.Words.{operand};
+ghost use Rattle.read_rule_words.specs.ReadRule.{termOf};
+ghost use Rattle.theory_decision.specs.Walk.{turned as reversed, says};
+ghost use Rattle.walk_stages.specs.Visits.{countOf, walkedOf, nameSaid};
+
+// The counts after one more visit, at that depth.
+pub fn next_count(c: Counts, depth: usize) -> Counts
+    requires { ⌜ (c .visits < 4294967295) × (depth ≤ 257) ⌝ }
+    ensures { λ r. ⌜ (r .visits ≡ c .visits + 1) × (r .deepest ≡ max depth (c .deepest)) ⌝ }
+{
+    let deepest = c.deepest;
+    let d = depth as u32;
+    if deepest < d {
+        return Counts {
+            visits: c.visits + 1,
+            deepest: d,
+        };
+    }
+    Counts {
+        visits: c.visits + 1,
+        deepest,
+    }
+}
+
+// Yes for no, and no for yes.
+pub fn turned(w: Walked) -> Walked
+    ensures { λ r. ⌜ walkedOf r ≡ reversed (walkedOf w) ⌝ }
+{
+    match w {
+        Walked::Yes(c) => Walked::No(c),
+        Walked::No(c) => Walked::Yes(c),
+        Walked::Stopped(q, p, v) => Walked::Stopped(q, p, v),
+    }
+}
+
+// VOID: no parts.
+pub fn void_rule(top: u64, c: Counts) -> Walked
+    ensures { λ r. ⌜ walkedOf r ≡ says (eqb top 0) (countOf c) ⌝ }
+{
+    if top == 0 {
+        return Walked::Yes(c);
+    }
+    Walked::No(c)
+}
+
+// The name that a word of AT or PLACED says.
+pub fn name_said(w: u32, chosen: &[u32; 256]) -> u32
+    ensures { λ r. ⌜ r ≡ nameSaid (now (chosen .entry)) (termOf (operand w)) ⌝ }
+{
+    let t = term_of(w);
+    match t {
+        RuleTerm::Constant(n) => n,
+        RuleTerm::Chosen(i) => {
+            if 256 <= i {
+                return 0;
+            }
+            chosen[i as usize]
+        }
+    }
+}
+
+// The names with n at that index.
+fn replaced(names: [u32; 256], at: usize, n: u32) -> [u32; 256]
+    requires { ⌜ at < 256 ⌝ }
+    ensures { λ r. ⌜ (getD r at 0 ≡ n) × ((i : ℕ) → (i ≡ at → ⊥) → getD r i 0 ≡ getD names i 0) ⌝ }
+{
+    let mut next = names;
+    next[at] = n;
+    next
+}
+
+// The chosen names with n for the SOME at that index.
+pub fn with_name(chosen: &[u32; 256], at: usize, n: u32) -> [u32; 256]
+    requires { ⌜ at < 256 ⌝ }
+    ensures { λ r. ⌜ (getD r at 0 ≡ n) × ((i : ℕ) → (i ≡ at → ⊥) → getD r i 0 ≡ getD (now (chosen .entry)) i 0) ⌝ }
+{
+    let old = *chosen;
+    replaced(old, at, n)
+}

@@ -1,0 +1,46 @@
+-- `after_move` meets its contract: the arrays are copied, their top parts set, and the move is made on them. Assumes nothing.
+use mathlib.Core.Path.{refl, subst}
+use native.Mathlib.Omega.{arith}
+use lib.ListN.{getD}
+use Rattle.engine_states.specs.declared.State.{State}
+use Rattle.engine_targets.specs.Makes.{Moves}
+use Rattle.engine_state_arrays.specs.Lent.{kindsIn, startsIn, stateIn, standing}
+use Rattle.engine_state_arrays.proofs.Standing.{standing-top}
+use Rattle.engine_settling.proofs.Settled.{ready-same}
+use Rattle.engine_moves.proofs.LentMoves.{lends-set}
+use borrow.Author.Needs.{needs}
+use Rattle.walk_states.proofs.after_move.Statement.{statement}
+use Rattle.walk_states.proofs.after_move.Tie as tie
+
+make-move-requires : tie.Need-make-move-requires
+make-move-requires c κs =
+    let x = c .before .before .before .before .before .args in
+    let L = c .before .before .before .before .before .pre .2 in
+    let k = kindsIn (x .numbers .now) in
+    let l = startsIn (x .numbers .now) in (
+      c .before .before .before .before .before .pre .0,
+      c .before .before .before .before .before .pre .1,
+      lends-set (x .script .now) (x .sets .now) (x .numbers .now) 64 _ (omega arith) (record {
+        sets-long = L .sets-long;
+        numbers-long = L .numbers-long;
+        small = L .small;
+        ready = ready-same (x .script .now) k l (stateIn (x .sets .now) (x .numbers .now) (x .top)) (standing (x .sets .now) (x .numbers .now)) refl refl refl (L .ready);
+      }),
+    )
+
+returns : tie.Need-returns
+returns c =
+    let x = c .before .before .before .before .before .before .args in
+    let L = c .before .before .before .before .before .before .pre .2 in
+    let m = c .make-move .ensures in
+    let r = standing (c .make-move .last .1 .0) (c .make-move .last .1 .1 .0) in (
+      record { sets-long = m .0 .sets-long; numbers-long = m .0 .numbers-long; small = m .0 .small; ready = m .0 .ready },
+      (
+        m .1 .0,
+        subst (λ (s : State). Moves (x .script .now) (kindsIn (x .numbers .now)) (startsIn (x .numbers .now)) s r (λ i. getD (x .places .now) i 0) (x .a) (x .t)) (standing-top (x .sets .now) (x .numbers .now) (x .top) (L .sets-long)) (m .1 .1),
+      ),
+    )
+
+pub after-move-spec : {M : Type 1} → statement M
+after-move-spec =
+    tie.close (tie.spec (λ c. search needs) make-move-requires (λ c. search needs) returns)

@@ -1,0 +1,240 @@
+// What the words of a rule ask of the process that a state stands for (document 01, "The rule and its walk"), a state being
+// lent as two arrays and made only where a move or PLACED changes it. It rests on stages and on the promises of moves,
+// settling, lent_states, targets, closures and sets.
+use engine_states::State;
+use engine_state_arrays::bodies;
+use engine_state_arrays::borrowed;
+use engine_state_arrays::lend;
+use engine_moves::make_move;
+use engine_settling::place_part;
+use engine_targets::locate;
+use engine_targets::targets;
+ghost use mathlib.Core.List.{List, _∷_};
+ghost use mathlib.Core.Path.{_≡_};
+ghost use Prim.Native.Nat.{ℕ, _+_, _-_, _≤_, _<_};
+ghost use lib.ListN.{length, getD};
+ghost use Rattle.read_messages.specs.Message.{name as called};
+ghost use Rattle.read_messages.specs.declared.Named.the-variants.{Called};
+ghost use Rattle.base_sets.specs.Sets.{members, headOr};
+ghost use Rattle.read_scripts.specs.Tree.{ambient, close, part, timesIn};
+ghost use Rattle.read_scripts.specs.Represents.{bodyIn};
+ghost use Rattle.theory_machine.specs.Moves.{sameName};
+ghost use Rattle.theory_closures.specs.Closure.{Closure};
+ghost use Rattle.engine_states.specs.Seen.{nameIn};
+ghost use Rattle.engine_states.specs.Searches.{Located};
+ghost use Rattle.engine_states.specs.Represents.{boundIn, Represents};
+ghost use Rattle.engine_targets.specs.Targets.{TargetsOf};
+ghost use Rattle.engine_targets.specs.Makes.{Moves};
+ghost use Rattle.base_arrays.specs.Stretches.{stretch};
+ghost use Rattle.engine_state_arrays.specs.Lent.{Small, kindsIn, startsIn, stateIn};
+ghost use Rattle.walk_states.specs.declared.Step.the-variants.{Move, Place};
+ghost use Rattle.walk_stages.specs.Order.{pairsFrom, Turns};
+ghost use Rattle.walk_stages.specs.Visits.{Lendable};
+
+// Where a visit is made: the word's index, the set of the top parts, the SOMEs around, and the depths left.
+pub struct Spot {
+    pub at: usize,
+    pub top: u64,
+    pub somes: usize,
+    pub left: usize,
+}
+
+// The places of all parts, and the targets of each actor's moves.
+pub struct Found {
+    pub places: [usize; 64],
+    pub targets: [u64; 64],
+}
+
+// The moves still to be tried: those of the outer number with the inner ones that are left, then those of the outer numbers
+// behind it; none where none of the inner ones is left.
+pub struct Turn {
+    pub outer: usize,
+    pub rest: u64,
+}
+
+// A state and its part table for lending, beside the set of its top parts.
+pub struct Standing {
+    pub sets: [u64; 131],
+    pub numbers: [u32; 481],
+    pub top: u64,
+}
+
+// What changes a state: a move of an actor to a target, or a new part of that name around the top parts.
+pub enum Step {
+    Move(usize, usize),
+    Place(usize, u32),
+}
+
+// Whether the part i is an ambient of that name.
+pub fn is_called<'a>(sets: &'a [u64; 131], numbers: &'a [u32; 481], i: usize, name: u32) -> bool
+    ensures { λ r. ⌜ (i < 64 → r ≡ sameName (Called name) (nameIn (getD (now (sets .entry)) 129 0) (stretch 192 64 (now (numbers .entry))) i)) ⌝ }
+{
+    if 64 <= i {
+        return false;
+    }
+    if base_sets::has(sets[129], i) {
+        return numbers[192 + i] == name;
+    }
+    false
+}
+
+// The places of all parts of the state that is lent, and the targets of all actors.
+pub fn all_targets<'a>(sets: &'a [u64; 131], numbers: &'a [u32; 481], top: u64) -> Found
+    ensures places { λ r. ⌜ Located (members (getD (now (sets .entry)) 129 0)) (bodyIn (stateIn (now (sets .entry)) (now (numbers .entry)) top .kids)) (λ i. getD (r .places) i 0) ⌝ }
+    ensures targets { λ r. ⌜ ((a : ℕ) → a < 64 → TargetsOf (bodyIn (stateIn (now (sets .entry)) (now (numbers .entry)) top .kids)) (getD (stateIn (now (sets .entry)) (now (numbers .entry)) top .looks .acts) a 0) (members (getD (stateIn (now (sets .entry)) (now (numbers .entry)) top .looks .aims) a 0)) (λ i. getD (r .places) i 0) a (members (getD (r .targets) a 0))) ⌝ }
+{
+    let kids = bodies(sets, top);
+    let places = locate(&kids, sets[129]);
+    let mut found = Found {
+        places,
+        targets: [0; 64],
+    };
+    let mut a: usize = 0;
+    while a < 64 {
+        found.targets[a] = targets(&kids, numbers[256 + a], sets[65 + a], &places, a);
+        a += 1;
+    }
+    found
+}
+
+// The first turn from that outer number on, each outer number below the limit having its set of inner ones.
+pub fn turn_from<'a>(inner: &'a [u64; 64], from: usize, limit: usize) -> Turn
+    requires { ⌜ limit ≤ 64 ⌝ }
+    ensures { λ r. ⌜ Turns (now (inner .entry)) limit (r .outer) (r .rest) (pairsFrom (now (inner .entry)) from (limit - from)) ⌝ }
+{
+    let mut outer = from;
+    while outer < limit {
+        let rest = inner[outer];
+        if rest != 0 {
+            return Turn { outer, rest };
+        }
+        outer += 1;
+    }
+    Turn { outer, rest: 0 }
+}
+
+// The turn behind the first move of that one.
+pub fn next_turn<'a>(inner: &'a [u64; 64], turn: Turn, limit: usize) -> Turn
+    requires { ⌜ (limit ≤ 64) × (turn .rest ≡ 0 → ⊥) × (turn .outer < limit) ⌝ }
+    ensures { λ r. ⌜ ((l : List (ℕ × ℕ)) → Turns (now (inner .entry)) limit (turn .outer) (turn .rest) ((turn .outer, headOr 64 (members (turn .rest))) ∷ l) → Turns (now (inner .entry)) limit (r .outer) (r .rest) l) ⌝ }
+{
+    let outer = turn.outer;
+    let rest = base_sets::rest(turn.rest);
+    if rest != 0 {
+        return Turn { outer, rest };
+    }
+    turn_from(inner, outer + 1, limit)
+}
+
+// The state for lending.
+pub fn lend_state(kinds: [u8; 64], starts: [u32; 64], state: State) -> Standing
+    requires { ⌜ state .bindings .first ≤ 32 ⌝ }
+    ensures tables { λ r. ⌜ (kindsIn (r .numbers) ≡ kinds) × (startsIn (r .numbers) ≡ starts) × Small (r .numbers) × (length (r .sets) ≡ 131) × (length (r .numbers) ≡ 481) ⌝ }
+    ensures state { λ r. ⌜ stateIn (r .sets) (r .numbers) (r .top) ≡ state ⌝ }
+{
+    let l = lend(kinds, starts, state);
+    let sets = l.sets;
+    let numbers = l.numbers;
+    Standing {
+        sets,
+        numbers,
+        top: sets[64],
+    }
+}
+
+// The state after the move of the actor a to its target t, for lending.
+fn after_move<'a>(
+    script: &'a [u32],
+    sets: &'a [u64; 131],
+    numbers: &'a [u32; 481],
+    top: u64,
+    places: &'a [usize; 64],
+    a: usize,
+    t: usize,
+) -> Standing
+    requires { ⌜ (a < 64) × (t < 64) × Lendable (now script) (now sets) (now numbers) top ⌝ }
+    ensures lends { λ r. ⌜ Lendable (now (script .entry)) (r .sets) (r .numbers) (r .top) ⌝ }
+    ensures table { λ r. ⌜ (kindsIn (r .numbers) ≡ kindsIn (now (numbers .entry))) × (startsIn (r .numbers) ≡ startsIn (now (numbers .entry))) ⌝ }
+    ensures made { λ r. ⌜ Moves (now (script .entry)) (kindsIn (now (numbers .entry))) (startsIn (now (numbers .entry))) (stateIn (now (sets .entry)) (now (numbers .entry)) top) (stateIn (r .sets) (r .numbers) (r .top)) (λ i. getD (now (places .entry)) i 0) a t ⌝ }
+{
+    let mut next_sets = *sets;
+    let mut next_numbers = *numbers;
+    next_sets[64] = top;
+    make_move(script, &mut next_sets, &mut next_numbers, places, a, t);
+    Standing {
+        sets: next_sets,
+        numbers: next_numbers,
+        top: next_sets[64],
+    }
+}
+
+// The state with its top parts as the body of a new part i, an ambient of that name, for lending.
+fn place_within<'a>(
+    script: &'a [u32],
+    sets: &'a [u64; 131],
+    numbers: &'a [u32; 481],
+    top: u64,
+    i: usize,
+    name: u32,
+) -> Standing
+    requires { ⌜ (i < 64) × (name < 536870912) × Lendable (now script) (now sets) (now numbers) top ⌝ }
+    ensures lends { λ r. ⌜ Lendable (now (script .entry)) (r .sets) (r .numbers) (r .top) ⌝ }
+    ensures bound { λ r. ⌜ boundIn (now (script .entry)) (stateIn (r .sets) (r .numbers) (r .top)) ≡ boundIn (now (script .entry)) (stateIn (now (sets .entry)) (now (numbers .entry)) top) ⌝ }
+    ensures placed { λ r. ⌜ ((weight spent : ℕ) (b : Closure) → Represents (now (script .entry)) (kindsIn (now (numbers .entry))) (startsIn (now (numbers .entry))) weight spent (stateIn (now (sets .entry)) (now (numbers .entry)) top) b → timesIn i b ≡ 0 → weight < 64 → Represents (now (script .entry)) (kindsIn (r .numbers)) (startsIn (r .numbers)) (weight + 1) spent (stateIn (r .sets) (r .numbers) (r .top)) (part i (ambient (called name)) b close)) ⌝ }
+{
+    let b = borrowed(sets, numbers, top);
+    let kinds = b.kinds;
+    let starts = b.starts;
+    let p = place_part(script, kinds, starts, b.state, i, name);
+    let with_kind = p.kinds;
+    let with_start = p.starts;
+    lend_state(with_kind, with_start, p.state)
+}
+
+// The state after that step, for lending. Moves and PLACED share it, so that it is not put into the frames of a deep walk.
+pub fn next_state<'a>(
+    script: &'a [u32],
+    sets: &'a [u64; 131],
+    numbers: &'a [u32; 481],
+    top: u64,
+    places: &'a [usize; 64],
+    step: Step,
+) -> Standing
+    requires { ⌜ ((a t : ℕ) → step ≡ Move a t → (a < 64) × (t < 64)) × ((i n : ℕ) → step ≡ Place i n → (i < 64) × (n < 536870912)) × Lendable (now script) (now sets) (now numbers) top ⌝ }
+    ensures lends { λ r. ⌜ Lendable (now (script .entry)) (r .sets) (r .numbers) (r .top) ⌝ }
+    ensures made { λ r. ⌜ ((a t : ℕ) → step ≡ Move a t → (kindsIn (r .numbers) ≡ kindsIn (now (numbers .entry))) × (startsIn (r .numbers) ≡ startsIn (now (numbers .entry))) × Moves (now (script .entry)) (kindsIn (now (numbers .entry))) (startsIn (now (numbers .entry))) (stateIn (now (sets .entry)) (now (numbers .entry)) top) (stateIn (r .sets) (r .numbers) (r .top)) (λ i. getD (now (places .entry)) i 0) a t) ⌝ }
+    ensures placed { λ r. ⌜ ((i n : ℕ) → step ≡ Place i n → (boundIn (now (script .entry)) (stateIn (r .sets) (r .numbers) (r .top)) ≡ boundIn (now (script .entry)) (stateIn (now (sets .entry)) (now (numbers .entry)) top)) × ((weight spent : ℕ) (b : Closure) → Represents (now (script .entry)) (kindsIn (now (numbers .entry))) (startsIn (now (numbers .entry))) weight spent (stateIn (now (sets .entry)) (now (numbers .entry)) top) b → timesIn i b ≡ 0 → weight < 64 → Represents (now (script .entry)) (kindsIn (r .numbers)) (startsIn (r .numbers)) (weight + 1) spent (stateIn (r .sets) (r .numbers) (r .top)) (part i (ambient (called n)) b close))) ⌝ }
+{
+    match step {
+        Step::Move(a, t) => after_move(script, sets, numbers, top, places, a, t),
+        Step::Place(i, name) => place_within(script, sets, numbers, top, i, name),
+    }
+}
+
+// The word at that index, 0 where there is none.
+fn word_at(rule: &[u32], i: usize) -> u32
+    ensures { λ r. ⌜ (i < length (now (rule .entry)) → r ≡ getD (now (rule .entry)) i 0) ⌝ }
+{
+    if i < rule.len() {
+        return rule[i];
+    }
+    0
+}
+
+// The rule's words and its table as one array.
+pub fn loaded(rule: &[u32], rights: [u16; 256], places: [u8; 256]) -> [u32; 768]
+    ensures words { λ r. ⌜ ((i : ℕ) → i < 256 → i < length (now (rule .entry)) → getD r i 0 ≡ getD (now (rule .entry)) i 0) ⌝ }
+    ensures table { λ r. ⌜ ((i : ℕ) → i < 256 → (getD r (256 + i) 0 ≡ getD rights i 0) × (getD r (512 + i) 0 ≡ getD places i 0)) ⌝ }
+{
+    let mut program: [u32; 768] = [0; 768];
+    let mut i: usize = 0;
+    while i < 256 {
+        let right = rights[i];
+        let place = places[i];
+        program[i] = word_at(rule, i);
+        program[256 + i] = right as u32;
+        program[512 + i] = place as u32;
+        i += 1;
+    }
+    program
+}

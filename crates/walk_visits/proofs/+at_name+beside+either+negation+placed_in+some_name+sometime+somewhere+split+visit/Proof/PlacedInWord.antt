@@ -1,0 +1,57 @@
+-- `placed_in` meets its contract. Assumes nothing.
+use Prim.Native.Nat.{ℕ, _+_, _-_, _<_}
+use mathlib.Core.Path.{refl, sym, ap}
+use native.Mathlib.Omega.{arith}
+use borrow.Author.Needs.{needs}
+use Rattle.walk_stages.proofs.Scenes.{visitable-state}
+use Rattle.walk_stages.proofs.Members.{placed-number, placed-far, placed-name, placed-goes}
+use Rattle.walk_states.proofs.Lendings.{step-places, step-apart}
+use Rattle.walk_visits.proofs.+at_name+beside+either+negation+placed_in+some_name+sometime+somewhere+split+visit.Lts-placed_in as lts
+use Rattle.walk_visits.proofs.placed_in.Reads as reads
+use Rattle.walk_visits.proofs.+at_name+beside+either+negation+placed_in+some_name+sometime+somewhere+split+visit.Proof.Measures.{placed-in-at, placed-in-claims}
+
+module _ (t : ℕ) where
+  pub add-wide : lts.Need-add-wide (placed-in-claims t) (placed-in-at t) reads.Post
+  add-wide c = search needs
+
+  pub mul-wide : lts.Need-mul-wide (placed-in-claims t) (placed-in-at t) reads.Post
+  mul-wide c = search needs
+
+  pub element-copy-out-wide : lts.Need-element-copy-out-wide (placed-in-claims t) (placed-in-at t) reads.Post
+  element-copy-out-wide c = search needs
+
+  pub wide-requires : lts.Need-wide-requires (placed-in-claims t) (placed-in-at t) reads.Post
+  wide-requires c κs = search needs
+
+  pub returns : lts.Need-returns (placed-in-claims t) (placed-in-at t) reads.Post
+  returns c = let x = c .before .before .before .before .args in placed-far (x .program .now) (x .script .now) (x .sets .now) (x .numbers .now) (x .chosen .now) (x .spot .top) (x .spot .somes) (x .spot .left) (x .spot .at) (x .limits) (x .c) (rw (sym (c .before .wide .ensures)) (c .if1 .taken)) _
+
+  pub add-i : lts.Need-add-i (placed-in-claims t) (placed-in-at t) reads.Post
+  add-i c = omega (arith, c .before .before .before .before .before .pre .1 .2 .few-parts, c .before .if1 .left)
+
+  pub mul-name-said : lts.Need-mul-name-said (placed-in-claims t) (placed-in-at t) reads.Post
+  mul-name-said c = search needs
+
+  pub element-copy-out-name-said : lts.Need-element-copy-out-name-said (placed-in-claims t) (placed-in-at t) reads.Post
+  element-copy-out-name-said c = search needs
+
+  pub name-said-requires : lts.Need-name-said-requires (placed-in-claims t) (placed-in-at t) reads.Post
+  name-said-requires c κs = search needs
+
+  pub returns-2 : lts.Need-returns-2 (placed-in-claims t) (placed-in-at t) reads.Post
+  returns-2 c = let x = c .before .before .before .before .before .before .before .before .args in placed-number (x .program .now) (x .script .now) (x .sets .now) (x .numbers .now) (x .chosen .now) (x .spot .top) (x .spot .somes) (x .spot .left) (x .spot .at) (x .limits) (x .c) _ (ap (λ (y : ℕ). x .limits .parts + y) (c .before .before .before .before .before .wide .ensures)) (c .if2 .taken) _
+
+  pub returns-3 : lts.Need-returns-3 (placed-in-claims t) (placed-in-at t) reads.Post
+  returns-3 c = let x = c .before .before .before .before .before .before .before .before .before .args in placed-name (x .program .now) (x .script .now) (x .sets .now) (x .numbers .now) (x .chosen .now) (x .spot .top) (x .spot .somes) (x .spot .left) (x .spot .at) (x .limits) (x .c) (c .before .before .before .before .before .before .before .before .before .pre .1 .2 .few-somes) _ (c .before .before .name-said .ensures) (c .if3 .taken) _
+
+  pub next-state-requires : lts.Need-next-state-requires (placed-in-claims t) (placed-in-at t) reads.Post
+  next-state-requires c κs = (λ b u e. absurd (step-apart b u _ _ (sym e)), λ j n e. step-places (λ (y : ℕ) (z : ℕ). (y < 64) × (z < 536870912)) _ _ j n e (omega (arith, c .before .before .if2 .left), omega (arith, c .before .if3 .left)), c .before .before .before .before .before .before .before .before .before .before .pre .1 .2 .state)
+
+  pub add-inner : lts.Need-add-inner (placed-in-claims t) (placed-in-at t) reads.Post
+  add-inner c = search needs
+
+  pub visit-requires : lts.Need-visit-requires (placed-in-claims t) (placed-in-at t) reads.Post
+  visit-requires c κs = (omega (arith, c .before .before .before .before .before .before .before .before .before .before .before .before .before .before .pre .0), (omega (arith, c .before .before .before .before .before .before .before .before .before .before .before .before .before .before .pre .1 .1), visitable-state (c .before .before .before .before .before .before .before .before .before .before .before .before .before .before .pre .1 .2) (c .before .before .before .next-state .ensures .0)))
+
+  pub returns-4 : lts.Need-returns-4 (placed-in-claims t) (placed-in-at t) reads.Post
+  returns-4 c = let x = c .before .before .before .before .before .before .before .before .before .before .before .before .before .before .before .args in placed-goes (x .program .now) (x .script .now) (x .sets .now) (x .numbers .now) (x .chosen .now) (x .spot .top) (x .spot .somes) (x .spot .left) (x .spot .at) (x .limits) (x .c) (c .before .before .before .before .before .before .before .before .before .before .before .before .before .before .before .pre .1 .2 .few-somes) _ (c .before .before .before .before .before .before .before .before .name-said .ensures) _ (ap (λ (y : ℕ). x .limits .parts + y) (c .before .before .before .before .before .before .before .before .before .before .before .before .wide .ensures)) _ _ _ (c .before .before .before .before .next-state .ensures .0) (c .before .before .before .before .next-state .ensures .1 .1 _ _ refl .0) (c .before .before .before .before .next-state .ensures .1 .1 _ _ refl .1) _ (c .visit .ensures)
