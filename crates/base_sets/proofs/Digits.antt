@@ -7,7 +7,7 @@ use native.Mathlib.Omega.{arith}
 use lib.Dec.{eqb, eqb·suc-suc, eqb·zero-suc, eqb·suc-zero}
 use lib.Bits.{bitAnd, bitOr, and-step, or-step, and-shr, or-shr}
 use lib.Pow.{pow-pos}
-use Rattle.base_sets.specs.Sets.{odd, has}
+use Rattle.base_sets.specs.Sets.{isOdd, has}
 
 -- ---- one digit
 
@@ -48,23 +48,23 @@ sub-bit zero p = refl
 sub-bit (suc zero) p = refl
 sub-bit (suc (suc x)) p = absurd (above-two x p)
 
-pub odd-and : (a b : ℕ) → odd (bitAnd a b) ≡ (odd a && odd b)
-unfolding odd
+pub odd-and : (a b : ℕ) → isOdd (bitAnd a b) ≡ (isOdd a && isOdd b)
+unfolding isOdd
 odd-and a b = ap (λ (x : ℕ). eqb x 1) (and-low a b) ∙ min-bit (a % 2) (b % 2) (omega arith) (omega arith)
 
-pub odd-or : (a b : ℕ) → odd (bitOr a b) ≡ (odd a || odd b)
-unfolding odd
+pub odd-or : (a b : ℕ) → isOdd (bitOr a b) ≡ (isOdd a || isOdd b)
+unfolding isOdd
 odd-or a b = ap (λ (x : ℕ). eqb x 1) (or-low a b) ∙ max-bit (a % 2) (b % 2) (omega arith) (omega arith)
 
 -- ---- the digit at a place
 
 pub has-and : (a b i : ℕ) → has (bitAnd a b) i ≡ (has a i && has b i)
 unfolding has
-has-and a b i = ap odd (and-shr a b i) ∙ odd-and (a / 2 ^ i) (b / 2 ^ i)
+has-and a b i = ap isOdd (and-shr a b i) ∙ odd-and (a / 2 ^ i) (b / 2 ^ i)
 
 pub has-or : (a b i : ℕ) → has (bitOr a b) i ≡ (has a i || has b i)
 unfolding has
-has-or a b i = ap odd (or-shr a b i) ∙ odd-or (a / 2 ^ i) (b / 2 ^ i)
+has-or a b i = ap isOdd (or-shr a b i) ∙ odd-or (a / 2 ^ i) (b / 2 ^ i)
 
 -- one digit down
 pub shr-suc : (m i : ℕ) → m / 2 ^ suc i ≡ m / 2 / 2 ^ i
@@ -75,15 +75,15 @@ shr-suc' m i = ap (λ (x : ℕ). m / x) (pow-suc 2 i) ∙ sym (div-div-eq-div-mu
 
 pub has-suc : (m i : ℕ) → has m (suc i) ≡ has (m / 2) i
 unfolding has
-has-suc m i = ap odd (shr-suc m i)
+has-suc m i = ap isOdd (shr-suc m i)
 
-pub has-zero : (m : ℕ) → has m 0 ≡ odd m
+pub has-zero : (m : ℕ) → has m 0 ≡ isOdd m
 unfolding has
-has-zero m = ap odd (div-one m)
+has-zero m = ap isOdd (div-one m)
 
 -- the set with i alone
 pub has-pow : (i j : ℕ) → has (2 ^ i) j ≡ eqb i j
-unfolding has odd
+unfolding has isOdd
 has-pow zero zero = refl
 has-pow zero (suc j) = has-suc 1 j ∙ ap (λ (x : ℕ). eqb (x % 2) 1) (zero-div (2 ^ j)) ∙ sym (eqb·zero-suc j)
 has-pow (suc i) zero =
@@ -95,7 +95,7 @@ has-pow (suc i) (suc j) =
 
 -- the complement within d digits
 pub has-not : (d x i : ℕ) → x < 2 ^ d → i < d → has ((2 ^ d - 1) - x) i ≡ not (has x i)
-unfolding has odd
+unfolding has isOdd
 has-not zero x i p q = absurd (not-suc-le-zero q)
 has-not (suc d) x zero p q =
     let e : ((2 ^ suc d - 1) - x) % 2 ≡ 1 - x % 2 = omega (arith, pow-suc 2 d, pow-pos d) in

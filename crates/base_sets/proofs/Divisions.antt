@@ -9,7 +9,7 @@ use native.Mathlib.Omega.{arith}
 use lib.ListN.{length}
 use lib.Pow.{pow-mono}
 use borrow.Author.Tests.{eq-eqb, ne-eqb}
-use Rattle.base_sets.specs.Sets.{odd, keepIf, keep, members, elem, mask, Rising, but}
+use Rattle.base_sets.specs.Sets.{isOdd, keepIf, keep, members, elem, mask, RisingFrom, but}
 use Rattle.base_sets.specs.Shares.{putIf, picked, left, spread, shares}
 use Rattle.base_sets.proofs.Places.{parity, odd-0, odd-1}
 use Rattle.base_sets.proofs.Members.{rising-down, members-empty}
@@ -92,7 +92,7 @@ module _ {A : Type 0} where
 pub picked-map : {A B : Type 0} (f : A → B) (l : List A) (k : ℕ) → picked (map f l) k ≡ map f (picked l k)
 unfolding picked
 picked-map f [] k = refl
-picked-map f (x ∷ l) k = go (odd k) (picked-map f l (k / 2))
+picked-map f (x ∷ l) k = go (isOdd k) (picked-map f l (k / 2))
   where
     go : (t : Bool) → picked (map f l) (k / 2) ≡ map f (picked l (k / 2)) → putIf t (f x) (picked (map f l) (k / 2)) ≡ map f (putIf t x (picked l (k / 2)))
     go true ih = ap (_∷_ (f x)) ih
@@ -101,7 +101,7 @@ picked-map f (x ∷ l) k = go (odd k) (picked-map f l (k / 2))
 pub left-map : {A B : Type 0} (f : A → B) (l : List A) (k : ℕ) → left (map f l) k ≡ map f (left l k)
 unfolding left
 left-map f [] k = refl
-left-map f (x ∷ l) k = go (not (odd k)) (left-map f l (k / 2))
+left-map f (x ∷ l) k = go (not (isOdd k)) (left-map f l (k / 2))
   where
     go : (t : Bool) → left (map f l) (k / 2) ≡ map f (left l (k / 2)) → putIf t (f x) (left (map f l) (k / 2)) ≡ map f (putIf t x (left l (k / 2)))
     go true ih = ap (_∷_ (f x)) ih
@@ -109,23 +109,23 @@ left-map f (x ∷ l) k = go (not (odd k)) (left-map f l (k / 2))
 
 -- ---- rising lists of numbers
 
-pub picked-rising : (b : ℕ) (l : List ℕ) (k : ℕ) → Rising b l → Rising b (picked l k)
+pub picked-rising : (b : ℕ) (l : List ℕ) (k : ℕ) → RisingFrom b l → RisingFrom b (picked l k)
 unfolding picked
 picked-rising b [] k r = tt
-picked-rising b (x ∷ l) k r = go (odd k) (picked-rising (suc x) l (k / 2) (r .1))
+picked-rising b (x ∷ l) k r = go (isOdd k) (picked-rising (suc x) l (k / 2) (r .1))
   where
-    go : (t : Bool) → Rising (suc x) (picked l (k / 2)) → Rising b (putIf t x (picked l (k / 2)))
+    go : (t : Bool) → RisingFrom (suc x) (picked l (k / 2)) → RisingFrom b (putIf t x (picked l (k / 2)))
     go true q = (r .0, q)
     go false q = rising-down (suc x) b (picked l (k / 2)) (let h : b ≤ x = r .0 in omega arith) q
 
-pub elem-below : (b i : ℕ) (l : List ℕ) → Rising b l → i < b → elem i l ≡ false
+pub elem-below : (b i : ℕ) (l : List ℕ) → RisingFrom b l → i < b → elem i l ≡ false
 unfolding elem
 elem-below b i [] r h = refl
 elem-below b i (x ∷ l) r h =
     let q : b ≤ x = r .0 in
     ap₂ (λ (t u : Bool). t || u) (ne-eqb i x (λ e. omega arith)) (elem-below (suc x) i l (r .1) (omega arith))
 
-keep-above : (p q : ℕ → Bool) (b : ℕ) (l : List ℕ) → Rising b l → ((j : ℕ) → b ≤ j → p j ≡ q j) → keep p l ≡ keep q l
+keep-above : (p q : ℕ → Bool) (b : ℕ) (l : List ℕ) → RisingFrom b l → ((j : ℕ) → b ≤ j → p j ≡ q j) → keep p l ≡ keep q l
 unfolding keep
 keep-above p q b [] r h = refl
 keep-above p q b (x ∷ l) r h =
@@ -133,10 +133,10 @@ keep-above p q b (x ∷ l) r h =
     ap₂ (λ (t : Bool) (k : List ℕ). keepIf t x k) (h x g) (keep-above p q (suc x) l (r .1) (λ j u. h j (omega arith)))
 
 -- what a share leaves
-pub but-picked : (b : ℕ) (l : List ℕ) (k : ℕ) → Rising b l → but l (picked l k) ≡ left l k
+pub but-picked : (b : ℕ) (l : List ℕ) (k : ℕ) → RisingFrom b l → but l (picked l k) ≡ left l k
 unfolding keep left picked elem
 but-picked b [] k r = refl
-but-picked b (x ∷ l) k r = go (odd k) (but-picked (suc x) l (k / 2) (r .1))
+but-picked b (x ∷ l) k r = go (isOdd k) (but-picked (suc x) l (k / 2) (r .1))
   where
     P : List ℕ
     P = picked l (k / 2)
@@ -152,7 +152,7 @@ but-picked b (x ∷ l) k r = go (odd k) (but-picked (suc x) l (k / 2) (r .1))
         ∙ ap (λ (t : List ℕ). x ∷ t) ih
 
 -- THEOREM: the sum of 2 ^ i over a share is below that over the next: the shares come in rising order of it.
-pub picked-sum : (b : ℕ) (l : List ℕ) (k : ℕ) → Rising b l → suc k < 2 ^ length l → mask (picked l k) + 2 ^ b ≤ mask (picked l (suc k))
+pub picked-sum : (b : ℕ) (l : List ℕ) (k : ℕ) → RisingFrom b l → suc k < 2 ^ length l → mask (picked l k) + 2 ^ b ≤ mask (picked l (suc k))
 unfolding mask picked
 picked-sum b [] k r h = absurd (let f : ⊥ = omega arith in f)
 picked-sum b (x ∷ l) k r h = go (parity k) (picked-sum (suc x) l (k / 2) (r .1))

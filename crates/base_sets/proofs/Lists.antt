@@ -10,7 +10,7 @@ use native.Mathlib.Omega.{arith}
 use lib.Dec.{eqb, ltb}
 use lib.Pow.{pow-pos}
 use borrow.Author.Tests.{eqb-true, ltb-true, ltb-false}
-use Rattle.base_sets.specs.Sets.{members, elem, inserted, joined, mask, Rising, Below, remove, isOne, headOr}
+use Rattle.base_sets.specs.Sets.{members, elem, inserted, joined, mask, RisingFrom, AllUnder, removed, isOne, headOr}
 use Rattle.base_sets.proofs.Places.{places, members-places, places-0, places-1, places-zero}
 use Rattle.base_sets.proofs.Members.{inserted-front, inserted-same, inserted-past, elem-keep}
 
@@ -46,32 +46,32 @@ elem-joined i (x ∷ l) k = elem-inserted i x (joined l k) ∙ ap (λ (t : Bool)
 
 -- ---- order
 
-pub inserted-rising : (a j : ℕ) (l : List ℕ) → a ≤ j → Rising a l → Rising a (inserted j l)
+pub inserted-rising : (a j : ℕ) (l : List ℕ) → a ≤ j → RisingFrom a l → RisingFrom a (inserted j l)
 unfolding inserted
 inserted-rising a j [] h r = (h, tt)
 inserted-rising a j (x ∷ l) h r = go (lt-or-ge j x) (λ e. inserted-rising (suc x) j l e (r .1))
   where
-    go : (j < x) ⊎ (x ≤ j) → (x < j → Rising (suc x) (inserted j l)) → Rising a (inserted j (x ∷ l))
-    go (inl g) ih = subst (Rising a) (sym (inserted-front j (x ∷ l) (g, r .1))) (h, (g, r .1))
+    go : (j < x) ⊎ (x ≤ j) → (x < j → RisingFrom (suc x) (inserted j l)) → RisingFrom a (inserted j (x ∷ l))
+    go (inl g) ih = subst (RisingFrom a) (sym (inserted-front j (x ∷ l) (g, r .1))) (h, (g, r .1))
     go (inr g) ih = at (eq-or-lt-of-le g)
       where
-        at : (x ≡ j) ⊎ (x < j) → Rising a (inserted j (x ∷ l))
-        at (inl e) = subst (Rising a) (sym (inserted-same j x l (sym e))) r
-        at (inr e) = subst (Rising a) (sym (inserted-past j x l e)) (r .0, ih e)
+        at : (x ≡ j) ⊎ (x < j) → RisingFrom a (inserted j (x ∷ l))
+        at (inl e) = subst (RisingFrom a) (sym (inserted-same j x l (sym e))) r
+        at (inr e) = subst (RisingFrom a) (sym (inserted-past j x l e)) (r .0, ih e)
 
 -- ---- every rising list of numbers below 64 is the members of one set, the sum of their powers
 
 up : (y b : ℕ) → y * 2 ^ suc b ≡ y * 2 * 2 ^ b
 up y b = ap (λ (n : ℕ). y * n) (pow-suc 2 b ∙ mul-comm (2 ^ b) 2) ∙ sym (mul-assoc y 2 (2 ^ b))
 
-placed : (d b : ℕ) (l : List ℕ) → Rising b l → Below (b + d) l → (y : ℕ) × (mask l ≡ y * 2 ^ b) × (y < 2 ^ d) × (places d b y ≡ l)
+placed : (d b : ℕ) (l : List ℕ) → RisingFrom b l → AllUnder (b + d) l → (y : ℕ) × (mask l ≡ y * 2 ^ b) × (y < 2 ^ d) × (places d b y ≡ l)
 unfolding mask places
 placed zero b [] r s = (0, sym (zero-mul (2 ^ b)), omega arith, refl)
 placed zero b (x ∷ l) r s = absurd (let p : b ≤ x = r .0 in let q : x < b + 0 = s .0 in let f : ⊥ = omega arith in f)
 placed (suc d) b [] r s = (0, sym (zero-mul (2 ^ b)), omega (arith, pow-suc 2 d, pow-pos d), places-zero (suc d) b)
 placed (suc d) b (x ∷ l) r s =
-    go (eq-or-lt-of-le (r .0)) (λ e. placed d (suc b) l (subst (λ (n : ℕ). Rising (suc n) l) (sym e) (r .1)) (subst (λ (n : ℕ). Below n l) shift (s .1)))
-    (λ e. placed d (suc b) (x ∷ l) (e, r .1) (subst (λ (n : ℕ). Below n (x ∷ l)) shift s))
+    go (eq-or-lt-of-le (r .0)) (λ e. placed d (suc b) l (subst (λ (n : ℕ). RisingFrom (suc n) l) (sym e) (r .1)) (subst (λ (n : ℕ). AllUnder n l) shift (s .1)))
+    (λ e. placed d (suc b) (x ∷ l) (e, r .1) (subst (λ (n : ℕ). AllUnder n (x ∷ l)) shift s))
   where
     shift : b + suc d ≡ suc b + d
     shift = omega arith
@@ -101,14 +101,14 @@ placed (suc d) b (x ∷ l) r s =
           places-0 d b (y * 2) (omega arith) ∙ ap (places d (suc b)) h ∙ t .3,
         )
 
-pub members-mask : (l : List ℕ) → Rising 0 l → Below 64 l → members (mask l) ≡ l
+pub members-mask : (l : List ℕ) → RisingFrom 0 l → AllUnder 64 l → members (mask l) ≡ l
 members-mask l r s =
     let t = placed 64 0 l r s in
     ap members (t .1 ∙ mul-one (t .0)) ∙ members-places (t .0) ∙ t .3
 
 -- ---- removal
 
-pub elem-remove : (i j : ℕ) (l : List ℕ) → elem i (remove j l) ≡ (not (eqb j i) && elem i l)
+pub elem-remove : (i j : ℕ) (l : List ℕ) → elem i (removed j l) ≡ (not (eqb j i) && elem i l)
 elem-remove i j l = elem-keep (λ x. not (eqb j x)) i l
 
 -- ---- one member

@@ -12,14 +12,14 @@ use lib.Bits.{bitAnd, bitOr}
 use lib.Count.{ones, trailingZeros}
 use lib.Pow.{pow-pos, pow-lt}
 use borrow.Author.Tests.{eqb-true, eqb-false, eq-eqb, ne-eqb, lt-ltb, le-ltb}
-use Rattle.base_sets.specs.Sets.{has, keepIf, keep, span, members, elem, inserted, joined, headOr, mask, Rising, isNone, isOne, both, but, Below}
+use Rattle.base_sets.specs.Sets.{has, keepIf, keep, numbersFrom, members, elem, inserted, joined, headOr, mask, RisingFrom, isNone, isOne, inBoth, but, AllUnder}
 use Rattle.base_sets.proofs.Digits.{has-and, has-or, has-pow, has-not}
 use Rattle.base_sets.proofs.Places.{members-places, count-places, first-places, rest-places, mask-places, places-zero}
 
 -- ---- keep
 
-pub keep-span : (p q : ℕ → Bool) (b d : ℕ) → ((i : ℕ) → b ≤ i → i < b + d → p i ≡ q i) → keep p (span b d) ≡ keep q (span b d)
-unfolding keep span
+pub keep-span : (p q : ℕ → Bool) (b d : ℕ) → ((i : ℕ) → b ≤ i → i < b + d → p i ≡ q i) → keep p (numbersFrom b d) ≡ keep q (numbersFrom b d)
+unfolding keep numbersFrom
 keep-span p q b zero h = refl
 keep-span p q b (suc d) h =
     ap₂ (λ (t : Bool) (l : List ℕ). keepIf t b l) (h b (omega arith) (omega arith))
@@ -62,12 +62,12 @@ elem-keep p i (x ∷ l) = go (eqb i x) refl (p x) refl (elem-keep p i l)
     go false ee true et ih = ap (λ (u : Bool). u || elem i (keep p l)) ee ∙ ih
     go false ee false et ih = ih
 
-pub elem-span : (i b d : ℕ) → b ≤ i → i < b + d → elem i (span b d) ≡ true
-unfolding span elem
+pub elem-span : (i b d : ℕ) → b ≤ i → i < b + d → elem i (numbersFrom b d) ≡ true
+unfolding numbersFrom elem
 elem-span i b zero u v = absurd (let f : ⊥ = omega arith in f)
 elem-span i b (suc d) u v = go (eqb i b) refl (λ w. elem-span i (suc b) d w (omega arith))
   where
-    go : (e : Bool) → eqb i b ≡ e → (b < i → elem i (span (suc b) d) ≡ true) → (e || elem i (span (suc b) d)) ≡ true
+    go : (e : Bool) → eqb i b ≡ e → (b < i → elem i (numbersFrom (suc b) d) ≡ true) → (e || elem i (numbersFrom (suc b) d)) ≡ true
     go true ee rest = refl
     go false ee rest = rest (let n : (i ≡ b → ⊥) = eqb-false i b ee in strict (eq-or-lt-of-le u) n)
       where
@@ -79,7 +79,7 @@ elem-span i b (suc d) u v = go (eqb i b) refl (λ w. elem-span i (suc b) d w (om
 pub has-elem : (m i : ℕ) → i < 64 → elem i (members m) ≡ has m i
 unfolding members
 has-elem m i h =
-    elem-keep (has m) i (span 0 64) ∙ ap (λ (t : Bool). has m i && t) (elem-span i 0 64 (omega arith) (omega arith)) ∙ and-true (has m i)
+    elem-keep (has m) i (numbersFrom 0 64) ∙ ap (λ (t : Bool). has m i && t) (elem-span i 0 64 (omega arith) (omega arith)) ∙ and-true (has m i)
 
 -- ---- the operations
 
@@ -88,30 +88,30 @@ unfolding members
 members-diff a b h =
     keep-span (has (bitAnd a ((2 ^ 64 - 1) - b))) (λ i. has a i && not (has b i)) 0 64
     (λ i u v. has-and a ((2 ^ 64 - 1) - b) i ∙ ap (λ (t : Bool). has a i && t) (has-not 64 b i h (omega arith)))
-    ∙ sym (keep-keep (λ i. not (has b i)) (has a) (span 0 64))
+    ∙ sym (keep-keep (λ i. not (has b i)) (has a) (numbersFrom 0 64))
 
 -- ---- rising lists
 
-pub rising-down : (a c : ℕ) (l : List ℕ) → c ≤ a → Rising a l → Rising c l
+pub rising-down : (a c : ℕ) (l : List ℕ) → c ≤ a → RisingFrom a l → RisingFrom c l
 rising-down a c [] h r = tt
 rising-down a c (x ∷ l) h r = (let q : a ≤ x = r .0 in omega arith, r .1)
 
-pub keep-rising : (p : ℕ → Bool) (b d : ℕ) → Rising b (keep p (span b d))
-unfolding keep span
+pub keep-rising : (p : ℕ → Bool) (b d : ℕ) → RisingFrom b (keep p (numbersFrom b d))
+unfolding keep numbersFrom
 keep-rising p b zero = tt
 keep-rising p b (suc d) = go (p b) (keep-rising p (suc b) d)
   where
-    go : (t : Bool) → Rising (suc b) (keep p (span (suc b) d)) → Rising b (keepIf t b (keep p (span (suc b) d)))
+    go : (t : Bool) → RisingFrom (suc b) (keep p (numbersFrom (suc b) d)) → RisingFrom b (keepIf t b (keep p (numbersFrom (suc b) d)))
     go true r = (omega arith, r)
-    go false r = rising-down (suc b) b (keep p (span (suc b) d)) (omega arith) r
+    go false r = rising-down (suc b) b (keep p (numbersFrom (suc b) d)) (omega arith) r
 
-pub members-rising : (m : ℕ) → Rising 0 (members m)
+pub members-rising : (m : ℕ) → RisingFrom 0 (members m)
 unfolding members
 members-rising m = keep-rising (has m) 0 64
 
 -- ---- insertion
 
-pub inserted-front : (b : ℕ) (l : List ℕ) → Rising (suc b) l → inserted b l ≡ b ∷ l
+pub inserted-front : (b : ℕ) (l : List ℕ) → RisingFrom (suc b) l → inserted b l ≡ b ∷ l
 unfolding inserted
 inserted-front b [] r = refl
 inserted-front b (x ∷ l) r = rw (lt-ltb b x (r .0))
@@ -131,16 +131,16 @@ same-or-above b i h = go (eq-or-lt-of-le h)
     go (inl e) = inl (sym e)
     go (inr l) = inr l
 
-pub with-span : (p : ℕ → Bool) (i b d : ℕ) → b ≤ i → i < b + d → keep (λ x. p x || eqb i x) (span b d) ≡ inserted i (keep p (span b d))
-unfolding keep span
+pub with-span : (p : ℕ → Bool) (i b d : ℕ) → b ≤ i → i < b + d → keep (λ x. p x || eqb i x) (numbersFrom b d) ≡ inserted i (keep p (numbersFrom b d))
+unfolding keep numbersFrom
 with-span p i b zero u v = absurd (let f : ⊥ = omega arith in f)
 with-span p i b (suc d) u v = go (same-or-above b i u) (p b) (λ w. with-span p i (suc b) d w (omega arith))
   where
     K : List ℕ
-    K = keep p (span (suc b) d)
+    K = keep p (numbersFrom (suc b) d)
 
     W : List ℕ
-    W = keep (λ x. p x || eqb i x) (span (suc b) d)
+    W = keep (λ x. p x || eqb i x) (numbersFrom (suc b) d)
 
     go : (i ≡ b) ⊎ (b < i) → (t : Bool) → (b < i → W ≡ inserted i K) → keepIf (t || eqb i b) b W ≡ inserted i (keepIf t b K)
     go (inl e) t ih =
@@ -156,26 +156,26 @@ with-span p i b (suc d) u v = go (same-or-above b i u) (p b) (λ w. with-span p 
 
 -- ---- union
 
-pub joined-past : (b : ℕ) (l k : List ℕ) → Rising (suc b) l → joined l (b ∷ k) ≡ b ∷ joined l k
+pub joined-past : (b : ℕ) (l k : List ℕ) → RisingFrom (suc b) l → joined l (b ∷ k) ≡ b ∷ joined l k
 unfolding joined
 joined-past b [] k r = refl
 joined-past b (x ∷ l) k r =
     ap (inserted x) (joined-past b l k (rising-down (suc x) (suc b) l (let q : b < x = r .0 in omega arith) (r .1)))
     ∙ inserted-past x b (joined l k) (r .0)
 
-pub joined-span : (p q : ℕ → Bool) (b d : ℕ) → keep (λ x. p x || q x) (span b d) ≡ joined (keep p (span b d)) (keep q (span b d))
-unfolding keep span joined
+pub joined-span : (p q : ℕ → Bool) (b d : ℕ) → keep (λ x. p x || q x) (numbersFrom b d) ≡ joined (keep p (numbersFrom b d)) (keep q (numbersFrom b d))
+unfolding keep numbersFrom joined
 joined-span p q b zero = refl
 joined-span p q b (suc d) = go (p b) (q b) (joined-span p q (suc b) d)
   where
     P : List ℕ
-    P = keep p (span (suc b) d)
+    P = keep p (numbersFrom (suc b) d)
 
     Q : List ℕ
-    Q = keep q (span (suc b) d)
+    Q = keep q (numbersFrom (suc b) d)
 
     J : List ℕ
-    J = keep (λ x. p x || q x) (span (suc b) d)
+    J = keep (λ x. p x || q x) (numbersFrom (suc b) d)
 
     go : (t u : Bool) → J ≡ joined P Q → keepIf (t || u) b J ≡ joined (keepIf t b P) (keepIf u b Q)
     go true true ih =
@@ -223,19 +223,19 @@ pub members-same : (a b : ℕ) → a < 2 ^ 64 → b < 2 ^ 64 → members a ≡ m
 members-same a b p q e = sym (mask-members a p) ∙ ap mask e ∙ mask-members b q
 
 -- with no digit in sight
-pub members-both : (a b : ℕ) → members (bitAnd a b) ≡ both (members a) (members b)
+pub members-both : (a b : ℕ) → members (bitAnd a b) ≡ inBoth (members a) (members b)
 unfolding members
 members-both a b =
     keep-span (has (bitAnd a b)) (λ i. has a i && elem i (members b)) 0 64
     (λ i u v. has-and a b i ∙ ap (λ (t : Bool). has a i && t) (sym (has-elem b i (omega arith))))
-    ∙ sym (keep-keep (λ i. elem i (members b)) (has a) (span 0 64))
+    ∙ sym (keep-keep (λ i. elem i (members b)) (has a) (numbersFrom 0 64))
 
 pub members-but : (a b : ℕ) → b < 2 ^ 64 → members (bitAnd a ((2 ^ 64 - 1) - b)) ≡ but (members a) (members b)
 unfolding members
 members-but a b h =
     keep-span (has (bitAnd a ((2 ^ 64 - 1) - b))) (λ i. has a i && not (elem i (members b))) 0 64
     (λ i u v. has-and a ((2 ^ 64 - 1) - b) i ∙ ap (λ (t : Bool). has a i && t) (has-not 64 b i h (omega arith) ∙ ap not (sym (has-elem b i (omega arith)))))
-    ∙ sym (keep-keep (λ i. not (elem i (members b))) (has a) (span 0 64))
+    ∙ sym (keep-keep (λ i. not (elem i (members b))) (has a) (numbersFrom 0 64))
 
 pub one-test : (l : List ℕ) → eqb (length l) 1 ≡ isOne l
 one-test [] = refl
@@ -276,16 +276,16 @@ members-single i h = members-with 0 i h ∙ ap (inserted i) members-empty
 
 -- ---- a loop over the members
 
-pub keep-below : (p : ℕ → Bool) (b d n : ℕ) → b + d ≤ n → Below n (keep p (span b d))
-unfolding keep span
+pub keep-below : (p : ℕ → Bool) (b d n : ℕ) → b + d ≤ n → AllUnder n (keep p (numbersFrom b d))
+unfolding keep numbersFrom
 keep-below p b zero n h = tt
 keep-below p b (suc d) n h = go (p b) (keep-below p (suc b) d n (omega arith))
   where
-    go : (t : Bool) → Below n (keep p (span (suc b) d)) → Below n (keepIf t b (keep p (span (suc b) d)))
+    go : (t : Bool) → AllUnder n (keep p (numbersFrom (suc b) d)) → AllUnder n (keepIf t b (keep p (numbersFrom (suc b) d)))
     go true r = (omega arith, r)
     go false r = r
 
-pub members-below : (m : ℕ) → Below 64 (members m)
+pub members-below : (m : ℕ) → AllUnder 64 (members m)
 unfolding members
 members-below m = keep-below (has m) 0 64 64 (omega arith)
 
@@ -297,7 +297,7 @@ pub first-is : (m i : ℕ) → m < 2 ^ 64 → (m ≡ 0 → ⊥) → i ≡ headOr
 first-is m i h n p = first-and-rest m h n ∙ ap (λ (j : ℕ). j ∷ tail (members m)) (sym p)
 
 pub first-below : (m i : ℕ) (l : List ℕ) → members m ≡ i ∷ l → i < 64
-first-below m i l e = subst (Below 64) e (members-below m) .0
+first-below m i l e = subst (AllUnder 64) e (members-below m) .0
 
 pub not-none : (m : ℕ) → m < 2 ^ 64 → (m ≡ 0 → ⊥) → members m ≡ [] → ⊥
 unfolding mask

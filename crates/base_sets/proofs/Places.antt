@@ -11,18 +11,18 @@ use lib.Dec.{eqb}
 use lib.ListN.{length}
 use lib.Bits.{bitAnd, and-self}
 use lib.Count.{ones, ones-step, trailingZeros, under}
-use Rattle.base_sets.specs.Sets.{odd, has, keepIf, keep, span, members, headOr, mask}
+use Rattle.base_sets.specs.Sets.{isOdd, has, keepIf, keep, numbersFrom, members, headOr, mask}
 use Rattle.base_sets.proofs.Digits.{shr-suc', and-low, and-half}
 
 unfoldable pub places : ℕ → ℕ → ℕ → List ℕ
 places zero b x = []
-places (suc d) b x = keepIf (odd x) b (places d (suc b) (x / 2))
+places (suc d) b x = keepIf (isOdd x) b (places d (suc b) (x / 2))
 
-pub keep-places : (m b d : ℕ) → keep (has m) (span b d) ≡ places d b (m / 2 ^ b)
-unfolding keep span places has
+pub keep-places : (m b d : ℕ) → keep (has m) (numbersFrom b d) ≡ places d b (m / 2 ^ b)
+unfolding keep numbersFrom places has
 keep-places m b zero = refl
 keep-places m b (suc d) =
-    ap (keepIf (odd (m / 2 ^ b)) b) (keep-places m (suc b) d ∙ ap (places d (suc b)) (shr-suc' m b))
+    ap (keepIf (isOdd (m / 2 ^ b)) b) (keep-places m (suc b) d ∙ ap (places d (suc b)) (shr-suc' m b))
 
 pub members-places : (m : ℕ) → members m ≡ places 64 0 m
 unfolding members
@@ -38,12 +38,12 @@ parity n = go (n % 2) (omega arith)
     go (suc zero) h = inr refl
     go (suc (suc r)) h = absurd (let f : ⊥ = omega arith in f)
 
-pub odd-0 : (n : ℕ) → n % 2 ≡ 0 → odd n ≡ false
-unfolding odd
+pub odd-0 : (n : ℕ) → n % 2 ≡ 0 → isOdd n ≡ false
+unfolding isOdd
 odd-0 n e = ap (λ (r : ℕ). eqb r 1) e
 
-pub odd-1 : (n : ℕ) → n % 2 ≡ 1 → odd n ≡ true
-unfolding odd
+pub odd-1 : (n : ℕ) → n % 2 ≡ 1 → isOdd n ≡ true
+unfolding isOdd
 odd-1 n e = ap (λ (r : ℕ). eqb r 1) e
 
 pub places-0 : (d b n : ℕ) → n % 2 ≡ 0 → places (suc d) b n ≡ places d (suc b) (n / 2)

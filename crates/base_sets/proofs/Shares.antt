@@ -10,7 +10,7 @@ use lib.Arith.{lt-one}
 use lib.ListN.{length}
 use lib.Bits.{bitAnd, and-step, and-zero-r, and-le-l}
 use lib.Pow.{pow-pos}
-use Rattle.base_sets.specs.Sets.{odd, members, both}
+use Rattle.base_sets.specs.Sets.{isOdd, members, inBoth}
 use Rattle.base_sets.specs.Shares.{putIf, picked}
 use Rattle.base_sets.proofs.Digits.{and-low, and-half}
 use Rattle.base_sets.proofs.Members.{members-same, members-both, members-empty}
@@ -20,7 +20,7 @@ use Rattle.base_sets.proofs.Places.{places, members-places, parity, odd
 -- the digits of k, put at the places where m has a 1
 unfoldable pub deposit : ℕ → ℕ → ℕ → ℕ
 deposit zero m k = 0
-deposit (suc d) m k = cond (odd m) (deposit d (m / 2) (k / 2) * 2 + k % 2) (deposit d (m / 2) k * 2)
+deposit (suc d) m k = cond (isOdd m) (deposit d (m / 2) (k / 2) * 2 + k % 2) (deposit d (m / 2) k * 2)
 
 pub deposit-0 : (d m k : ℕ) → m % 2 ≡ 0 → deposit (suc d) m k ≡ deposit d (m / 2) k * 2
 unfolding deposit
@@ -61,7 +61,7 @@ deposit-places (suc d) b m k = go (deposit-places d (suc b) (m / 2) k) (deposit-
         low (parity k) (ap (places d (suc b)) h ∙ q) ∙ ap (λ (l : List ℕ). picked l k) (sym (places-1 d b m e))
       where
         low : (k % 2 ≡ 0) ⊎ (k % 2 ≡ 1) → places d (suc b) (deposit (suc d) m k / 2) ≡ picked R (k / 2)
-            → places (suc d) b (deposit (suc d) m k) ≡ putIf (odd k) b (picked R (k / 2))
+            → places (suc d) b (deposit (suc d) m k) ≡ putIf (isOdd k) b (picked R (k / 2))
         low (inl f) r =
             let z : deposit (suc d) m k % 2 ≡ 0 = omega (arith, deposit-1 d m k e) in
             places-0 d b (deposit (suc d) m k) z ∙ r ∙ ap (λ (t : Bool). putIf t b (picked R (k / 2))) (sym (odd-0 k f))
@@ -169,7 +169,7 @@ deposit-step (suc d) b m k h l =
 
 unfoldable pub rank : ℕ → ℕ → ℕ → ℕ
 rank zero m s = 0
-rank (suc d) m s = cond (odd m) (rank d (m / 2) (s / 2) * 2 + s % 2) (rank d (m / 2) (s / 2))
+rank (suc d) m s = cond (isOdd m) (rank d (m / 2) (s / 2) * 2 + s % 2) (rank d (m / 2) (s / 2))
 
 pub rank-0 : (d m s : ℕ) → m % 2 ≡ 0 → rank (suc d) m s ≡ rank d (m / 2) (s / 2)
 unfolding rank
@@ -275,7 +275,7 @@ share-last m s k h g e q = go (lt-or-ge (suc k) (2 ^ length (members m)))
     go (inr l) = l
 
 -- THEOREM: a set whose members are all in m is a share of m: every subset is met.
-pub share-subset : (m s : ℕ) → m < 2 ^ 64 → s < 2 ^ 64 → both (members s) (members m) ≡ members s → members s ≡ picked (members m) (rank 64 m s)
+pub share-subset : (m s : ℕ) → m < 2 ^ 64 → s < 2 ^ 64 → inBoth (members s) (members m) ≡ members s → members s ≡ picked (members m) (rank 64 m s)
 share-subset m s h g e =
     share-of m s h (members-same (bitAnd s m) s (omega (arith, and-le-l s m)) g (members-both s m ∙ e))
 

@@ -2,7 +2,7 @@
 use mathlib.Core.Bool.{Bool, true, false, not}
 use mathlib.Core.List.{List, [], _∷_}
 use Prim.Native.Nat.{ℕ, _/_}
-use Rattle.base_sets.specs.Sets.{odd}
+use Rattle.base_sets.specs.Sets.{isOdd}
 
 module _ {A : Type 0} where
   -- x in front of l where the test says so, and l alone where not
@@ -13,12 +13,12 @@ module _ {A : Type 0} where
   -- share number k of l: those whose digit in k is 1, where the first of l has the last digit
   unfoldable pub picked : List A → ℕ → List A
   picked [] k = []
-  picked (x ∷ l) k = putIf (odd k) x (picked l (k / 2))
+  picked (x ∷ l) k = putIf (isOdd k) x (picked l (k / 2))
 
   -- and the others
   unfoldable pub left : List A → ℕ → List A
   left [] k = []
-  left (x ∷ l) k = putIf (not (odd k)) x (left l (k / 2))
+  left (x ∷ l) k = putIf (not (isOdd k)) x (left l (k / 2))
 
   -- each division with x on the right, then with x on the left
   unfoldable pub spread : A → List (List A × List A) → List (List A × List A)

@@ -5,7 +5,7 @@ ghost use mathlib.Core.Bool.{cond};
 ghost use mathlib.Core.List.{[], _∷_, tail};
 ghost use Prim.Native.Nat.{ℕ, suc, _<_, _^_};
 ghost use lib.ListN.{length};
-ghost use Rattle.base_sets.specs.Sets.{members, elem, inserted, remove, joined, both, but, headOr, isNone, isOne};
+ghost use Rattle.base_sets.specs.Sets.{members, elem, inserted, removed, joined, inBoth, but, headOr, isNone, isOne};
 ghost use Rattle.base_sets.specs.Shares.{picked};
 
 // The set with no member.
@@ -53,7 +53,7 @@ pub fn with_if(m: u64, i: usize, so: bool) -> u64
 // m without i.
 pub fn without(m: u64, i: usize) -> u64
     requires { ⌜ i < 64 ⌝ }
-    ensures { λ r. ⌜ members r ≡ remove i (members m) ⌝ }
+    ensures { λ r. ⌜ members r ≡ removed i (members m) ⌝ }
 {
     m & !(1 << i)
 }
@@ -67,7 +67,7 @@ pub fn union(a: u64, b: u64) -> u64
 
 // The members of a that are in b.
 pub fn intersection(a: u64, b: u64) -> u64
-    ensures { λ r. ⌜ members r ≡ both (members a) (members b) ⌝ }
+    ensures { λ r. ⌜ members r ≡ inBoth (members a) (members b) ⌝ }
 {
     a & b
 }

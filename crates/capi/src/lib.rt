@@ -1,6 +1,6 @@
 // The call for C and Rust. It rests on the promises of checker's `call` and of answer_words.
-use host_answer_words::tell;
 use checker::call;
+use host_answer_words::tell;
 ghost use mathlib.Core.Path.{_≡_};
 ghost use lib.ListN.{getD};
 ghost use Rattle.checker.specs.Answering.{callOf};

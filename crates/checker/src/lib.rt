@@ -1,19 +1,19 @@
 // The call. It rests on the promises of all layers below.
-use engine_states::State;
-use engine_states::weigh;
-use engine_state_arrays::borrowed;
-use engine_state_arrays::lend;
+use base_slices::tail;
 use call_lists::Ended;
 use call_lists::run_list;
+use engine_settling::first_state;
+use engine_state_arrays::borrowed;
+use engine_state_arrays::lend;
+use engine_states::State;
+use engine_states::weigh;
 use read_messages::Outcome;
+use read_rule_words::greatest_rule_name;
 use read_rules::RuleTable;
 use read_rules::read_whole_rule;
-use read_rule_words::greatest_rule_name;
 use read_scripts::Table;
 use read_scripts::greatest_name;
 use read_scripts::read_script;
-use engine_settling::first_state;
-use base_slices::tail;
 use walk_stages::Limits;
 use walk_stages::Walked;
 use walk_visits::walk_rule;

@@ -25,23 +25,23 @@ resolve-unbound script (v ∷ vs) (a ∷ ps) u h =
     (λ e. ap (resolve (bindingsIn script vs ps)) (substitute-miss v u _ e) ∙ resolve-unbound script vs ps u (omega (arith, place-miss v u vs e)))
 
 -- the message of the binding at that place, after the older bindings
-abbrev pub given : (script variables places : List ℕ) → (k : ℕ) → Message
-given script vs ps k = resolve (bindingsIn script (drop (k + 1) vs) (drop (k + 1) ps)) (messageAt (drop (getD ps k 0) script))
+abbrev pub bindingMessage : (script variables places : List ℕ) → (k : ℕ) → Message
+bindingMessage script vs ps k = resolve (bindingsIn script (drop (k + 1) vs) (drop (k + 1) ps)) (messageAt (drop (getD ps k 0) script))
 
-pub given-next : (script : List ℕ) (v a : ℕ) (vs ps : List ℕ) (k : ℕ) → given script (v ∷ vs) (a ∷ ps) (suc k) ≡ given script vs ps k
-given-next script v a vs ps k =
+pub binding-message-next : (script : List ℕ) (v a : ℕ) (vs ps : List ℕ) (k : ℕ) → bindingMessage script (v ∷ vs) (a ∷ ps) (suc k) ≡ bindingMessage script vs ps k
+binding-message-next script v a vs ps k =
     let e : suc k + 1 ≡ suc (k + 1) = omega arith in
     rw e
 
 -- a variable becomes the message of its newest binding, after the older ones
-pub resolve-bound : (script vs ps : List ℕ) (u : ℕ) → length ps ≡ length vs → place vs u < length vs → resolve (bindingsIn script vs ps) (variable u) ≡ given script vs ps (place vs u)
+pub resolve-bound : (script vs ps : List ℕ) (u : ℕ) → length ps ≡ length vs → place vs u < length vs → resolve (bindingsIn script vs ps) (variable u) ≡ bindingMessage script vs ps (place vs u)
 unfolding resolve bindingsIn
 resolve-bound script [] ps u l h = absurd (omega arith)
 resolve-bound script (v ∷ vs) [] u l h = absurd (omega arith)
 resolve-bound script (v ∷ vs) (a ∷ ps) u l h =
     byTest (eqb u v) (λ e. rw (place-hit v u vs e) (ap (resolve (bindingsIn script vs ps)) (substitute-hit v u _ e)))
     (λ e. rw (place-miss v u vs e) (ap (resolve (bindingsIn script vs ps)) (substitute-miss v u _ e)
-    ∙ resolve-bound script vs ps u (omega arith) (omega (arith, place-miss v u vs e)) ∙ sym (given-next script v a vs ps (place vs u))))
+    ∙ resolve-bound script vs ps u (omega arith) (omega (arith, place-miss v u vs e)) ∙ sym (binding-message-next script v a vs ps (place vs u))))
 
 -- a part's message, by where it starts
 pub message-word : (script : List ℕ) (start : ℕ) → ltb start 65536 ≡ true → messageOf script start ≡ messageAt (drop start script)

@@ -16,7 +16,7 @@ use Rattle.base_slices.specs.Sums.{capped}
 use Rattle.engine_bindings.specs.Measures.{keptOf, Kept}
 use Rattle.engine_message_words.specs.Words.{firstWord, shapeOf}
 use Rattle.engine_bindings.specs.Passes.{ownItems}
-use Rattle.engine_bindings.proofs.Bindings.{given, given-next}
+use Rattle.engine_bindings.proofs.Bindings.{bindingMessage, binding-message-next}
 use Rattle.engine_message_words.proofs.FirstWords.{items-small}
 use Rattle.engine_bindings.proofs.Passing.{Free, own-free}
 
@@ -43,12 +43,12 @@ module _ (f : Message → ℕ) (script : List ℕ) where
   length-kept (v ∷ vs) [] l = absurd (omega arith)
   length-kept (v ∷ vs) (a ∷ ps) l = ap suc (length-kept vs ps (omega arith))
 
-  kept-at : (vs ps : List ℕ) (k : ℕ) → length ps ≡ length vs → k < length vs → getD (keptOf f script vs ps) k 0 ≡ capped (f (given script vs ps k))
+  kept-at : (vs ps : List ℕ) (k : ℕ) → length ps ≡ length vs → k < length vs → getD (keptOf f script vs ps) k 0 ≡ capped (f (bindingMessage script vs ps k))
   unfolding keptOf
   kept-at [] ps k l h = absurd (omega arith)
   kept-at (v ∷ vs) [] k l h = absurd (omega arith)
   kept-at (v ∷ vs) (a ∷ ps) zero l h = refl
-  kept-at (v ∷ vs) (a ∷ ps) (suc k) l h = kept-at vs ps k (omega arith) (omega arith) ∙ ap (λ (m : Message). capped (f m)) (sym (given-next script v a vs ps k))
+  kept-at (v ∷ vs) (a ∷ ps) (suc k) l h = kept-at vs ps k (omega arith) (omega arith) ∙ ap (λ (m : Message). capped (f m)) (sym (binding-message-next script v a vs ps k))
 
   drop-kept : (vs ps : List ℕ) (k : ℕ) → length ps ≡ length vs → drop k (keptOf f script vs ps) ≡ keptOf f script (drop k vs) (drop k ps)
   unfolding keptOf
@@ -72,7 +72,7 @@ module _ {f : Message → ℕ} {script vs ps values : List ℕ} (ok : Kept f scr
     right = ap (drop k) (ok .right) ∙ drop-kept f script vs ps k (ok .aligned);
   }
 
-  pub kept-given : (k : ℕ) → k < length vs → getD values k 0 ≡ capped (f (given script vs ps k))
+  pub kept-given : (k : ℕ) → k < length vs → getD values k 0 ≡ capped (f (bindingMessage script vs ps k))
   kept-given k h = rw (ok .right) (kept-at f script vs ps k (ok .aligned) h)
 
   -- one binding more

@@ -6,8 +6,8 @@ use native.Mathlib.Omega.{arith}
 use native.Mathlib.Nat.{add-comm, add-zero}
 use lib.ListN.{length, drop, length-drop}
 use lib.Seq.{drop-drop, drop-nil}
-use Rattle.read_messages.specs.Message.{Message, variable, empty, items, nameOf, asks}
-use Rattle.read_messages.specs.Spelling.{top, push, spelled, messageAt}
+use Rattle.read_messages.specs.Message.{Message, variable, emptyMessage, items, nameOf, asks}
+use Rattle.read_messages.specs.Spelling.{topMessage, push, spelled, messageAt}
 use Rattle.read_messages.specs.declared.MessageWord.{MessageWord}
 use Rattle.read_messages.specs.declared.MessageWord.the-variants.{Name, Variable, Enter, Exit, Open, Empty, Path, Unfit}
 use Rattle.engine_message_words.specs.Words.{place, firstWord, shapeOf, arityOf, boundAt, plainName, plainItem}
@@ -16,7 +16,7 @@ use Rattle.theory_closures.specs.Resolve.{resolve}
 use Rattle.engine_bindings.specs.Bindings.{bindingsIn}
 use Rattle.engine_bindings.specs.Passes.{firsts, allItems, wordItems, ownItems}
 use Rattle.theory_closures.proofs.Resolving.{resolve-name, resolve-enter, resolve-exit, resolve-opens, resolve-empty, resolve-path}
-use Rattle.engine_bindings.proofs.Bindings.{resolve-unbound, resolve-bound, given}
+use Rattle.engine_bindings.proofs.Bindings.{resolve-unbound, resolve-bound, bindingMessage}
 
 -- what words spell, by their first word
 pub spelled-first : (l : List ℕ) → 0 < length l → spelled l ≡ push (firstWord l) (spelled (drop 1 l))
@@ -24,15 +24,15 @@ unfolding spelled firstWord
 spelled-first [] h = absurd (omega arith)
 spelled-first (w ∷ l) h = refl
 
-pub message-first : (l : List ℕ) → messageAt l ≡ top (push (firstWord l) (spelled (drop 1 l)))
-unfolding messageAt firstWord spelled push top
+pub message-first : (l : List ℕ) → messageAt l ≡ topMessage (push (firstWord l) (spelled (drop 1 l)))
+unfolding messageAt firstWord spelled push topMessage
 message-first [] = refl
 message-first (w ∷ l) = refl
 
 pub firsts-first : (p : ℕ) (l : List ℕ) → firsts p (spelled l) ≡ firsts p (push (firstWord l) (spelled (drop 1 l)))
-unfolding firsts firstWord spelled push top
+unfolding firsts firstWord spelled push topMessage
 firsts-first zero l = refl
-firsts-first (suc p) [] = ap (λ (r : List Message). empty ∷ firsts p r) (drop-nil 1)
+firsts-first (suc p) [] = ap (λ (r : List Message). emptyMessage ∷ firsts p r) (drop-nil 1)
 firsts-first (suc p) (w ∷ l) = refl
 
 first-arity : arityOf (firstWord []) ≡ 0
@@ -77,7 +77,7 @@ skip-some l (suc p) r h z e =
 -- the items of messages, by the first word's own and those behind them
 split-word : (σ : List (ℕ × Message)) (m : MessageWord) (p : ℕ) (s : List Message)
     → allItems σ (firsts (suc p) (push m s)) ≡ wordItems σ m s ++ allItems σ (firsts (p + shapeOf m .opened) (drop (shapeOf m .closed) s))
-unfolding allItems firsts push wordItems shapeOf top items
+unfolding allItems firsts push wordItems shapeOf topMessage items
 split-word σ (Name n) p s = rw (resolve-name, add-zero p)
 split-word σ (Variable v) p s = rw (add-zero p)
 split-word σ Enter p s = rw (resolve-enter, add-zero p)
@@ -86,7 +86,7 @@ split-word σ Open p s = rw (resolve-opens, add-zero p)
 split-word σ Empty p s = rw (resolve-empty, add-zero p)
 split-word σ Path p s =
     let e : p + 2 ≡ suc (suc p) = omega arith in
-    rw (resolve-path, e, drop-drop 1 1 s) (append-assoc (items (resolve σ (top s))) (items (resolve σ (top (drop 1 s)))) (allItems σ (firsts p (drop 2 s))))
+    rw (resolve-path, e, drop-drop 1 1 s) (append-assoc (items (resolve σ (topMessage s))) (items (resolve σ (topMessage (drop 1 s)))) (allItems σ (firsts p (drop 2 s))))
 split-word σ Unfit p s = rw (resolve-empty, add-zero p)
 
 pub own-front : (σ : List (ℕ × Message)) (l : List ℕ) (p : ℕ) → 0 < p
@@ -108,7 +108,7 @@ none-pending σ p s e = rw e
 
 pub one-message : (σ : List (ℕ × Message)) (l : List ℕ) → allItems σ (firsts 1 (spelled l)) ≡ items (resolve σ (messageAt l))
 unfolding messageAt allItems firsts
-one-message σ l = append-nil (items (resolve σ (top (spelled l))))
+one-message σ l = append-nil (items (resolve σ (topMessage (spelled l))))
 
 -- A word that is no variable with a binding stands for itself.
 
@@ -120,8 +120,8 @@ unfolding boundAt
 unbound-free script vs ps m h v e = resolve-unbound script vs ps v (rw e at h)
 
 word-free : (σ : List (ℕ × Message)) (m : MessageWord) (s : List Message) → Free σ m
-    → (nameOf (resolve σ (top (push m s))) ≡ plainName m) × (asks (resolve σ (top (push m s))) ≡ plainItem m (nameOf (resolve σ (top s)))) × (length (wordItems σ m s) ≡ shapeOf m .items)
-unfolding push top nameOf plainName asks plainItem wordItems shapeOf items
+    → (nameOf (resolve σ (topMessage (push m s))) ≡ plainName m) × (asks (resolve σ (topMessage (push m s))) ≡ plainItem m (nameOf (resolve σ (topMessage s)))) × (length (wordItems σ m s) ≡ shapeOf m .items)
+unfolding push topMessage nameOf plainName asks plainItem wordItems shapeOf items
 word-free σ (Name n) s f = (rw (resolve-name), rw (resolve-name), refl)
 word-free σ (Variable v) s f = (rw (f v refl), rw (f v refl), rw (f v refl))
 word-free σ Enter s f = (rw (resolve-enter), rw (resolve-enter), refl)
@@ -147,8 +147,8 @@ only x l o e h =
     let z : o ≡ 0 = omega (arith, ap length e) in
     rw (z, e)
 
-single-word : (σ : List (ℕ × Message)) (m : MessageWord) (s : List Message) (o : ℕ) → Free σ m → o < length (wordItems σ m s) → drop o (wordItems σ m s) ≡ resolve σ (top (push m s)) ∷ []
-unfolding wordItems push top items
+single-word : (σ : List (ℕ × Message)) (m : MessageWord) (s : List Message) (o : ℕ) → Free σ m → o < length (wordItems σ m s) → drop o (wordItems σ m s) ≡ resolve σ (topMessage (push m s)) ∷ []
+unfolding wordItems push topMessage items
 single-word σ (Name n) s o f h = only _ _ o (rw (resolve-name)) h
 single-word σ (Variable v) s o f h = only _ _ o (rw (f v refl)) h
 single-word σ Enter s o f h = only _ _ o (rw (resolve-enter)) h
@@ -171,13 +171,13 @@ unfolding shapeOf
 split-bound σ vs l p k z e h = elim (bound-variable vs (firstWord l) k e h) [ bound v q i ↦ rw (q, add-zero (p - 1)) at (own-front σ l p z) ]
 
 module _ (script vs ps : List ℕ) (l : length ps ≡ length vs) (k : ℕ) (h : k < length vs) where
-  pub given-place : (v : ℕ) → k ≡ place vs v → given script vs ps k ≡ resolve (bindingsIn script vs ps) (variable v)
+  pub given-place : (v : ℕ) → k ≡ place vs v → bindingMessage script vs ps k ≡ resolve (bindingsIn script vs ps) (variable v)
   given-place v e = rw e (sym (resolve-bound script vs ps v l (omega arith)))
 
-  pub given-message : (ws : List ℕ) → k ≡ boundAt (firstWord ws) vs → given script vs ps k ≡ resolve (bindingsIn script vs ps) (messageAt ws)
-  unfolding push top
+  pub given-message : (ws : List ℕ) → k ≡ boundAt (firstWord ws) vs → bindingMessage script vs ps k ≡ resolve (bindingsIn script vs ps) (messageAt ws)
+  unfolding push topMessage
   given-message ws e = elim (bound-variable vs (firstWord ws) k e h) [ bound v q p ↦ rw (message-first ws, q) (given-place v p) ]
 
-  pub given-items : (ws : List ℕ) → k ≡ boundAt (firstWord ws) vs → items (given script vs ps k) ≡ ownItems (bindingsIn script vs ps) ws
+  pub given-items : (ws : List ℕ) → k ≡ boundAt (firstWord ws) vs → items (bindingMessage script vs ps k) ≡ ownItems (bindingsIn script vs ps) ws
   unfolding ownItems wordItems
   given-items ws e = elim (bound-variable vs (firstWord ws) k e h) [ bound v q p ↦ rw q (ap items (given-place v p)) ]

@@ -5,7 +5,7 @@ use Prim.Native.Nat.{ℕ, zero, suc, _+_}
 use mathlib.Core.List.{List, [], _∷_, _++_}
 use lib.ListN.{drop}
 use Rattle.read_messages.specs.Message.{Message, name, variable, enter, exit, opens, items}
-use Rattle.read_messages.specs.Spelling.{top, spelled}
+use Rattle.read_messages.specs.Spelling.{topMessage, spelled}
 use Rattle.read_messages.specs.declared.MessageWord.{MessageWord}
 use Rattle.read_messages.specs.declared.MessageWord.the-variants.{Name, Variable, Enter, Exit, Open, Empty, Path, Unfit}
 use Rattle.engine_message_words.specs.Words.{firstWord}
@@ -14,7 +14,7 @@ use Rattle.theory_closures.specs.Resolve.{resolve}
 -- the first so many of the messages; where there are not so many, empty ones
 unfoldable pub firsts : ℕ → List Message → List Message
 firsts zero s = []
-firsts (suc p) s = top s ∷ firsts p (drop 1 s)
+firsts (suc p) s = topMessage s ∷ firsts p (drop 1 s)
 
 -- the items of the messages, one after another, each after the bindings
 unfoldable pub allItems : List (ℕ × Message) → List Message → List Message
@@ -25,9 +25,9 @@ allItems σ (m ∷ ms) = items (resolve σ m) ++ allItems σ ms
 unfoldable pub wordItems : List (ℕ × Message) → MessageWord → (behind : List Message) → List Message
 wordItems σ (Name n) s = name n ∷ []
 wordItems σ (Variable v) s = items (resolve σ (variable v))
-wordItems σ Enter s = enter (resolve σ (top s)) ∷ []
-wordItems σ Exit s = exit (resolve σ (top s)) ∷ []
-wordItems σ Open s = opens (resolve σ (top s)) ∷ []
+wordItems σ Enter s = enter (resolve σ (topMessage s)) ∷ []
+wordItems σ Exit s = exit (resolve σ (topMessage s)) ∷ []
+wordItems σ Open s = opens (resolve σ (topMessage s)) ∷ []
 wordItems σ Empty s = []
 wordItems σ Path s = []
 wordItems σ Unfit s = []

@@ -3,6 +3,9 @@
 // number of items that was counted of each message when it was bound. What is older than a binding is the tail behind it.
 // Each operation is one pass over words, since a variable's count is at hand; counts stop at 2^32 - 1. It rests on the
 // promises of message_words, messages and slices.
+use base_slices::sum;
+use base_slices::tail;
+use base_slices::wide;
 use engine_message_words::arity;
 use engine_message_words::bound;
 use engine_message_words::first_word;
@@ -10,9 +13,6 @@ use engine_message_words::given;
 use engine_message_words::plain_name;
 use engine_message_words::shape_of;
 use read_messages::Named;
-use base_slices::sum;
-use base_slices::tail;
-use base_slices::wide;
 ghost use mathlib.Core.Path.{_≡_};
 ghost use Prim.Native.Nat.{ℕ, _+_, _-_, _*_, _<_, _≤_, _^_};
 ghost use mathlib.Core.List.{List, _++_};

@@ -23,7 +23,7 @@ use Rattle.engine_first_items.specs.Search.{searching}
 use Rattle.engine_bindings.specs.Passes.{firsts, allItems, ownItems}
 use Rattle.engine_first_items.specs.declared.Search.{Search}
 use Rattle.base_slices.proofs.Tests.{byTest}
-use Rattle.engine_bindings.proofs.Bindings.{given}
+use Rattle.engine_bindings.proofs.Bindings.{bindingMessage}
 use Rattle.engine_bindings.proofs.Passing.{none-pending, one-message, own-front, split-bound, unbound-free, item-free, single, given-items}
 use Rattle.base_slices.proofs.Capping.{below-count}
 use Rattle.engine_bindings.proofs.Counting.{capped-shape, kept-drop, kept-given, drop-past, item-none, item-here, item-only, rank, rank-less, rank-older}
@@ -83,7 +83,7 @@ module _ {script vs ps cs : List ℕ} (ok : Kept itemCount script vs ps cs) (l p
     within : j < length (drop o vs)
     within = omega (arith, length-drop o vs)
 
-    own-given : items (given script (drop o vs) (drop o ps) j) ≡ ownItems σ words
+    own-given : items (bindingMessage script (drop o vs) (drop o ps) j) ≡ ownItems σ words
     own-given = given-items script (drop o vs) (drop o ps) (kept-drop ok o .aligned) j within words e
 
     own-count : getD cs k 0 ≡ capped (length (ownItems σ words))

@@ -1,4 +1,6 @@
 // The first item of an action under bindings. It rests on the promises of bindings, message_words, messages and slices.
+use base_slices::tail;
+use base_slices::wide;
 use engine_bindings::after_own;
 use engine_bindings::name_of;
 use engine_message_words::bound;
@@ -6,8 +8,6 @@ use engine_message_words::first_word;
 use engine_message_words::plain_item;
 use engine_message_words::shape_of;
 use read_messages::First;
-use base_slices::tail;
-use base_slices::wide;
 ghost use mathlib.Core.Path.{_≡_};
 ghost use Prim.Native.Nat.{_+_, _-_, _<_, _≤_, _^_};
 ghost use lib.ListN.{drop};

@@ -8,7 +8,7 @@ use native.Mathlib.Nat.{add-zero}
 use lib.ListN.{length, drop}
 use lib.Seq.{drop-drop, drop-nil}
 use Rattle.read_messages.specs.Message.{Message}
-use Rattle.read_messages.specs.Spelling.{top, push, spelled, messageAt}
+use Rattle.read_messages.specs.Spelling.{topMessage, push, spelled, messageAt}
 use Rattle.read_messages.specs.declared.MessageWord.{MessageWord}
 use Rattle.read_messages.specs.declared.MessageWord.the-variants.{Name, Variable, Enter, Exit, Open, Empty, Path, Unfit}
 use Rattle.theory_closures.specs.Resolve.{resolve}
@@ -18,19 +18,19 @@ use Rattle.engine_bindings.specs.Measures.{itemCount}
 use Rattle.engine_message_words.specs.Words.{firstWord, shapeOf, arityOf, boundAt}
 use Rattle.engine_bindings.specs.Passes.{firsts}
 use Rattle.theory_closures.proofs.Resolving.{resolve-name, resolve-enter, resolve-exit, resolve-opens, resolve-empty, resolve-path}
-use Rattle.engine_bindings.proofs.Bindings.{given}
+use Rattle.engine_bindings.proofs.Bindings.{bindingMessage}
 use Rattle.engine_message_words.proofs.FirstWords.{bound, bound-variable}
 use Rattle.engine_bindings.proofs.Passing.{firsts-first, Free, given-place}
 use Rattle.base_slices.proofs.Capping.{capped-sum}
 use Rattle.engine_bindings.proofs.Counting.{kept-none, kept-drop, kept-more}
-use Rattle.engine_held_bindings.specs.Sizes.{size, itemsSize, bulk, cappedItems, itemBulk, Cached, allSizes, ownSize}
+use Rattle.engine_held_bindings.specs.Sizes.{messageSize, itemsSize, bulk, cappedItems, itemBulk, Cached, allSizes, ownSize}
 use Rattle.engine_held_bindings.specs.Held.{Measures}
 use Rattle.engine_held_bindings.specs.declared.Measured.{Measured}
 
 -- what is kept with the bindings
 
 pub cached-none : (script : List ℕ) → Cached script [] [] [] [] []
-cached-none script = record { counted = kept-none itemCount script; sized = kept-none size script; bulked = kept-none itemBulk script }
+cached-none script = record { counted = kept-none itemCount script; sized = kept-none messageSize script; bulked = kept-none itemBulk script }
 
 pub cached-drop : {script vs ps cs ss bs : List ℕ} (k : ℕ) → Cached script vs ps cs ss bs → Cached script (drop k vs) (drop k ps) (drop k cs) (drop k ss) (drop k bs)
 cached-drop k ok = record { counted = kept-drop (ok .counted) k; sized = kept-drop (ok .sized) k; bulked = kept-drop (ok .bulked) k }
@@ -45,12 +45,12 @@ pub none-size : (σ : List (ℕ × Message)) (p : ℕ) (s : List Message) → p 
 unfolding capped allSizes firsts
 none-size σ p s e = rw e
 
-pub one-size : (σ : List (ℕ × Message)) (l : List ℕ) → allSizes σ (firsts 1 (spelled l)) ≡ size (resolve σ (messageAt l))
+pub one-size : (σ : List (ℕ × Message)) (l : List ℕ) → allSizes σ (firsts 1 (spelled l)) ≡ messageSize (resolve σ (messageAt l))
 unfolding allSizes firsts messageAt
 one-size σ l = add-zero _
 
 sizes-word : (σ : List (ℕ × Message)) (m : MessageWord) (p : ℕ) (s : List Message) → allSizes σ (firsts (suc p) (push m s)) ≡ ownSize σ m + allSizes σ (firsts (p + arityOf m) s)
-unfolding allSizes firsts push top ownSize shapeOf size
+unfolding allSizes firsts push topMessage ownSize shapeOf messageSize
 sizes-word σ (Name n) p s = rw (resolve-name, add-zero p)
 sizes-word σ (Variable v) p s = rw (add-zero p)
 sizes-word σ Enter p s = let e : p + 1 ≡ suc p = omega arith in rw (resolve-enter, e) (omega arith)
@@ -68,7 +68,7 @@ sizes-first σ l (suc p) h =
     rw (q, firsts-first (suc p) l) (sizes-word σ (firstWord l) p (spelled (drop 1 l)))
 
 size-free : (σ : List (ℕ × Message)) (m : MessageWord) → Free σ m → ownSize σ m ≡ 1
-unfolding ownSize size
+unfolding ownSize messageSize
 size-free σ (Name n) f = refl
 size-free σ (Variable v) f = rw (f v refl)
 size-free σ Enter f = refl
@@ -82,9 +82,9 @@ pub capped-one : (σ : List (ℕ × Message)) (m : MessageWord) → Free σ m �
 unfolding capped
 capped-one σ m f = omega (arith, size-free σ m f)
 
-pub given-size : (script vs ps : List ℕ) → length ps ≡ length vs → (k : ℕ) → k < length vs → (m : MessageWord) → k ≡ boundAt m vs → size (given script vs ps k) ≡ ownSize (bindingsIn script vs ps) m
+pub given-size : (script vs ps : List ℕ) → length ps ≡ length vs → (k : ℕ) → k < length vs → (m : MessageWord) → k ≡ boundAt m vs → messageSize (bindingMessage script vs ps k) ≡ ownSize (bindingsIn script vs ps) m
 unfolding ownSize
-given-size script vs ps l k h m e = elim (bound-variable vs m k e h) [ bound v q p ↦ rw q (ap size (given-place script vs ps l k h v p)) ]
+given-size script vs ps l k h m e = elim (bound-variable vs m k e h) [ bound v q p ↦ rw q (ap messageSize (given-place script vs ps l k h v p)) ]
 
 -- the items' bulk
 
@@ -100,7 +100,7 @@ pub bulk-none : (x : List Message) (o : ℕ) → x ≡ [] → 0 ≡ capped (bulk
 unfolding bulk capped
 bulk-none x o e = rw (e, drop-nil {A = Message} o)
 
-pub bulk-only : (x : List Message) (m : Message) {r t : ℕ} → x ≡ m ∷ [] → r ≡ capped (size m) → t ≡ capped (1 + r) → t ≡ capped (bulk x)
+pub bulk-only : (x : List Message) (m : Message) {r t : ℕ} → x ≡ m ∷ [] → r ≡ capped (messageSize m) → t ≡ capped (1 + r) → t ≡ capped (bulk x)
 unfolding bulk capped
 bulk-only x m e p q = rw e (omega arith)
 

@@ -16,7 +16,7 @@ use Rattle.engine_held_bindings.specs.declared.Bindings.{Bindings}
 -- what is counted of a message
 pub record Measures (m : Message) (r : Measured) : Type 0 where
   pub count : r .count ≡ capped (itemCount m)
-  pub size : r .size ≡ capped (sizes.size m)
+  pub size : r .size ≡ capped (sizes.messageSize m)
   pub bulk : r .bulk ≡ capped (itemBulk m)
 
 unfoldable pub bindingsOf : (script : List ℕ) → Bindings → List (ℕ × Message)

@@ -2,32 +2,32 @@
 -- what is kept of them with the bindings is right. Assumes nothing: these are definitions.
 use Prim.Native.Nat.{ℕ, suc, _+_, min}
 use mathlib.Core.List.{List, [], _∷_}
-use Rattle.read_messages.specs.Message.{Message, name, variable, enter, exit, opens, empty, path, items}
+use Rattle.read_messages.specs.Message.{Message, name, variable, enter, exit, opens, emptyMessage, path, items}
 use Rattle.read_messages.specs.declared.MessageWord.{MessageWord}
 use Rattle.read_messages.specs.declared.MessageWord.the-variants.{Name, Variable, Enter, Exit, Open, Empty, Path, Unfit}
 use Rattle.theory_closures.specs.Resolve.{resolve}
 use Rattle.engine_bindings.specs.Measures.{itemCount, Kept}
 
 -- the number of words that a message is written with
-unfoldable pub size : Message → ℕ
-size (name n) = 1
-size (variable v) = 1
-size (enter m) = suc (size m)
-size (exit m) = suc (size m)
-size (opens m) = suc (size m)
-size empty = 1
-size (path m k) = suc (size m + size k)
+unfoldable pub messageSize : Message → ℕ
+messageSize (name n) = 1
+messageSize (variable v) = 1
+messageSize (enter m) = suc (messageSize m)
+messageSize (exit m) = suc (messageSize m)
+messageSize (opens m) = suc (messageSize m)
+messageSize emptyMessage = 1
+messageSize (path m k) = suc (messageSize m + messageSize k)
 
 -- the number of words that an action's items are written with: "several as PATH item rest; none as one EMPTY"
 unfoldable pub itemsSize : List Message → ℕ
 itemsSize [] = 1
-itemsSize (m ∷ []) = size m
-itemsSize (m ∷ (k ∷ ks)) = suc (size m + itemsSize (k ∷ ks))
+itemsSize (m ∷ []) = messageSize m
+itemsSize (m ∷ (k ∷ ks)) = suc (messageSize m + itemsSize (k ∷ ks))
 
 -- the words of the items, and one PATH for each: a sum, so that it can be counted from any item on
 unfoldable pub bulk : List Message → ℕ
 bulk [] = 0
-bulk (m ∷ ms) = suc (size m) + bulk ms
+bulk (m ∷ ms) = suc (messageSize m) + bulk ms
 
 -- no more than 2^32 - 2: the words of an action's items are one less than their bulk, which stops at 2^32 - 1
 unfoldable pub cappedItems : ℕ → ℕ
@@ -39,12 +39,12 @@ itemBulk m = bulk (items m)
 -- the words that the messages are written with, each after the bindings
 unfoldable pub allSizes : List (ℕ × Message) → List Message → ℕ
 allSizes σ [] = 0
-allSizes σ (m ∷ ms) = size (resolve σ m) + allSizes σ ms
+allSizes σ (m ∷ ms) = messageSize (resolve σ m) + allSizes σ ms
 
 -- the words that a word is written with itself, after the bindings
 unfoldable pub ownSize : List (ℕ × Message) → MessageWord → ℕ
 ownSize σ (Name n) = 1
-ownSize σ (Variable v) = size (resolve σ (variable v))
+ownSize σ (Variable v) = messageSize (resolve σ (variable v))
 ownSize σ Enter = 1
 ownSize σ Exit = 1
 ownSize σ Open = 1
@@ -55,5 +55,5 @@ ownSize σ Unfit = 1
 -- the three counts that are kept with the bindings are right
 pub record Cached (script variables places counts sizes bulks : List ℕ) : Type 0 where
   pub counted : Kept itemCount script variables places counts
-  pub sized : Kept size script variables places sizes
+  pub sized : Kept messageSize script variables places sizes
   pub bulked : Kept itemBulk script variables places bulks

@@ -2,6 +2,9 @@
 // message when it was bound: its items, its words, and the words of its items with one PATH each. So a new binding, too, is
 // counted in one pass over words; counts stop at 2^32 - 1. It rests on the promises of bindings, message_words,
 // messages and slices.
+use base_slices::sum;
+use base_slices::tail;
+use base_slices::wide;
 use engine_bindings::after_own;
 use engine_bindings::item_count;
 use engine_bindings::own;
@@ -10,9 +13,6 @@ use engine_message_words::bound;
 use engine_message_words::first_word;
 use engine_message_words::given;
 use read_messages::MessageWord;
-use base_slices::sum;
-use base_slices::tail;
-use base_slices::wide;
 ghost use mathlib.Core.Path.{_≡_};
 ghost use Prim.Native.Nat.{ℕ, _+_, _-_, _<_, _^_};
 ghost use mathlib.Core.List.{List, [], _∷_};
@@ -24,7 +24,7 @@ ghost use Rattle.engine_bindings.specs.Bindings.{bindingsIn};
 ghost use Rattle.base_slices.specs.Sums.{capped};
 ghost use Rattle.engine_bindings.specs.Measures.{Kept};
 ghost use Rattle.engine_bindings.specs.Passes.{firsts, allItems, ownItems};
-ghost use Rattle.engine_held_bindings.specs.Sizes.{size, itemsSize, bulk, cappedItems, Cached, allSizes, ownSize};
+ghost use Rattle.engine_held_bindings.specs.Sizes.{messageSize, itemsSize, bulk, cappedItems, Cached, allSizes, ownSize};
 ghost use Rattle.engine_held_bindings.specs.Held.{Measures, bindingsOf, Held};
 
 // What is counted of a message when it is bound: its items, the words that it is written with, and the words of its items
@@ -48,7 +48,7 @@ pub struct Bindings {
 // The number of words that a word is written with itself, after the bindings.
 fn own_size(m: MessageWord, variables: &[u32], sizes: &[u32]) -> u32
     requires { ⌜ length (now sizes) ≡ length (now variables) ⌝ }
-    ensures { λ r. ⌜ ((script places : List ℕ) → Kept size script (now (variables .entry)) places (now (sizes .entry)) → r ≡ capped (ownSize (bindingsIn script (now (variables .entry)) places) m)) ⌝ }
+    ensures { λ r. ⌜ ((script places : List ℕ) → Kept messageSize script (now (variables .entry)) places (now (sizes .entry)) → r ≡ capped (ownSize (bindingsIn script (now (variables .entry)) places) m)) ⌝ }
 {
     let k = bound(m, variables);
     if k < variables.len() {
@@ -60,7 +60,7 @@ fn own_size(m: MessageWord, variables: &[u32], sizes: &[u32]) -> u32
 // The number of words that the first `pending` messages of the words are written with, after the bindings.
 fn size_from(words: &[u32], pending: usize, variables: &[u32], sizes: &[u32]) -> u32
     requires { ⌜ (pending + length (now words) < 2 ^ 64) × (length (now sizes) ≡ length (now variables)) ⌝ }
-    ensures { λ r. ⌜ ((script places : List ℕ) → Kept size script (now (variables .entry)) places (now (sizes .entry)) → r ≡ capped (allSizes (bindingsIn script (now (variables .entry)) places) (firsts pending (spelled (now (words .entry)))))) ⌝ }
+    ensures { λ r. ⌜ ((script places : List ℕ) → Kept messageSize script (now (variables .entry)) places (now (sizes .entry)) → r ≡ capped (allSizes (bindingsIn script (now (variables .entry)) places) (firsts pending (spelled (now (words .entry)))))) ⌝ }
 {
     if pending == 0 {
         return 0;
@@ -76,8 +76,8 @@ fn size_from(words: &[u32], pending: usize, variables: &[u32], sizes: &[u32]) ->
 
 // The number of words that the message at a word of the script is written with, after the bindings.
 pub fn words_of(script: &[u32], at: usize, variables: &[u32], places: &[u32], sizes: &[u32]) -> u32
-    requires { ⌜ Kept size (now script) (now variables) (now places) (now sizes) ⌝ }
-    ensures { λ r. ⌜ r ≡ capped (size (resolve (bindingsIn (now (script .entry)) (now (variables .entry)) (now (places .entry))) (messageAt (drop at (now (script .entry)))))) ⌝ }
+    requires { ⌜ Kept messageSize (now script) (now variables) (now places) (now sizes) ⌝ }
+    ensures { λ r. ⌜ r ≡ capped (messageSize (resolve (bindingsIn (now (script .entry)) (now (variables .entry)) (now (places .entry))) (messageAt (drop at (now (script .entry)))))) ⌝ }
 {
     size_from(tail(script, at), 1, variables, sizes)
 }

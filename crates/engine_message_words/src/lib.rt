@@ -1,12 +1,12 @@
 // The first word of a message: how it begins the message, what it is by itself, and which binding it has where it is a
 // variable. Bindings are lent newest first, in slices: the variables, and the indices of the messages' first words. It
 // rests on the promises of messages and slices.
+use base_slices::tail;
+use base_slices::wide;
 use read_messages::First;
 use read_messages::MessageWord;
 use read_messages::Named;
 use read_messages::message_word;
-use base_slices::tail;
-use base_slices::wide;
 ghost use mathlib.Core.Path.{_≡_};
 ghost use Prim.Native.Nat.{_<_};
 ghost use lib.ListN.{length, drop, getD};

@@ -13,7 +13,7 @@ use Rattle.read_messages.specs.declared.Named.{Named}
 use Rattle.read_messages.specs.declared.Named.the-variants.{Nameless}
 use Rattle.read_messages.specs.declared.First.{First}
 use Rattle.read_messages.specs.declared.First.the-variants.{Nothing}
-use Rattle.base_sets.specs.Sets.{members, elem, inserted, remove, joined}
+use Rattle.base_sets.specs.Sets.{members, elem, inserted, removed, joined}
 use Rattle.read_scripts.specs.Tree.{receipt, output}
 use Rattle.read_scripts.specs.Represents.{bodyIn}
 use Rattle.engine_held_bindings.specs.Held.{bindingsOf}
@@ -90,17 +90,17 @@ module _ (script kinds starts : List ℕ) (s s′ r : State) (same : r .bindings
     spends : (weight spent : ℕ) (b : Closure) → spent + 1 < 4294967295 → Represents script kinds starts weight spent s b → getD kinds a 0 ≡ 2 → Raised (s .offsets) (s′ .offsets) a
     spends weight spent b low R e = subst (λ (o : List ℕ). Raised (s .offsets) o a) (sym (raised e (omega (arith, R .spends a)))) (set-raised (s .offsets) a (getD (s .offsets) a 0 + 1) within refl)
 
-    pub opens : (p t m : ℕ) → p < length (s .kids) → s′ .kids ≡ set (s .kids) p m → members m ≡ joined (k t) (remove t (k p)) → Opens script kinds starts s r p a t
+    pub opens : (p t m : ℕ) → p < length (s .kids) → s′ .kids ≡ set (s .kids) p m → members m ≡ joined (k t) (removed t (k p)) → Opens script kinds starts s r p a t
     unfolding canOpen toOpen
     opens p t m low ek em weight spent b few R (ep, can) =
         let u = and-eq-true-iff (elem t (k p)) _ .0 (and-eq-true-iff (ltb p 65) _ .0 can .1) in
         let kind : getD kinds a 0 ≡ 2 = says-name script (getD kinds a 0) (getD starts a 0) (getD (s .offsets) a 0) σ toOpen (headName (viewUnder σ) (w t)) refl (u .1) in
         finish weight spent b R a t (spent + 1) few [] (ap (bindingsOf script) bound)
         (open-made script kinds starts weight spent s b R a t s′ (spends weight spent b few R kind) first p ep can
-        (subst (λ (x : List ℕ). Replaced k (bodyIn x) p (joined (k t) (remove t (k p)))) (sym ek) (set-replaced (s .kids) p m (joined (k t) (remove t (k p))) low em)))
+        (subst (λ (x : List ℕ). Replaced k (bodyIn x) p (joined (k t) (removed t (k p)))) (sym ek) (set-replaced (s .kids) p m (joined (k t) (removed t (k p))) low em)))
 
     module _ (p from into m n : ℕ) (low : from < length (s .kids)) (high : into < length (s .kids)) (ek : s′ .kids ≡ set (set (s .kids) from m) into n)
-        (loses : members m ≡ remove p (k from)) (gains : members n ≡ inserted p (bodyIn (set (s .kids) from m) into)) where
+        (loses : members m ≡ removed p (k from)) (gains : members n ≡ inserted p (bodyIn (set (s .kids) from m) into)) where
       carried : (from ≡ into → ⊥) → Carried k (bodyIn (s′ .kids)) p from into
       carried two = subst (λ (x : List ℕ). Carried k (bodyIn x) p from into) (sym ek) (set-carried (s .kids) p from into m n low high two loses gains)
 
@@ -131,7 +131,7 @@ module _ (script kinds starts : List ℕ) (s s′ r : State) (same : r .bindings
   -- ---- a receipt
 
   pub receives : (p a t m : ℕ) → s′ .offsets ≡ s .offsets → s′ .bindings .first + 1 ≡ s .bindings .first → boundIn script s′ ≡ (getD starts a 0, messageAt (drop (getD starts t 0) script)) ∷ σ
-      → p < length (s .kids) → s′ .kids ≡ set (s .kids) p m → members m ≡ joined (k a) (remove t (remove a (k p))) → Receives script kinds starts s r p a t
+      → p < length (s .kids) → s′ .kids ≡ set (s .kids) p m → members m ≡ joined (k a) (removed t (removed a (k p))) → Receives script kinds starts s r p a t
   unfolding canReceive
   receives p a t m eo ef eb low ek em weight spent b few R (ep, can) =
       let u = and-eq-true-iff (isSome (variableOf (w a))) _ .0 (and-eq-true-iff (elem t (k p)) _ .0 (and-eq-true-iff (ltb p 65) _ .0 can .1) .1) in
@@ -139,7 +139,7 @@ module _ (script kinds starts : List ℕ) (s s′ r : State) (same : r .bindings
       let et : w t ≡ output (messageAt (drop (getD starts t 0) script)) = output-is script (getD kinds t 0) (getD starts t 0) (getD (s .offsets) t 0) σ (u .1) in
       finish weight spent b R a t (spent + 1) few ((getD starts a 0, messageAt (drop (getD starts t 0) script)) ∷ []) eb
       (receive-made script kinds starts weight spent s b R a t s′ (λ i. ap (λ (o : List ℕ). getD o i 0) (sym eo)) ef (getD starts a 0) (messageAt (drop (getD starts t 0) script)) ea et p ep can
-      (subst (λ (x : List ℕ). Replaced k (bodyIn x) p (joined (k a) (remove t (remove a (k p))))) (sym ek) (set-replaced (s .kids) p m (joined (k a) (remove t (remove a (k p)))) low em)) (spent + 1) (omega arith))
+      (subst (λ (x : List ℕ). Replaced k (bodyIn x) p (joined (k a) (removed t (removed a (k p))))) (sym ek) (set-replaced (s .kids) p m (joined (k a) (removed t (removed a (k p)))) low em)) (spent + 1) (omega arith))
 
 -- a receipt that can be made finds two parts, so that there is room for one more binding
 pub room : (script kinds starts : List ℕ) (s : State) (weight spent : ℕ) (b : Closure) → Represents script kinds starts weight spent s b → (p a t : ℕ) → place (boundIn script s) a b ≡ p

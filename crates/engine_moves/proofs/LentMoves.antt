@@ -8,7 +8,7 @@ use lib.Dec.{eqb}
 use lib.ListN.{getD, set, length, length-set}
 use lib.Seq.{getD-set-other}
 use borrow.Author.Tests.{eqb-true, eqb-false}
-use Rattle.base_sets.specs.Sets.{members, inserted, remove, joined}
+use Rattle.base_sets.specs.Sets.{members, inserted, removed, joined}
 use Rattle.read_scripts.specs.Represents.{bodyIn}
 use Rattle.base_slices.proofs.Tests.{byTest}
 use Rattle.theory_closures.specs.Closure.{Closure, settleUnder}
@@ -65,19 +65,19 @@ module _ (script sets numbers sets₁ sets₂ numbers₂ sets₃ : List ℕ) (L 
       → Represents script′ (kindsIn numbers) starts′ weight spent (standing sets₃ numbers₂) (settleUnder (boundIn script′ (standing sets₂ numbers₂)) b)
   then script′ starts′ weight spent b = settled script′ (kindsIn numbers) starts′ weight spent b ek
 
-  module _ (p t m : ℕ) (lp : p < 65) (lt : t < 65) (changed : sets₁ ≡ set sets p m) (em : members m ≡ joined (bodyIn sets t) (remove t (bodyIn sets p))) where
+  module _ (p t m : ℕ) (lp : p < 65) (lt : t < 65) (changed : sets₁ ≡ set sets p m) (em : members m ≡ joined (bodyIn sets t) (removed t (bodyIn sets p))) where
     pub opened : Opens script (kindsIn numbers) (startsIn numbers) s (standing sets₃ numbers₂) p a t
     opened = opens script (kindsIn numbers) (startsIn numbers) s (standing sets₂ numbers₂) (standing sets₃ numbers₂) refl ready then a bound within raised p t m (inside p lp)
         (same ∙ ap (λ (l : List ℕ). standing l numbers .kids) changed ∙ kids-set sets p m lp (L .sets-long))
-        (em ∙ (λ q. joined (sym (body-in sets t lt) q) (remove t (sym (body-in sets p lp) q))))
+        (em ∙ (λ q. joined (sym (body-in sets t lt) q) (removed t (sym (body-in sets p lp) q))))
 
-  module _ (p from into m n : ℕ) (lf : from < 65) (li : into < 65) (changed : sets₁ ≡ set (set sets from m) into n) (loses : members m ≡ remove p (bodyIn sets from)) (gains : members n ≡ inserted p (bodyIn (set sets from m) into)) where
+  module _ (p from into m n : ℕ) (lf : from < 65) (li : into < 65) (changed : sets₁ ≡ set (set sets from m) into n) (loses : members m ≡ removed p (bodyIn sets from)) (gains : members n ≡ inserted p (bodyIn (set sets from m) into)) where
     kids : standing sets₂ numbers₂ .kids ≡ set (set (s .kids) from m) into n
     kids = same ∙ ap (λ (l : List ℕ). standing l numbers .kids) changed ∙ kids-set (set sets from m) into n li (length-set sets from m ∙ L .sets-long)
         ∙ ap (λ (l : List ℕ). set l into n) (kids-set sets from m lf (L .sets-long))
 
-    lost : members m ≡ remove p (bodyIn (s .kids) from)
-    lost = loses ∙ ap (remove p) (sym (body-in sets from lf))
+    lost : members m ≡ removed p (bodyIn (s .kids) from)
+    lost = loses ∙ ap (removed p) (sym (body-in sets from lf))
 
     gained : members n ≡ inserted p (bodyIn (set (s .kids) from m) into)
     gained = gains ∙ ap (inserted p) (sym (body-in (set sets from m) into li) ∙ ap (λ (l : List ℕ). bodyIn l into) (kids-set sets from m lf (L .sets-long)))

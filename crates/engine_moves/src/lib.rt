@@ -2,12 +2,12 @@
 // arrays and sets.
 use base_arrays::put_numbers;
 use base_arrays::put_sets;
-use engine_state_arrays::bodies;
-use engine_state_arrays::borrowed;
-use engine_state_arrays::lend;
 use engine_settling::received;
 use engine_settling::settle;
 use engine_settling::spend;
+use engine_state_arrays::bodies;
+use engine_state_arrays::borrowed;
+use engine_state_arrays::lend;
 use engine_targets::locate;
 use engine_targets::targets;
 ghost use mathlib.Core.Path.{_≡_};

@@ -9,7 +9,7 @@ use lib.Seq.{getD-set-same, getD-set-other, lt-length-set}
 use borrow.Author.Tests.{eqb-true, ne-eqb, le-ltb}
 use Rattle.read_messages.specs.Message.{name}
 use Rattle.base_sets.specs.Sets.{members}
-use Rattle.read_scripts.specs.Tree.{ambient, close, part, tops, total, parts, timesIn}
+use Rattle.read_scripts.specs.Tree.{ambient, close, part, tops, totalOver, parts, timesIn}
 use Rattle.read_scripts.specs.Represents.{bodyIn}
 use Rattle.engine_bindings.specs.Bindings.{messageOf}
 use Rattle.engine_held_bindings.specs.declared.Bindings as arrays
@@ -52,7 +52,7 @@ module _ (script kinds starts : List ℕ) (weight spent : ℕ) (s r : State) (b 
       )
 
   pub placed-is : weight < 64 → Represents script kinds′ starts′ (weight + 1) spent r (part i (ambient (name n)) b close)
-  unfolding tops total
+  unfolding tops totalOver
   placed-is light = record {
     top = body-is 64 m (getD-set-same inner 64 m 0 (lt-length-set (s .kids) i (getD (s .kids) 64 0) (omega arith))) ∙ top;
     held = (

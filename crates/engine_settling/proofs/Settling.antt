@@ -6,9 +6,9 @@ use mathlib.Core.Path.{_≡_, refl, sym, ap, ap₂, _∙_, subst}
 use native.Mathlib.Omega.{arith}
 use lib.Dec.{eqb}
 use borrow.Author.Tests.{eqb-true, eq-eqb}
-use Rattle.base_sets.specs.Sets.{members, elem, inserted, joined, both, keep, headOr, Rising, Below}
+use Rattle.base_sets.specs.Sets.{members, elem, inserted, joined, inBoth, keep, headOr, RisingFrom, AllUnder}
 use Rattle.base_sets.proofs.Members.{inserted-front, elem-keep, members-empty, members-same, members-below}
-use Rattle.read_scripts.specs.Tree.{ambient, action, receipt, output, close, part, oneIf, isAmbient, tops, total, timesIn, settleBy}
+use Rattle.read_scripts.specs.Tree.{ambient, action, receipt, output, close, part, oneIf, isAmbient, tops, totalOver, timesIn, settleBy}
 use Rattle.read_scripts.specs.Represents.{Held}
 use Rattle.base_slices.proofs.Tests.{byTest, or-right}
 use Rattle.read_scripts.proofs.Numbers.{own-times}
@@ -46,7 +46,7 @@ busy-spent σ (receipt v) e n = absurd (true≢false (sym e))
 busy-spent σ (output m) e n = absurd (true≢false (sym e))
 
 -- where no part is looked at, nothing changes
-quiet-body : (σ : Bindings) (k : ℕ → List ℕ) (w : ℕ → ClosureHead) (a : ℕ) (b : Closure) → Rising a (tops b) → ((i : ℕ) → elem i (tops b) ≡ true → busyUnder σ (w i) ≡ false)
+quiet-body : (σ : Bindings) (k : ℕ → List ℕ) (w : ℕ → ClosureHead) (a : ℕ) (b : Closure) → RisingFrom a (tops b) → ((i : ℕ) → elem i (tops b) ≡ true → busyUnder σ (w i) ≡ false)
     → Held k w b → (tops b ≡ tops (settleUnder σ b)) × Held k w (settleUnder σ b)
 unfolding settleBy tops elem
 quiet-body σ k w a close up none h = (refl, tt)
@@ -55,28 +55,28 @@ quiet-body σ k w a (part j g s r) up none h =
     let free : busyUnder σ g ≡ false = ap (busyUnder σ) (sym (h .1)) ∙ none j (ap (λ (t : Bool). t || elem j (tops r)) (eq-eqb j j refl)) in
     let (bare, amb) = not-busy σ g free in
     rw (bare, amb) (
-      ap (λ (l : List ℕ). j ∷ l) (q .0) ∙ sym (tops-put j g s (settleUnder σ r) ∙ inserted-front j (tops (settleUnder σ r)) (subst (Rising (suc j)) (q .0) (up .1))),
+      ap (λ (l : List ℕ). j ∷ l) (q .0) ∙ sym (tops-put j g s (settleUnder σ r) ∙ inserted-front j (tops (settleUnder σ r)) (subst (RisingFrom (suc j)) (q .0) (up .1))),
       held-put k w j g s (settleUnder σ r) (h .0) (h .1) (h .2) (q .1),
     )
 
 module _ (σ : Bindings) (k k₁ : ℕ → List ℕ) (w : ℕ → ClosureHead) (left R : List ℕ) (fuel : ℕ) where
-  pub settle-quiet : Rising 0 left → ((i : ℕ) → elem i left ≡ true → busyUnder σ (w i) ≡ false) → R ≡ left → ((j : ℕ) → k j ≡ k₁ j) → Settles σ k k₁ w left R fuel
+  pub settle-quiet : RisingFrom 0 left → ((i : ℕ) → elem i left ≡ true → busyUnder σ (w i) ≡ false) → R ≡ left → ((j : ℕ) → k j ≡ k₁ j) → Settles σ k k₁ w left R fuel
   settle-quiet up none y same b e h once m =
-      let q = quiet-body σ k w 0 b (subst (Rising 0) e up) (λ i c. none i (ap (elem i) e ∙ c)) h in (
+      let q = quiet-body σ k w 0 b (subst (RisingFrom 0) e up) (λ i c. none i (ap (elem i) e ∙ c)) h in (
         y ∙ e ∙ q .0,
         frame k k₁ w w (settleUnder σ b) (q .1) (λ n c. (same n, refl)),
         λ j c. same j,
       )
 
   pub settle-no-fuel : (x : ℕ) (l : List ℕ) → left ≡ x ∷ l → fuel ≡ 0 → Settles σ k k₁ w left R fuel
-  unfolding tops total
+  unfolding tops totalOver
   settle-no-fuel x l z d close e h once m = absurd (no-cons x l (sym z ∙ e))
   settle-no-fuel x l z d (part i g s r) e h once m = absurd (let o : ⊥ = omega arith in o)
 
   module _ (i : ℕ) (l X : List ℕ) (first : left ≡ i ∷ l) (rest : Settles σ k k₁ w l R (fuel - 1)) where
     -- a part that stays as it is
     pub settle-keeps : allSpent σ (w i) ≡ false → isAmbient (w i) ≡ false → X ≡ inserted i R → Settles σ k k₁ w left X fuel
-    unfolding settleBy tops total
+    unfolding settleBy tops totalOver
     settle-keeps b m x close e h once z = absurd (no-cons i l (sym first ∙ e))
     settle-keeps b m x (part j g s r) e h once z =
         let p : i ≡ j = ap (headOr 0) (sym first ∙ e) in
@@ -92,7 +92,7 @@ module _ (σ : Bindings) (k k₁ : ℕ → List ℕ) (w : ℕ → ClosureHead) (
     module _ (k₂ : ℕ → List ℕ) (S : List ℕ) (inside : Settles σ k₁ k₂ w (k₁ i) S (fuel - 1)) where
       -- an action with no items left: its body comes in its place
       pub settle-melts : allSpent σ (w i) ≡ true → X ≡ joined S R → Settles σ k k₂ w left X fuel
-      unfolding settleBy tops total
+      unfolding settleBy tops totalOver
       settle-melts b x close e h once z = absurd (no-cons i l (sym first ∙ e))
       settle-melts b x (part j g s r) e h once z =
           let p : i ≡ j = ap (headOr 0) (sym first ∙ e) in
@@ -109,7 +109,7 @@ module _ (σ : Bindings) (k k₁ : ℕ → List ℕ) (w : ℕ → ClosureHead) (
 
       -- an ambient: it stays, and its body is settled
       pub settle-enters : (k₃ : ℕ → List ℕ) → allSpent σ (w i) ≡ false → isAmbient (w i) ≡ true → X ≡ inserted i R → k₃ i ≡ S → ((j : ℕ) → (j ≡ i → ⊥) → k₂ j ≡ k₃ j) → Settles σ k k₃ w left X fuel
-      unfolding settleBy tops total
+      unfolding settleBy tops totalOver
       settle-enters k₃ b m x c d close e h once z = absurd (no-cons i l (sym first ∙ e))
       settle-enters k₃ b m x c d (part j g s r) e h once z =
           let p : i ≡ j = ap (headOr 0) (sym first ∙ e) in
@@ -131,14 +131,14 @@ module _ (σ : Bindings) (k k₁ : ℕ → List ℕ) (w : ℕ → ClosureHead) (
 
 -- ---- the parts at which settling looks, as a set
 
-member-low : (i : ℕ) (l : List ℕ) → Below 64 l → elem i l ≡ true → i < 64
+member-low : (i : ℕ) (l : List ℕ) → AllUnder 64 l → elem i l ≡ true → i < 64
 unfolding elem
 member-low i [] b e = absurd (true≢false (sym e))
 member-low i (x ∷ l) b e = byTest (eqb i x)
     (λ t. let z : i ≡ x = eqb-true i x t in omega (arith, b .0))
     (λ t. member-low i l (b .1) (rw t at e))
 
-module _ (left busy both′ : ℕ) (small : both′ < 2 ^ 64) (is : members both′ ≡ both (members left) (members busy)) where
+module _ (left busy both′ : ℕ) (small : both′ < 2 ^ 64) (is : members both′ ≡ inBoth (members left) (members busy)) where
   -- where none of them is among those of left
   pub none-busy : (σ : Bindings) (w : ℕ → ClosureHead) → Busy σ w (members busy) → both′ ≡ 0 → (i : ℕ) → elem i (members left) ≡ true → busyUnder σ (w i) ≡ false
   unfolding elem
@@ -153,4 +153,4 @@ module _ (left busy both′ : ℕ) (small : both′ < 2 ^ 64) (is : members both
   -- where one of them is, there is a first of left
   pub some-busy : (both′ ≡ 0 → ⊥) → left ≡ 0 → ⊥
   unfolding keep
-  some-busy n z = n (members-same both′ 0 small (omega arith) (is ∙ ap (λ (l : List ℕ). both l (members busy)) (ap members z ∙ members-empty) ∙ sym members-empty))
+  some-busy n z = n (members-same both′ 0 small (omega arith) (is ∙ ap (λ (l : List ℕ). inBoth l (members busy)) (ap members z ∙ members-empty) ∙ sym members-empty))

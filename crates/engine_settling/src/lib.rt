@@ -3,18 +3,18 @@
 // held_bindings, messages, arrays, sets and slices.
 use base_arrays::numbers_32;
 use base_arrays::numbers_64;
-use engine_states::State;
-use engine_states::item_deed;
-use engine_states::looked;
-use engine_states::part_item;
+use base_slices::tail;
+use base_slices::wide;
 use engine_held_bindings::bind;
 use engine_held_bindings::none;
 use engine_state_arrays::Placed;
 use engine_state_arrays::borrowed;
 use engine_state_arrays::lend;
+use engine_states::State;
+use engine_states::item_deed;
+use engine_states::looked;
+use engine_states::part_item;
 use read_messages::First;
-use base_slices::tail;
-use base_slices::wide;
 ghost use mathlib.Core.Path.{_≡_};
 ghost use mathlib.Core.List.{List, []};
 ghost use Prim.Native.Nat.{ℕ, _+_, _≤_, _<_};

@@ -9,7 +9,7 @@ use lib.ListN.{getD, set, length, length-set}
 use lib.Seq.{getD-set-same, getD-set-other, set-getD}
 use borrow.Author.Tests.{eqb-true, eqb-false, ltb-true, ltb-false}
 use Rattle.read_messages.specs.declared.First.{First}
-use Rattle.base_sets.specs.Sets.{members, elem, inserted, remove}
+use Rattle.base_sets.specs.Sets.{members, elem, inserted, removed}
 use Rattle.read_scripts.specs.Tree.{timesIn}
 use Rattle.read_scripts.specs.Represents.{bodyIn}
 use Rattle.engine_held_bindings.specs.Held.{bindingsOf}
@@ -140,7 +140,7 @@ module _ (sets numbers : List ℕ) (a o act aim busy : ℕ) (low : a < 64) (long
 
   -- the part a is read at its new offset
   module _ (script : List ℕ) (L : Lends script sets numbers) (d : Deed) (item : First) (kind : getD numbers a 0 ≡ 2) (eo : o ≡ getD numbers (128 + a) 0 + 1) (ea : act ≡ d .act) (em : aim ≡ d .aim)
-      (eb : members busy ≡ cond (d .busy) (inserted a (remove a (members (getD sets 130 0)))) (remove a (members (getD sets 130 0)))) (fits : act < 256)
+      (eb : members busy ≡ cond (d .busy) (inserted a (removed a (members (getD sets 130 0)))) (removed a (members (getD sets 130 0)))) (fits : act < 256)
       (first : o < 4294967295 → item ≡ firstOf (viewUnder (bindingsOf script (bindingsAt numbers))) (headOf script 2 (getD numbers (64 + a) 0) o))
       (deed : (p : Bool) → (d .act ≡ actOf 2 item) × ((i : ℕ) → i < 64 → elem i (members (d .aim)) ≡ aimOf 2 item p (nameIn (getD sets 129 0) (stretch 192 64 numbers) i)) × (d .busy ≡ busyOf 2 item)) where
     abbrev s : State
@@ -181,7 +181,7 @@ module _ (sets numbers : List ℕ) (a o act aim busy : ℕ) (low : a < 64) (long
         aims : r .looks .aims ≡ set (s .looks .aims) a (d .aim)
         aims = spent-aims ∙ ap (set (stretch 65 64 sets) a) em
 
-        busies : members (r .looks .busy) ≡ cond (d .busy) (inserted a (remove a (members (s .looks .busy)))) (remove a (members (s .looks .busy)))
+        busies : members (r .looks .busy) ≡ cond (d .busy) (inserted a (removed a (members (s .looks .busy)))) (removed a (members (s .looks .busy)))
         busies = ap members spent-busy ∙ eb
 
     pub spent-lends : Lends script sets₂ numbers₂

@@ -5,7 +5,7 @@ use mathlib.Core.List.{List}
 use mathlib.Core.Path.{_≡_, sym, ap, _∙_}
 use lib.ListN.{getD, set, length}
 use lib.Seq.{getD-set-same, getD-set-other, lt-length-set}
-use Rattle.base_sets.specs.Sets.{members, inserted, remove}
+use Rattle.base_sets.specs.Sets.{members, inserted, removed}
 use Rattle.read_scripts.specs.Represents.{bodyIn}
 
 -- the sets after that of b has become l
@@ -15,7 +15,7 @@ pub record Replaced (k k′ : ℕ → List ℕ) (b : ℕ) (l : List ℕ) : Type 
 
 -- the sets after p has gone out of one body into another
 pub record Carried (k k′ : ℕ → List ℕ) (p from into : ℕ) : Type 0 where
-  pub loses : k′ from ≡ remove p (k from)
+  pub loses : k′ from ≡ removed p (k from)
   pub gains : k′ into ≡ inserted p (k into)
   pub others : (i : ℕ) → (i ≡ from → ⊥) → (i ≡ into → ⊥) → k i ≡ k′ i
 
@@ -32,7 +32,7 @@ module _ (kids : List ℕ) where
   }
 
   -- first out of the one body, then into the other
-  pub set-carried : (p from into m n : ℕ) → from < length kids → into < length kids → (from ≡ into → ⊥) → members m ≡ remove p (bodyIn kids from)
+  pub set-carried : (p from into m n : ℕ) → from < length kids → into < length kids → (from ≡ into → ⊥) → members m ≡ removed p (bodyIn kids from)
       → members n ≡ inserted p (bodyIn (set kids from m) into) → Carried (bodyIn kids) (bodyIn (set (set kids from m) into n)) p from into
   set-carried p from into m n low high two loses gains = record {
     loses = ap members (getD-set-other (set kids from m) into from n 0 two) ∙ ap members (getD-set-same kids from m 0 low) ∙ loses;

@@ -8,11 +8,11 @@ use lib.Dec.{eqb, ltb, leb}
 use lib.ListN.{getD, set, length, drop}
 use lib.Seq.{getD-set-same, getD-set-other}
 use borrow.Author.Tests.{lt-ltb, le-ltb, eqb-true, eqb-false, eq-eqb, ne-eqb, leb-true, leb-false, le-leb, lt-leb}
-use Rattle.read_messages.specs.Message.{Message, name, variable, enter, exit, opens, empty, path, items, asks, firstItem}
+use Rattle.read_messages.specs.Message.{Message, name, variable, enter, exit, opens, emptyMessage, path, items, asks, firstItem}
 use Rattle.read_messages.specs.Spelling.{messageAt}
 use Rattle.read_messages.specs.declared.Named.{Named}
 use Rattle.read_messages.specs.declared.First.{First}
-use Rattle.base_sets.specs.Sets.{members, elem, inserted, remove}
+use Rattle.base_sets.specs.Sets.{members, elem, inserted, removed}
 use Rattle.base_sets.proofs.Lists.{elem-inserted, elem-remove}
 use Rattle.theory_closures.specs.Resolve.{resolve}
 use Rattle.read_scripts.specs.Tree.{ambient, action, receipt, output}
@@ -20,7 +20,7 @@ use Rattle.theory_machine.specs.Moves.{sameName, firstOf, headName}
 use Rattle.base_slices.proofs.Tests.{byTest}
 use Rattle.theory_closures.specs.Closure.{Action, ClosureHead, Bindings, itemsLeft, viewUnder, allSpent}
 use Rattle.engine_states.specs.Represents.{headOf, heads}
-use Rattle.engine_states.specs.Seen.{nameIn, isNothing, itemAct, itemName, actOf, aimOf, busyOf, isOutput, actUnder, aimUnder, busyUnder, Does, kept, Seen}
+use Rattle.engine_states.specs.Seen.{nameIn, isNothing, itemAct, itemName, actOf, aimOf, busyOf, isOutput, actUnder, aimUnder, busyUnder, Does, deedIn, Seen}
 use Rattle.engine_states.specs.declared.Looks.{Looks}
 use Rattle.engine_states.specs.declared.Deed.{Deed}
 use Rattle.engine_states.proofs.Heads.{by-kind}
@@ -33,7 +33,7 @@ some-asked (variable v) = refl
 some-asked (enter m) = refl
 some-asked (exit m) = refl
 some-asked (opens m) = refl
-some-asked empty = refl
+some-asked emptyMessage = refl
 some-asked (path m k) = refl
 
 none-left : (l : List Message) (o : ℕ) → isNothing (firstItem (drop o l)) ≡ leb (length l) o
@@ -100,33 +100,33 @@ module _ (script : List ℕ) (kind start offset : ℕ) where
 pub deed-same : (d e : Deed) → d .act ≡ e .act → d .aim ≡ e .aim → d .busy ≡ e .busy → d ≡ e
 deed-same d e a b c = λ i. record { act = a i; aim = b i; busy = c i }
 
-module _ (so : Bool) (i : ℕ) (l k : List ℕ) (x : k ≡ cond so (inserted i (remove i l)) (remove i l)) where
-  taken-out : (j : ℕ) → elem j (remove i l) ≡ (not (eqb i j) && elem j l)
+module _ (so : Bool) (i : ℕ) (l k : List ℕ) (x : k ≡ cond so (inserted i (removed i l)) (removed i l)) where
+  taken-out : (j : ℕ) → elem j (removed i l) ≡ (not (eqb i j) && elem j l)
   taken-out j = elem-remove j i l
 
   pub put-here : elem i k ≡ so
   put-here = ap (elem i) x ∙ byTest so
-      (λ t. rw t (elem-inserted i i (remove i l) ∙ ap (λ (b : Bool). b || elem i (remove i l)) (eq-eqb i i refl)))
+      (λ t. rw t (elem-inserted i i (removed i l) ∙ ap (λ (b : Bool). b || elem i (removed i l)) (eq-eqb i i refl)))
       (λ t. rw t (taken-out i ∙ ap (λ (b : Bool). not b && elem i l) (eq-eqb i i refl)))
 
   pub put-other : (j : ℕ) → (j ≡ i → ⊥) → elem j k ≡ elem j l
   put-other j n =
-      let gone : elem j (remove i l) ≡ elem j l = taken-out j ∙ ap (λ (b : Bool). not b && elem j l) (ne-eqb i j (λ e. n (sym e))) in
+      let gone : elem j (removed i l) ≡ elem j l = taken-out j ∙ ap (λ (b : Bool). not b && elem j l) (ne-eqb i j (λ e. n (sym e))) in
       ap (elem j) x ∙ byTest so
-      (λ t. rw t (elem-inserted j i (remove i l) ∙ ap (λ (b : Bool). b || elem j (remove i l)) (ne-eqb j i n) ∙ gone))
+      (λ t. rw t (elem-inserted j i (removed i l) ∙ ap (λ (b : Bool). b || elem j (removed i l)) (ne-eqb j i n) ∙ gone))
       (λ t. rw t gone)
 
 -- what is kept of part j by the arrays
 pub kept-set : (l r : Looks) (i : ℕ) (d : Deed) → i < length (l .acts) → i < length (l .aims) → r .acts ≡ set (l .acts) i (d .act) → r .aims ≡ set (l .aims) i (d .aim)
-    → members (r .busy) ≡ cond (d .busy) (inserted i (remove i (members (l .busy)))) (remove i (members (l .busy))) → kept r i ≡ d
-kept-set l r i d m n a b c = deed-same (kept r i) d
+    → members (r .busy) ≡ cond (d .busy) (inserted i (removed i (members (l .busy)))) (removed i (members (l .busy))) → deedIn r i ≡ d
+kept-set l r i d m n a b c = deed-same (deedIn r i) d
     (ap (λ (x : List ℕ). getD x i 0) a ∙ getD-set-same (l .acts) i (d .act) 0 m)
     (ap (λ (x : List ℕ). getD x i 0) b ∙ getD-set-same (l .aims) i (d .aim) 0 n)
     (put-here (d .busy) i (members (l .busy)) (members (r .busy)) c)
 
 pub kept-other : (l r : Looks) (i : ℕ) (d : Deed) → r .acts ≡ set (l .acts) i (d .act) → r .aims ≡ set (l .aims) i (d .aim)
-    → members (r .busy) ≡ cond (d .busy) (inserted i (remove i (members (l .busy)))) (remove i (members (l .busy))) → (j : ℕ) → (j ≡ i → ⊥) → kept r j ≡ kept l j
-kept-other l r i d a b c j n = deed-same (kept r j) (kept l j)
+    → members (r .busy) ≡ cond (d .busy) (inserted i (removed i (members (l .busy)))) (removed i (members (l .busy))) → (j : ℕ) → (j ≡ i → ⊥) → deedIn r j ≡ deedIn l j
+kept-other l r i d a b c j n = deed-same (deedIn r j) (deedIn l j)
     (ap (λ (x : List ℕ). getD x j 0) a ∙ getD-set-other (l .acts) i j (d .act) 0 n)
     (ap (λ (x : List ℕ). getD x j 0) b ∙ getD-set-other (l .aims) i j (d .aim) 0 n)
     (put-other (d .busy) i (members (l .busy)) (members (r .busy)) c j n)
@@ -135,10 +135,10 @@ kept-other l r i d a b c j n = deed-same (kept r j) (kept l j)
 
 -- those below i are right
 abbrev pub Done : Bindings → (ℕ → ClosureHead) → ℕ → Looks → Type 0
-Done σ w i l = (j : ℕ) → j < i → Does σ w (w j) (kept l j)
+Done σ w i l = (j : ℕ) → j < i → Does σ w (w j) (deedIn l j)
 
-pub done-next : (σ : Bindings) (w : ℕ → ClosureHead) (i : ℕ) (l r : Looks) (d : Deed) → Done σ w i l → Does σ w (w i) d → kept r i ≡ d
-    → ((j : ℕ) → (j ≡ i → ⊥) → kept r j ≡ kept l j) → Done σ w (i + 1) r
+pub done-next : (σ : Bindings) (w : ℕ → ClosureHead) (i : ℕ) (l r : Looks) (d : Deed) → Done σ w i l → Does σ w (w i) d → deedIn r i ≡ d
+    → ((j : ℕ) → (j ≡ i → ⊥) → deedIn r j ≡ deedIn l j) → Done σ w (i + 1) r
 done-next σ w i l r d D e here others j m = byTest (eqb j i)
     (λ t. rw (eqb-true j i t) (subst (Does σ w (w i)) (sym here) e))
     (λ t. subst (Does σ w (w j)) (sym (others j (eqb-false j i t))) (D j (omega (arith, eqb-false j i t))))
@@ -189,7 +189,7 @@ module _ (script kinds starts offsets : List ℕ) (σ : Bindings) (a : ℕ) (l r
 
   pub seen-spent : Seen σ w l → item ≡ firstOf (viewUnder σ) (headOf script (getD kinds a 0) (getD starts a 0) (getD offsets a 0 + 1))
       → ((o : Bool) → (d .act ≡ actOf 2 item) × ((i : ℕ) → i < 64 → elem i (members (d .aim)) ≡ aimOf 2 item o (nameIn (l .named) (l .names) i)) × (d .busy ≡ busyOf 2 item))
-      → kept r a ≡ d → ((j : ℕ) → (j ≡ a → ⊥) → kept r j ≡ kept l j) → r .named ≡ l .named → r .names ≡ l .names → Seen σ w′ r
+      → deedIn r a ≡ d → ((j : ℕ) → (j ≡ a → ⊥) → deedIn r j ≡ deedIn l j) → r .named ≡ l .named → r .names ≡ l .names → Seen σ w′ r
   seen-spent S first deed here others en es = record {
     names = λ i m. (λ q. nameIn (en q) (es q) i) ∙ S .names i m ∙ names-stay i;
     deeds =
@@ -206,7 +206,7 @@ module _ (script kinds starts offsets : List ℕ) (σ : Bindings) (a : ℕ) (l r
         (λ t.
         let n = eqb-false i a t in
         let e : w i ≡ w′ i = ap (headOf script (getD kinds i 0) (getD starts i 0)) (sym (getD-set-other offsets a i (getD offsets a 0 + 1) 0 n)) in
-        subst (Does σ w′ (w′ i)) (sym (others i n)) (subst (λ (h : ClosureHead). Does σ w′ h (kept l i)) e (does-alike σ w w′ (w i) (kept l i) outputs-stay names-stay (S .deeds i m))));
+        subst (Does σ w′ (w′ i)) (sym (others i n)) (subst (λ (h : ClosureHead). Does σ w′ h (deedIn l i)) e (does-alike σ w w′ (w i) (deedIn l i) outputs-stay names-stay (S .deeds i m))));
   }
 
 -- where no offset is 2^32 - 1 after one is raised, none was before

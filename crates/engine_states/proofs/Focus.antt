@@ -10,9 +10,9 @@ use native.Mathlib.Omega.{arith}
 use lib.Dec.{eqb, ltb}
 use borrow.Author.Tests.{ltb-true, ltb-false, lt-ltb, le-ltb}
 use Rattle.base_sets.specs.Sets.{elem}
-use Rattle.read_scripts.specs.Tree.{close, part, oneIf, tops, total, timesIn}
+use Rattle.read_scripts.specs.Tree.{close, part, oneIf, tops, totalOver, timesIn}
 use Rattle.read_scripts.specs.Represents.{Held}
-use Rattle.theory_machine.specs.Moves.{Moved, isNamed, headName, onward, inside, anywhere}
+use Rattle.theory_machine.specs.Moves.{MoveMade, isNamed, headName, onward, inside, anywhere}
 use Rattle.base_slices.proofs.Tests.{byTest}
 use Rattle.read_scripts.proofs.Numbers.{own-times}
 use Rattle.theory_closures.specs.Closure.{Action, ClosureHead, Closure, Bindings, viewUnder}
@@ -20,25 +20,25 @@ use Rattle.engine_states.specs.Searches.{firstPlace, placeBelow, place}
 use Rattle.engine_states.proofs.Holding.{numbersTotal, in-times, not-in, numbers-differ, frame}
 
 -- the search in one part of a body and in those beside it: u says whether the part has a name
-abbrev around : ℕ → ClosureHead → (b r : Closure) → (u : Bool) → (x z : Option (Moved Action)) → Option (Moved Action)
+abbrev around : ℕ → ClosureHead → (b r : Closure) → (u : Bool) → (x z : Option (MoveMade Action)) → Option (MoveMade Action)
 around i h b r u x z = orElse (onward (λ c. part i h c r) (cond u x none)) (onward (λ q. part i h b q) z)
 
 module _ (i : ℕ) (h : ClosureHead) (b r : Closure) where
-  around-none : (u : Bool) (x z : Option (Moved Action)) → x ≡ none → z ≡ none → around i h b r u x z ≡ none
+  around-none : (u : Bool) (x z : Option (MoveMade Action)) → x ≡ none → z ≡ none → around i h b r u x z ≡ none
   unfolding orElse onward
   around-none true x z d e = rw (d, e)
   around-none false x z d e = rw e
 
-  around-in : (m : Moved Action) (x z : Option (Moved Action)) → x ≡ some m → around i h b r true x z ≡ some (record { body = part i h (m .body) r; news = m .news })
+  around-in : (m : MoveMade Action) (x z : Option (MoveMade Action)) → x ≡ some m → around i h b r true x z ≡ some (record { body = part i h (m .body) r; news = m .news })
   unfolding orElse onward
   around-in m x z e = rw e
 
-  around-beside : (m : Moved Action) (u : Bool) (x z : Option (Moved Action)) → x ≡ none → z ≡ some m → around i h b r u x z ≡ some (record { body = part i h b (m .body); news = m .news })
+  around-beside : (m : MoveMade Action) (u : Bool) (x z : Option (MoveMade Action)) → x ≡ none → z ≡ some m → around i h b r u x z ≡ some (record { body = part i h b (m .body); news = m .news })
   unfolding orElse onward
   around-beside m true x z d e = rw (d, e)
   around-beside m false x z d e = rw e
 
-module _ (σ : Bindings) (k : ℕ → List ℕ) (w : ℕ → ClosureHead) (t : ℕ) (g : Closure → Option (Moved Action))
+module _ (σ : Bindings) (k : ℕ → List ℕ) (w : ℕ → ClosureHead) (t : ℕ) (g : Closure → Option (MoveMade Action))
     (needs : (s : Closure) → elem t (tops s) ≡ false → g s ≡ none) where
   -- ---- where t does not stand, and where it stands at the top, nothing is made inside
 
@@ -46,7 +46,7 @@ module _ (σ : Bindings) (k : ℕ → List ℕ) (w : ℕ → ClosureHead) (t : �
   unfolding orElse
   at-top s e = ap (orElse (g s)) e ∙ or-none (g s)
     where
-      or-none : (x : Option (Moved Action)) → orElse x none ≡ x
+      or-none : (x : Option (MoveMade Action)) → orElse x none ≡ x
       or-none none = refl
       or-none (some m) = refl
 
@@ -55,13 +55,13 @@ module _ (σ : Bindings) (k : ℕ → List ℕ) (w : ℕ → ClosureHead) (t : �
   not-top s e = rw (needs s e)
 
   inside-out : (f : Closure) → timesIn t f ≡ 0 → inside (viewUnder σ) g f ≡ none
-  unfolding inside total
+  unfolding inside totalOver
   inside-out close e = refl
   inside-out (part i h b r) e =
       around-none i h b r (isNamed (headName (viewUnder σ) h)) _ _ (not-top b (not-in t b (omega arith)) ∙ inside-out b (omega arith)) (inside-out r (omega arith))
 
   inside-top : (f : Closure) → timesIn t f ≤ 1 → elem t (tops f) ≡ true → inside (viewUnder σ) g f ≡ none
-  unfolding inside total tops elem
+  unfolding inside totalOver tops elem
   inside-top close n e = refl
   inside-top (part i h b r) n e = byTest (eqb t i)
       (λ u.
@@ -77,22 +77,22 @@ module _ (σ : Bindings) (k : ℕ → List ℕ) (w : ℕ → ClosureHead) (t : �
   -- ---- the body in which t stands
 
   -- the bodies and heads after the body `here` of the part b has become n's: nothing else has changed
-  pub record Change (b : ℕ) (here : Closure) (k′ : ℕ → List ℕ) (w′ : ℕ → ClosureHead) (n : Moved Action) : Type 0 where
+  pub record Change (b : ℕ) (here : Closure) (k′ : ℕ → List ℕ) (w′ : ℕ → ClosureHead) (n : MoveMade Action) : Type 0 where
     pub own : k′ b ≡ tops (n .body)
     pub held : Held k′ w′ (n .body)
     pub head : w b ≡ w′ b
     pub rest : (i : ℕ) → (i ≡ b → ⊥) → timesIn i here ≡ 0 → (k i ≡ k′ i) × (w i ≡ w′ i)
 
   -- what then becomes of f, whose search came to look
-  pub record Made (f here : Closure) (k′ : ℕ → List ℕ) (w′ : ℕ → ClosureHead) (n : Moved Action) (look : Option (Moved Action)) : Type 0 where
-    pub moved : Moved Action
+  pub record Made (f here : Closure) (k′ : ℕ → List ℕ) (w′ : ℕ → ClosureHead) (n : MoveMade Action) (look : Option (MoveMade Action)) : Type 0 where
+    pub moved : MoveMade Action
     pub is : look ≡ some moved
     pub held : Held k′ w′ (moved .body)
     pub totals : (v : ℕ → ℕ) → numbersTotal v (moved .body) + numbersTotal v here ≡ numbersTotal v f + numbersTotal v (n .body)
     pub news : moved .news ≡ n .news
 
   -- b is the part inside f in whose body, `here`, t stands
-  pub record Focus (f : Closure) (b : ℕ) (look : Option (Moved Action)) : Type 0 where
+  pub record Focus (f : Closure) (b : ℕ) (look : Option (MoveMade Action)) : Type 0 where
     pub here : Closure
     pub stands : elem t (tops here) ≡ true
     pub body : k b ≡ tops here
@@ -101,19 +101,19 @@ module _ (σ : Bindings) (k : ℕ → List ℕ) (w : ℕ → ClosureHead) (t : �
     pub apart : timesIn b here ≡ 0
     pub within : 1 ≤ timesIn b f
     pub fails : g here ≡ none → look ≡ none
-    pub works : (n : Moved Action) → g here ≡ some n → (m : Moved Action) × (look ≡ some m)
-    pub makes : (n : Moved Action) (k′ : ℕ → List ℕ) (w′ : ℕ → ClosureHead) → g here ≡ some n → Change b here k′ w′ n
+    pub works : (n : MoveMade Action) → g here ≡ some n → (m : MoveMade Action) × (look ≡ some m)
+    pub makes : (n : MoveMade Action) (k′ : ℕ → List ℕ) (w′ : ℕ → ClosureHead) → g here ≡ some n → Change b here k′ w′ n
         → (M : Made f here k′ w′ n look) × (tops (M .moved .body) ≡ tops f)
 
   -- what does not stand in f has not changed
-  outside : (f : Closure) (b : ℕ) (look : Option (Moved Action)) (F : Focus f b look) (k′ : ℕ → List ℕ) (w′ : ℕ → ClosureHead) (n : Moved Action)
+  outside : (f : Closure) (b : ℕ) (look : Option (MoveMade Action)) (F : Focus f b look) (k′ : ℕ → List ℕ) (w′ : ℕ → ClosureHead) (n : MoveMade Action)
       → Change b (F .here) k′ w′ n → (j : ℕ) → timesIn j f ≡ 0 → (k j ≡ k′ j) × (w j ≡ w′ j)
   outside f b look F k′ w′ n C j z =
       C .rest j (λ e. numbers-differ b j f (F .within) z (sym e)) (omega (arith, F .less (λ i. oneIf (eqb j i))))
 
   module _ (i : ℕ) (h : ClosureHead) (s r : Closure) (once : (j : ℕ) → timesIn j (part i h s r) ≤ 1) (p : Held k w (part i h s r)) where
-    beside : (b : ℕ) (u : Bool) (x z : Option (Moved Action)) → x ≡ none → Focus r b z → Focus (part i h s r) b (around i h s r u x z)
-    unfolding total tops
+    beside : (b : ℕ) (u : Bool) (x z : Option (MoveMade Action)) → x ≡ none → Focus r b z → Focus (part i h s r) b (around i h s r u x z)
+    unfolding totalOver tops
     beside b u x z d F = record {
       here = F .here;
       stands = F .stands;
@@ -145,8 +145,8 @@ module _ (σ : Bindings) (k : ℕ → List ℕ) (w : ℕ → ClosureHead) (t : �
           );
     }
 
-    into : (b : ℕ) (x : Option (Moved Action)) → Focus s b x → Focus (part i h s r) b (around i h s r true x (inside (viewUnder σ) g r))
-    unfolding total tops
+    into : (b : ℕ) (x : Option (MoveMade Action)) → Focus s b x → Focus (part i h s r) b (around i h s r true x (inside (viewUnder σ) g r))
+    unfolding totalOver tops
     into b x F = record {
       here = F .here;
       stands = F .stands;
@@ -178,8 +178,8 @@ module _ (σ : Bindings) (k : ℕ → List ℕ) (w : ℕ → ClosureHead) (t : �
           );
     }
 
-    right-here : (x : Option (Moved Action)) → x ≡ g s → elem t (tops s) ≡ true → Focus (part i h s r) i (around i h s r true x (inside (viewUnder σ) g r))
-    unfolding total tops
+    right-here : (x : Option (MoveMade Action)) → x ≡ g s → elem t (tops s) ≡ true → Focus (part i h s r) i (around i h s r true x (inside (viewUnder σ) g r))
+    unfolding totalOver tops
     right-here x q e = record {
       here = s;
       stands = e;
@@ -208,7 +208,7 @@ module _ (σ : Bindings) (k : ℕ → List ℕ) (w : ℕ → ClosureHead) (t : �
           );
     }
 
-  abbrev Seen : Closure → ℕ → Option (Moved Action) → Type 0
+  abbrev Seen : Closure → ℕ → Option (MoveMade Action) → Type 0
   Seen f p look = ((p ≡ 65) × (look ≡ none)) ⊎ ((p < 64) × Focus f p look)
 
   past : (p q : ℕ) → p ≡ 65 → firstPlace p q ≡ q
@@ -219,7 +219,7 @@ module _ (σ : Bindings) (k : ℕ → List ℕ) (w : ℕ → ClosureHead) (t : �
 
   -- the search finds the body, or there is nothing to change
   focus : (f : Closure) → ((j : ℕ) → timesIn j f ≤ 1) → ((j : ℕ) → 64 ≤ j → timesIn j f ≡ 0) → Held k w f → Seen f (placeBelow σ t f) (inside (viewUnder σ) g f)
-  unfolding total inside placeBelow
+  unfolding totalOver inside placeBelow
   focus close once low held = inl (refl, refl)
   focus (part i h s r) once low held =
       go (isNamed (headName (viewUnder σ) h)) (elem t (tops s)) refl
@@ -229,10 +229,10 @@ module _ (σ : Bindings) (k : ℕ → List ℕ) (w : ℕ → ClosureHead) (t : �
       small : i < 64
       small = byTest (ltb i 64) (λ u. ltb-true i 64 u) (λ u. absurd (let z : ⊥ = omega (arith, low i (ltb-false i 64 u), own-times i) in z))
 
-      look : Bool → Option (Moved Action) → Option (Moved Action)
+      look : Bool → Option (MoveMade Action) → Option (MoveMade Action)
       look u x = around i h s r u x (inside (viewUnder σ) g r)
 
-      next : (p : ℕ) (u : Bool) (x : Option (Moved Action)) → p ≡ 65 → x ≡ none → Seen r (placeBelow σ t r) (inside (viewUnder σ) g r)
+      next : (p : ℕ) (u : Bool) (x : Option (MoveMade Action)) → p ≡ 65 → x ≡ none → Seen r (placeBelow σ t r) (inside (viewUnder σ) g r)
           → Seen (part i h s r) (firstPlace p (placeBelow σ t r)) (look u x)
       next p u x e d (inl z) = inl (past p (placeBelow σ t r) e ∙ z .0, around-none i h s r u x _ d (z .1))
       next p u x e d (inr z) =
@@ -259,8 +259,8 @@ module _ (σ : Bindings) (k : ℕ → List ℕ) (w : ℕ → ClosureHead) (t : �
     pub less : (v : ℕ → ℕ) → numbersTotal v here ≤ numbersTotal v f
     pub apart : timesIn b here ≡ 0
     pub fails : g here ≡ none → anywhere (viewUnder σ) g f ≡ none
-    pub works : (n : Moved Action) → g here ≡ some n → (m : Moved Action) × (anywhere (viewUnder σ) g f ≡ some m)
-    pub makes : (n : Moved Action) (k′ : ℕ → List ℕ) (w′ : ℕ → ClosureHead) → g here ≡ some n → Change b here k′ w′ n
+    pub works : (n : MoveMade Action) → g here ≡ some n → (m : MoveMade Action) × (anywhere (viewUnder σ) g f ≡ some m)
+    pub makes : (n : MoveMade Action) (k′ : ℕ → List ℕ) (w′ : ℕ → ClosureHead) → g here ≡ some n → Change b here k′ w′ n
         → (M : Made f here k′ w′ n (anywhere (viewUnder σ) g f)) × (k′ 64 ≡ tops (M .moved .body))
 
   -- THEOREM: a rewriting that needs t is made nowhere but in the body in which t stands.

@@ -8,10 +8,10 @@ use mathlib.Core.Path.{_≡_, refl, sym, ap, _∙_, subst}
 use native.Mathlib.Omega.{arith}
 use lib.Dec.{eqb, ltb}
 use borrow.Author.Tests.{eqb-true, eq-eqb}
-use Rattle.base_sets.specs.Sets.{elem, inserted, remove, joined, keep, isNone}
-use Rattle.read_scripts.specs.Tree.{Body, close, part, oneIf, tops, total, timesIn, put, merge}
+use Rattle.base_sets.specs.Sets.{elem, inserted, removed, joined, keep, isNone}
+use Rattle.read_scripts.specs.Tree.{Body, close, part, oneIf, tops, totalOver, timesIn, put, mergeParts}
 use Rattle.read_scripts.specs.Represents.{Held}
-use Rattle.theory_machine.specs.Bodies.{find, removePart, alter, holder}
+use Rattle.theory_machine.specs.Bodies.{findPart, removePart, alter, holder}
 use Rattle.base_slices.proofs.Tests.{byTest}
 use Rattle.read_scripts.proofs.Numbers.{own-times}
 use Rattle.theory_machine.proofs.Options.{some-is, none≢some}
@@ -19,7 +19,7 @@ use Rattle.theory_machine.proofs.Sums.{removePart-none, find-total}
 
 -- a sum over the numbers of all parts, at any depth
 abbrev pub numbersTotal : {H : Type 0} → (ℕ → ℕ) → Body H → ℕ
-numbersTotal v b = total (λ i h. v i) b
+numbersTotal v b = totalOver (λ i h. v i) b
 
 pub no-cons : (x : ℕ) (l : List ℕ) → x ∷ l ≡ [] → ⊥
 no-cons x l e = true≢false (sym (ap isNone e))
@@ -33,7 +33,7 @@ module _ {H : Type 0} where
   tops-put n g s (part i h b r) = byTest (ltb n i) (λ t. rw t)
       (λ t. byTest (eqb n i) (λ u. rw (t, u)) (λ u. rw (t, u) (ap (λ (l : List ℕ). i ∷ l) (tops-put n g s r))))
 
-  pub tops-removePart : (n : ℕ) (b : Body H) → tops (removePart n b) ≡ remove n (tops b)
+  pub tops-removePart : (n : ℕ) (b : Body H) → tops (removePart n b) ≡ removed n (tops b)
   unfolding tops removePart keep
   tops-removePart n close = refl
   tops-removePart n (part i h b r) = byTest (eqb n i) (λ t. rw t (tops-removePart n r)) (λ t. rw t (ap (λ (l : List ℕ). i ∷ l) (tops-removePart n r)))
@@ -43,14 +43,14 @@ module _ {H : Type 0} where
   tops-alter n f g close = refl
   tops-alter n f g (part i h b r) = byTest (eqb n i) (λ t. rw t) (λ t. rw t (ap (λ (l : List ℕ). i ∷ l) (tops-alter n f g r)))
 
-  pub tops-merge : (b c : Body H) → tops (merge b c) ≡ joined (tops b) (tops c)
-  unfolding tops merge joined
+  pub tops-merge : (b c : Body H) → tops (mergeParts b c) ≡ joined (tops b) (tops c)
+  unfolding tops mergeParts joined
   tops-merge close c = refl
-  tops-merge (part i h b r) c = tops-put i h b (merge r c) ∙ ap (inserted i) (tops-merge r c)
+  tops-merge (part i h b r) c = tops-put i h b (mergeParts r c) ∙ ap (inserted i) (tops-merge r c)
 
   -- a number among them stands in the body, and one that stands nowhere is not among them
   pub in-times : (n : ℕ) (b : Body H) → elem n (tops b) ≡ true → 1 ≤ timesIn n b
-  unfolding tops elem total
+  unfolding tops elem totalOver
   in-times n close e = absurd (true≢false (sym e))
   in-times n (part i h b r) e = byTest (eqb n i)
       (λ t. rw t (omega arith))
@@ -67,7 +67,7 @@ module _ {H : Type 0} where
 -- bodies and heads that agree at the numbers of a tree hold the same tree
 pub frame : {H : Type 0} (k k′ : ℕ → List ℕ) (w w′ : ℕ → H) (b : Body H) → Held k w b
     → ((i : ℕ) → 1 ≤ timesIn i b → (k i ≡ k′ i) × (w i ≡ w′ i)) → Held k′ w′ b
-unfolding total
+unfolding totalOver
 frame k k′ w w′ close p a = tt
 frame k k′ w w′ (part i h b r) p a =
     let e = a i (omega (arith, own-times i)) in (
@@ -89,28 +89,28 @@ module _ {H : Type 0} (k : ℕ → List ℕ) (w : ℕ → H) where
   held-put n g s (part i h b r) e d q p = byTest (ltb n i) (λ t. rw t (e, d, q, p))
       (λ t. byTest (eqb n i) (λ u. rw (t, u) p) (λ u. rw (t, u) (p .0, p .1, p .2, held-put n g s r e d q (p .3))))
 
-  pub held-merge : (b c : Body H) → Held k w b → Held k w c → Held k w (merge b c)
-  unfolding merge
+  pub held-merge : (b c : Body H) → Held k w b → Held k w c → Held k w (mergeParts b c)
+  unfolding mergeParts
   held-merge close c p q = q
-  held-merge (part i h b r) c p q = held-put i h b (merge r c) (p .0) (p .1) (p .2) (held-merge r c (p .3) q)
+  held-merge (part i h b r) c p q = held-put i h b (mergeParts r c) (p .0) (p .1) (p .2) (held-merge r c (p .3) q)
 
   -- what is looked up in a body that is held
   pub record Found (n : ℕ) (b : Body H) : Type 0 where
     pub room : Body H
-    pub found : find n b ≡ some (w n, room)
+    pub found : findPart n b ≡ some (w n, room)
     pub own : k n ≡ tops room
     pub held : Held k w room
 
   pub found-in : (n : ℕ) (b : Body H) → Held k w b → elem n (tops b) ≡ true → Found n b
-  unfolding find tops elem
+  unfolding findPart tops elem
   found-in n close p e = absurd (true≢false (sym e))
   found-in n (part i h b r) p e = byTest (eqb n i)
       (λ t. record { room = b; found = rw (t, eqb-true n i t, p .1); own = rw (eqb-true n i t) (p .0); held = p .2 })
       (λ t. let F = found-in n r (p .3) (rw t at e) in record { room = F .room; found = rw t (F .found); own = F .own; held = F .held })
 
   -- what was looked up
-  pub found-inv : (n : ℕ) (b s : Body H) (h : H) → Held k w b → find n b ≡ some (h, s) → (elem n (tops b) ≡ true) × (w n ≡ h) × (k n ≡ tops s) × Held k w s
-  unfolding find tops elem
+  pub found-inv : (n : ℕ) (b s : Body H) (h : H) → Held k w b → findPart n b ≡ some (h, s) → (elem n (tops b) ≡ true) × (w n ≡ h) × (k n ≡ tops s) × Held k w s
+  unfolding findPart tops elem
   found-inv n close s h p e = none≢some e
   found-inv n (part i g b r) s h p e = byTest (eqb n i)
       (λ t.
@@ -131,7 +131,7 @@ module _ {H : Type 0} (k : ℕ → List ℕ) (w : ℕ → H) where
       omega (arith, in-times a (P .room) (ap (elem a) (sym (P .own)) ∙ m), find-total (λ j g. oneIf (eqb a j)) p b (w p, P .room) (P .found))
 
   pub holder-is : (a p : ℕ) (b : Body H) → Held k w b → timesIn a b ≤ 1 → elem p (tops b) ≡ true → elem a (k p) ≡ true → holder a b ≡ some p
-  unfolding holder tops elem total
+  unfolding holder tops elem totalOver
   holder-is a p close h c e m = absurd (true≢false (sym e))
   holder-is a p (part i g s r) h c e m = byTest (eqb p i)
       (λ t. let z : p ≡ i = eqb-true p i t in rw (ap (elem a) (sym (h .0) ∙ ap k (sym z)) ∙ m) (ap some (sym z)))
@@ -150,17 +150,17 @@ module _ {H : Type 0} (k : ℕ → List ℕ) (w : ℕ → H) where
       ))
       (λ t. let q = holder-inv a p r (h .3) (rw t at e) in (byTest (eqb p i) (λ u. rw u) (λ u. rw u (q .0)), q .1))
 
-pub not-found : {H : Type 0} (n : ℕ) (b : Body H) → elem n (tops b) ≡ false → find n b ≡ none
-unfolding find tops elem
+pub not-found : {H : Type 0} (n : ℕ) (b : Body H) → elem n (tops b) ≡ false → findPart n b ≡ none
+unfolding findPart tops elem
 not-found n close e = refl
 not-found n (part i h b r) e = byTest (eqb n i) (λ t. absurd (true≢false (rw t at e))) (λ t. rw t (not-found n r (rw t at e)))
 
 -- the body with one of its own parts changed: what else stands in it is held as it was
 module _ {H : Type 0} where
-  pub held-alter : (k k′ : ℕ → List ℕ) (w w′ : ℕ → H) (n : ℕ) (f : H → H) (g : Body H → Body H) (b room : Body H) → find n b ≡ some (w n, room) → timesIn n b ≤ 1
+  pub held-alter : (k k′ : ℕ → List ℕ) (w w′ : ℕ → H) (n : ℕ) (f : H → H) (g : Body H → Body H) (b room : Body H) → findPart n b ≡ some (w n, room) → timesIn n b ≤ 1
       → Held k w b → ((i : ℕ) → 1 ≤ timesIn i (removePart n b) → (k i ≡ k′ i) × (w i ≡ w′ i))
       → k′ n ≡ tops (g room) → w′ n ≡ f (w n) → Held k′ w′ (g room) → Held k′ w′ (alter n f g b)
-  unfolding find removePart alter total
+  unfolding findPart removePart alter totalOver
   held-alter k k′ w w′ n f g close room e m p a x y q = none≢some e
   held-alter k k′ w w′ n f g (part i h b r) room e m p a x y q = byTest (eqb n i)
       (λ t.

@@ -10,7 +10,7 @@ use lib.Seq.{getD-set-same, getD-set-other}
 use borrow.Author.Tests.{eqb-true, eqb-false, ltb-true, ltb-false, lt-ltb, le-ltb, ne-eqb}
 use Rattle.read_messages.specs.declared.Named.{Named}
 use Rattle.read_messages.specs.declared.Named.the-variants.{Called, Nameless}
-use Rattle.base_sets.specs.Sets.{members, elem, inserted, both}
+use Rattle.base_sets.specs.Sets.{members, elem, inserted, inBoth}
 use Rattle.base_sets.proofs.Lists.{elem-inserted}
 use Rattle.base_sets.proofs.Members.{elem-keep}
 use Rattle.theory_machine.specs.Moves.{isThat}
@@ -104,7 +104,7 @@ filled-next n i named named′ names names′ m F e x = record {
 
 -- those of the set `named` at which the name is n
 pub called-set : (named : ℕ) (names : List ℕ) (n : ℕ) (found : List ℕ) → ((j : ℕ) → j < 64 → elem j found ≡ eqb (getD names j 0) n)
-    → (j : ℕ) → j < 64 → elem j (both found (members named)) ≡ isThat n (nameIn named names j)
+    → (j : ℕ) → j < 64 → elem j (inBoth found (members named)) ≡ isThat n (nameIn named names j)
 unfolding nameIn
 called-set named names n found u j m = elem-keep (λ k. elem k (members named)) j found ∙ ap (λ (t : Bool). elem j (members named) && t) (u j m) ∙ byTest (elem j (members named))
     (λ t. rw t)

@@ -11,7 +11,7 @@ use lib.ListN.{getD, length}
 use Rattle.base_sets.specs.Sets.{elem}
 use Rattle.read_scripts.specs.Tree.{oneIf, tops}
 use Rattle.read_scripts.specs.Represents.{bodyIn}
-use Rattle.theory_machine.specs.Moves.{Moved, anywhere}
+use Rattle.theory_machine.specs.Moves.{MoveMade, anywhere}
 use Rattle.theory_machine.proofs.Inversion.{Here}
 use Rattle.theory_machine.proofs.Sums.{here-total, by-numbers}
 use Rattle.theory_closures.specs.Closure.{Action, ClosureHead, Closure, Bindings, viewUnder}
@@ -22,17 +22,17 @@ use Rattle.engine_states.proofs.Holding.{numbersTotal}
 use Rattle.engine_states.proofs.Focus.{Change, Site, site}
 
 -- No sum over the numbers grows, and a receipt takes two parts away.
-abbrev pub Shrinks : (here : Closure) (n : Moved Action) → Type 0
+abbrev pub Shrinks : (here : Closure) (n : MoveMade Action) → Type 0
 Shrinks here n = (v : ℕ → ℕ) (w : ℕ) → ((i j : ℕ) → w ≤ v i + v j) → numbersTotal v (n .body) + w * length (n .news) ≤ numbersTotal v here
 
-pub shrinks : (σ : Bindings) (a t : ℕ) (here : Closure) (n : Moved Action) → Here (viewUnder σ) a t here (n .body) (n .news) → Shrinks here n
+pub shrinks : (σ : Bindings) (a t : ℕ) (here : Closure) (n : MoveMade Action) → Here (viewUnder σ) a t here (n .body) (n .news) → Shrinks here n
 shrinks σ a t here n x v w least = here-total (viewUnder σ) (λ i h. v i) w (by-numbers (viewUnder σ) v w (λ u m b. omega arith) least) a t here (n .body) (n .news) x
 
-pub fewer : (here : Closure) (n : Moved Action) → Shrinks here n → (v : ℕ → ℕ) → numbersTotal v (n .body) ≤ numbersTotal v here
+pub fewer : (here : Closure) (n : MoveMade Action) → Shrinks here n → (v : ℕ → ℕ) → numbersTotal v (n .body) ≤ numbersTotal v here
 fewer here n l v = omega (arith, l v 0 (λ i j. omega arith))
 
 module _ (script kinds starts : List ℕ) (weight spent : ℕ) (s : State) (f : Closure) (R : Represents script kinds starts weight spent s f) (t : ℕ)
-    (g : Closure → Option (Moved Action)) (needs : (b : Closure) → elem t (tops b) ≡ false → g b ≡ none) where
+    (g : Closure → Option (MoveMade Action)) (needs : (b : Closure) → elem t (tops b) ≡ false → g b ≡ none) where
   abbrev σ : Bindings
   σ = boundIn script s
 
@@ -60,12 +60,12 @@ module _ (script kinds starts : List ℕ) (weight spent : ℕ) (s : State) (f : 
 
   -- s′ stands for what the move makes of the closure, before it is settled
   pub record After (spent′ : ℕ) (s′ : State) (news : Bindings) : Type 0 where
-    pub moved : Moved Action
+    pub moved : MoveMade Action
     pub is : anywhere (viewUnder σ) g f ≡ some moved
     pub told : moved .news ≡ news
     pub represents : Represents script kinds starts weight spent′ s′ (moved .body)
 
-  pub after : (b : ℕ) (S : At b) (n : Moved Action) → g (S .here) ≡ some n → Shrinks (S .here) n → (spent′ : ℕ) (s′ : State)
+  pub after : (b : ℕ) (S : At b) (n : MoveMade Action) → g (S .here) ≡ some n → Shrinks (S .here) n → (spent′ : ℕ) (s′ : State)
       → Change σ k w t g needs b (S .here) (bodyIn (s′ .kids)) (heads script kinds starts (s′ .offsets)) n
       → s′ .bindings .first + length (n .news) ≡ s .bindings .first → ((i : ℕ) → getD (s′ .offsets) i 0 ≤ spent′) → After spent′ s′ (n .news)
   after b S n e l spent′ s′ C ef low =

@@ -9,7 +9,7 @@ use native.Mathlib.Omega.{arith}
 use lib.Dec.{eqb, ltb}
 use borrow.Author.Tests.{eqb-true, eq-eqb, ltb-true, ltb-false, lt-ltb}
 use Rattle.base_sets.specs.Sets.{elem}
-use Rattle.read_scripts.specs.Tree.{close, part, oneIf, tops, total, timesIn}
+use Rattle.read_scripts.specs.Tree.{close, part, oneIf, tops, totalOver, timesIn}
 use Rattle.read_scripts.specs.Represents.{Held}
 use Rattle.theory_machine.specs.Moves.{isNamed, headName}
 use Rattle.base_slices.proofs.Tests.{byTest}
@@ -30,14 +30,14 @@ data Inside (σ : Bindings) (x : ℕ) : (b : ℕ) → Closure → Type 0 where
 -- ---- counting
 
 inside-times : (σ : Bindings) (x b : ℕ) {f : Closure} → Inside σ x b f → (1 ≤ timesIn x f) × (1 ≤ timesIn b f)
-unfolding total
+unfolding totalOver
 inside-times σ x b (directly {s = s} n e) = (omega (arith, in-times x s e), omega (arith, own-times b))
 inside-times σ x b (deeper n p) = let c = inside-times σ x b p in (omega (arith, c .0), omega (arith, c .1))
 inside-times σ x b (beside p) = let c = inside-times σ x b p in (omega (arith, c .0), omega (arith, c .1))
 
 -- what stands inside stands not at the top too, where no number stands twice
 inside-only : (σ : Bindings) (x b : ℕ) {f : Closure} → Inside σ x b f → timesIn x f ≤ 1 → elem x (tops f) ≡ false
-unfolding total tops elem
+unfolding totalOver tops elem
 inside-only σ x b (directly {i = i} {s = s} {r = r} n e) m = byTest (eqb x i)
     (λ t. absurd (let z : ⊥ = omega (arith, in-times x s e, rw t at m) in z))
     (λ t. rw t (not-in x r (omega (arith, in-times x s e))))
@@ -50,7 +50,7 @@ inside-only σ x b (beside {i = i} {s = s} {r = r} p) m = byTest (eqb x i)
 
 -- no part stands in its own body
 inside-apart : (σ : Bindings) (x b : ℕ) {f : Closure} → Inside σ x b f → timesIn x f ≤ 1 → x ≡ b → ⊥
-unfolding total
+unfolding totalOver
 inside-apart σ x b (directly {s = s} n e) m q = let c : 1 ≤ oneIf (eqb x b) = omega (arith, ap oneIf (eq-eqb x b q)) in omega (arith, in-times x s e)
 inside-apart σ x b (deeper n p) m q = inside-apart σ x b p (omega arith) q
 inside-apart σ x b (beside p) m q = inside-apart σ x b p (omega arith) q
@@ -58,7 +58,7 @@ inside-apart σ x b (beside p) m q = inside-apart σ x b p (omega arith) q
 -- ---- the place is where it stands
 
 pub nowhere : (σ : Bindings) (x : ℕ) (f : Closure) → timesIn x f ≡ 0 → placeBelow σ x f ≡ 65
-unfolding total placeBelow
+unfolding totalOver placeBelow
 nowhere σ x close e = refl
 nowhere σ x (part i h s r) e =
     go (isNamed (headName (viewUnder σ) h)) (not-in x s (omega arith)) (nowhere σ x s (omega arith)) (nowhere σ x r (omega arith))
@@ -85,7 +85,7 @@ below b f low m = byTest (ltb b 64) (λ u. ltb-true b 64 u) (λ u. absurd (let z
 
 module _ (σ : Bindings) (x : ℕ) where
   inside-place : (b : ℕ) {f : Closure} → Inside σ x b f → timesIn x f ≤ 1 → ((j : ℕ) → 64 ≤ j → timesIn j f ≡ 0) → placeBelow σ x f ≡ b
-  unfolding total placeBelow
+  unfolding totalOver placeBelow
   inside-place b (directly {i = i} {h = h} {s = s} {r = r} n e) m low =
       rw (n, e, lt-ltb i 65 (let l : i < 64 = below i (part i h s r) low (omega (arith, own-times i)) in omega arith))
   inside-place b (deeper {i = i} {h = h} {s = s} {r = r} n p) m low =

@@ -89,13 +89,13 @@ pub record Does (σ : Bindings) (w : ℕ → ClosureHead) (h : ClosureHead) (d :
   pub settles : d .busy ≡ busyUnder σ h
 
 -- what is kept of part i
-abbrev pub kept : Looks → (i : ℕ) → Deed
-kept l i = record { act = getD (l .acts) i 0; aim = getD (l .aims) i 0; busy = elem i (members (l .busy)) }
+abbrev pub deedIn : Looks → (i : ℕ) → Deed
+deedIn l i = record { act = getD (l .acts) i 0; aim = getD (l .aims) i 0; busy = elem i (members (l .busy)) }
 
 -- what is kept is right
 pub record Seen (σ : Bindings) (w : ℕ → ClosureHead) (l : Looks) : Type 0 where
   pub names : (i : ℕ) → i < 64 → nameIn (l .named) (l .names) i ≡ headName (viewUnder σ) (w i)
-  pub deeds : (i : ℕ) → i < 64 → Does σ w (w i) (kept l i)
+  pub deeds : (i : ℕ) → i < 64 → Does σ w (w i) (deedIn l i)
 
 -- l has the parts at which settling looks, and kinds says which of them are ambients
 abbrev pub Busy : Bindings → (ℕ → ClosureHead) → List ℕ → Type 0

@@ -1,12 +1,12 @@
 // What the engine keeps of a closure: its state, what is asked of the parts again and again, and the weight. It rests on the
 // promises of held_bindings, first_items, bindings, messages, sets and slices.
+use base_slices::tail;
+use base_slices::wide;
 use engine_bindings::name_at;
 use engine_first_items::first_item;
 use engine_held_bindings::Bindings;
 use read_messages::First;
 use read_messages::Named;
-use base_slices::tail;
-use base_slices::wide;
 ghost use mathlib.Core.Path.{_≡_};
 ghost use mathlib.Core.Bool.{Bool, true, false, cond};
 ghost use mathlib.Core.List.{List};
@@ -22,7 +22,7 @@ ghost use Rattle.theory_machine.specs.Moves.{isThat, sameName, headName, firstO
 ghost use Rattle.theory_closures.specs.Closure.{ClosureHead, Closure, viewUnder};
 ghost use Rattle.engine_states.specs.Searches.{CountsParts};
 ghost use Rattle.engine_states.specs.Represents.{headOf, heads, Counted, Ready, Represents};
-ghost use Rattle.engine_states.specs.Seen.{nameIn, actOf, aimOf, busyOf, isOutput, Does, kept, Seen};
+ghost use Rattle.engine_states.specs.Seen.{nameIn, actOf, aimOf, busyOf, isOutput, Does, deedIn, Seen};
 
 // What is kept of the parts: the set of those that have a name, and their names; what each does first (1 OPEN, 2 IN,
 // 3 EXIT, 4 it receives, 0 nothing) and the set of the parts to which that can be done; the set of those at which settling
@@ -258,8 +258,8 @@ fn look_at<'a>(
 // What is kept, with what part i does.
 fn with_deed(l: Looks, i: usize, d: Deed) -> Looks
     requires { ⌜ i < 64 ⌝ }
-    ensures here { λ r. ⌜ kept r i ≡ d ⌝ }
-    ensures others { λ r. ⌜ ((j : ℕ) → (j ≡ i → ⊥) → kept r j ≡ kept l j) ⌝ }
+    ensures here { λ r. ⌜ deedIn r i ≡ d ⌝ }
+    ensures others { λ r. ⌜ ((j : ℕ) → (j ≡ i → ⊥) → deedIn r j ≡ deedIn l j) ⌝ }
     ensures names { λ r. ⌜ (r .named ≡ l .named) × (r .names ≡ l .names) ⌝ }
 {
     let so = d.busy;

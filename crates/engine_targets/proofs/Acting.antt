@@ -14,7 +14,7 @@ use Rattle.read_messages.specs.declared.First.the-variants.{Enter, Exit}
 use Rattle.read_messages.specs.declared.Named.the-variants.{Called}
 use Rattle.base_sets.specs.Sets.{elem}
 use Rattle.read_scripts.specs.Tree.{receipt, output, oneIf, tops, timesIn}
-use Rattle.theory_machine.specs.Moves.{Moved, isNamed, toEnter, toExit, toOpen, headName, firstOf, openMove, receiveMove, enterMove, exitMove, moveHere, anywhere}
+use Rattle.theory_machine.specs.Moves.{MoveMade, isNamed, toEnter, toExit, toOpen, headName, firstOf, openMove, receiveMove, enterMove, exitMove, moveHere, anywhere}
 use Rattle.theory_machine.proofs.Inversion.{sameName-inv, toEnter-inv, toExit-inv}
 use Rattle.theory_closures.specs.Closure.{Action, ClosureHead, Closure, Bindings, viewUnder}
 use Rattle.engine_states.specs.Searches.{place, Stands}
@@ -36,19 +36,19 @@ module _ (σ : Bindings) (a t : ℕ) (b : Closure) where
   unfolding moveHere orElse
   here-needs e = rw (open-needs σ a t b e, receive-needs σ a t b e, enter-needs σ a t b e, exit-needs σ a t b e)
 
-  opens : (n : Moved Action) → openMove (viewUnder σ) a t b ≡ some n → moveHere (viewUnder σ) a t b ≡ some n
+  opens : (n : MoveMade Action) → openMove (viewUnder σ) a t b ≡ some n → moveHere (viewUnder σ) a t b ≡ some n
   unfolding moveHere orElse
   opens n e = rw e
 
-  receives : (n : Moved Action) → openMove (viewUnder σ) a t b ≡ none → receiveMove (viewUnder σ) a t b ≡ some n → moveHere (viewUnder σ) a t b ≡ some n
+  receives : (n : MoveMade Action) → openMove (viewUnder σ) a t b ≡ none → receiveMove (viewUnder σ) a t b ≡ some n → moveHere (viewUnder σ) a t b ≡ some n
   unfolding moveHere orElse
   receives n o e = rw (o, e)
 
-  enters : (n : Moved Action) → openMove (viewUnder σ) a t b ≡ none → receiveMove (viewUnder σ) a t b ≡ none → enterMove (viewUnder σ) a t b ≡ some n → moveHere (viewUnder σ) a t b ≡ some n
+  enters : (n : MoveMade Action) → openMove (viewUnder σ) a t b ≡ none → receiveMove (viewUnder σ) a t b ≡ none → enterMove (viewUnder σ) a t b ≡ some n → moveHere (viewUnder σ) a t b ≡ some n
   unfolding moveHere orElse
   enters n o r e = rw (o, r, e)
 
-  exits : (n : Moved Action) → openMove (viewUnder σ) a t b ≡ none → receiveMove (viewUnder σ) a t b ≡ none → enterMove (viewUnder σ) a t b ≡ none → exitMove (viewUnder σ) a t b ≡ some n
+  exits : (n : MoveMade Action) → openMove (viewUnder σ) a t b ≡ none → receiveMove (viewUnder σ) a t b ≡ none → enterMove (viewUnder σ) a t b ≡ none → exitMove (viewUnder σ) a t b ≡ some n
       → moveHere (viewUnder σ) a t b ≡ some n
   unfolding moveHere orElse
   exits n o r i e = rw (o, r, i, e)

@@ -11,7 +11,7 @@ use borrow.Author.Tests.{eqb-true, eqb-false, eq-eqb, ne-eqb, lt-ltb, le-ltb}
 use Rattle.read_messages.specs.Message.{firstItem}
 use Rattle.read_messages.specs.declared.First.{First}
 use Rattle.read_messages.specs.declared.First.the-variants.{Nothing, Enter, Exit, Open, Other}
-use Rattle.base_sets.specs.Sets.{members, elem, remove, both}
+use Rattle.base_sets.specs.Sets.{members, elem, removed, inBoth}
 use Rattle.base_sets.proofs.Lists.{elem-remove}
 use Rattle.base_sets.proofs.Members.{elem-keep, members-empty}
 use Rattle.read_scripts.specs.Tree.{ambient, action, receipt, output}
@@ -105,7 +105,7 @@ module _ (k : ℕ → List ℕ) (p q t : ℕ) where
   unfolding isWithin
   within-none u m = in-none t ∙ sym (ap (λ (b : Bool). b && (elem t (k p) && u)) (le-ltb p 65 m))
 
-  pub within-both : (aim l : List ℕ) → p < 65 → l ≡ both aim (k p) → elem t l ≡ isWithin k p t (elem t aim)
+  pub within-both : (aim l : List ℕ) → p < 65 → l ≡ inBoth aim (k p) → elem t l ≡ isWithin k p t (elem t aim)
   unfolding isWithin
   within-both aim l m e = ap (elem t) e ∙ elem-keep (λ j. elem j (k p)) t aim ∙ sym (ap (λ (b : Bool). b && (elem t (k p) && elem t aim)) (lt-ltb p 65 m))
 
@@ -113,7 +113,7 @@ module _ (k : ℕ → List ℕ) (p q t : ℕ) where
   unfolding isBeside
   beside-none u m = in-none t ∙ sym (ap (λ (b : Bool). b && (not (eqb p t) && isWithin k q t u)) (le-ltb p 64 m))
 
-  pub beside-others : (l r : List ℕ) (u : Bool) → p < 64 → elem t l ≡ isWithin k q t u → r ≡ remove p l → elem t r ≡ isBeside k p q t u
+  pub beside-others : (l r : List ℕ) (u : Bool) → p < 64 → elem t l ≡ isWithin k q t u → r ≡ removed p l → elem t r ≡ isBeside k p q t u
   unfolding isBeside
   beside-others l r u m d e =
       ap (elem t) e ∙ elem-remove t p l ∙ ap (λ (b : Bool). not (eqb p t) && b) d ∙ sym (ap (λ (b : Bool). b && (not (eqb p t) && isWithin k q t u)) (lt-ltb p 64 m))
@@ -127,10 +127,10 @@ module _ (p q t : ℕ) where
   unfolding isAround
   around-none u m n = in-none t ∙ sym (rw (lt-ltb p 64 m, le-ltb q 64 n))
 
-  pub around-one : (aim l r : List ℕ) → p < 64 → q < 64 → l ≡ q ∷ [] → r ≡ both aim l → elem t r ≡ isAround p q t (elem t aim)
+  pub around-one : (aim l r : List ℕ) → p < 64 → q < 64 → l ≡ q ∷ [] → r ≡ inBoth aim l → elem t r ≡ isAround p q t (elem t aim)
   unfolding isAround elem
   around-one aim l r m n d e =
-      ap (elem t) (e ∙ ap (both aim) d) ∙ elem-keep (λ j. elem j (q ∷ [])) t aim
+      ap (elem t) (e ∙ ap (inBoth aim) d) ∙ elem-keep (λ j. elem j (q ∷ [])) t aim
       ∙ byTest (eqb t q) (λ u. rw (u, lt-ltb p 64 m, lt-ltb q 64 n)) (λ u. rw (u, lt-ltb p 64 m, lt-ltb q 64 n))
 
 -- ---- the same of a state that represents a closure

@@ -8,11 +8,11 @@ use native.Mathlib.Omega.{arith}
 use lib.Dec.{eqb}
 use borrow.Author.Tests.{ne-eqb}
 use Rattle.read_messages.specs.declared.Named.the-variants.{Nameless}
-use Rattle.base_sets.specs.Sets.{elem, inserted, remove}
+use Rattle.base_sets.specs.Sets.{elem, inserted, removed}
 use Rattle.read_scripts.specs.Tree.{oneIf, tops, timesIn, put}
 use Rattle.read_scripts.specs.Represents.{Held}
-use Rattle.theory_machine.specs.Bodies.{_>>=_, check, find, removePart, alter, holder}
-use Rattle.theory_machine.specs.Moves.{Moved, quiet, spentHead, spend, isNamed, sameName, toEnter, firstOf, headName, enterMove}
+use Rattle.theory_machine.specs.Bodies.{_>>=_, check, findPart, removePart, alter, holder}
+use Rattle.theory_machine.specs.Moves.{MoveMade, quiet, spentHead, spend, isNamed, sameName, toEnter, firstOf, headName, enterMove}
 use Rattle.read_scripts.proofs.Numbers.{own-times}
 use Rattle.theory_machine.proofs.Sums.{removePart-exact, find-removePart}
 use Rattle.theory_closures.specs.Closure.{Action, ClosureHead, Closure, Bindings, viewUnder}
@@ -52,7 +52,7 @@ module _ (σ : Bindings) (k : ℕ → List ℕ) (w : ℕ → ClosureHead) (a t :
     abbrev inner : Closure
     inner = spend (viewUnder σ) a (P .room)
 
-    abbrev pub entered : Moved Action
+    abbrev pub entered : MoveMade Action
     entered = quiet (alter t (λ e. e) (put p (w p) inner) left)
 
     module _ (once : (j : ℕ) → timesIn j here ≤ 1) where
@@ -65,14 +65,14 @@ module _ (σ : Bindings) (k : ℕ → List ℕ) (w : ℕ → ClosureHead) (a t :
       enter-is e = rw (There .found, holder-is k w a p here held (once a) beside holds, P .found, A .found, e)
 
     -- the part p goes from the body of b into that of t, and the actor's first item is spent
-    module _ (once : (j : ℕ) → timesIn j here ≤ 1) (g : Closure → Option (Moved Action)) (needs : (s : Closure) → elem t (tops s) ≡ false → g s ≡ none)
+    module _ (once : (j : ℕ) → timesIn j here ≤ 1) (g : Closure → Option (MoveMade Action)) (needs : (s : Closure) → elem t (tops s) ≡ false → g s ≡ none)
         (b : ℕ) (own : k b ≡ tops here) (apart : timesIn b here ≡ 0) (k′ : ℕ → List ℕ) (w′ : ℕ → ClosureHead) (spent : Spent σ w w′ a)
         (bodies : (i : ℕ) → (i ≡ b → ⊥) → (i ≡ t → ⊥) → k i ≡ k′ i) (two : p ≡ t → ⊥) where
       -- sums over the parts
       whole : (v : ℕ → ℕ) → numbersTotal v here ≡ v p + (numbersTotal v (P .room) + numbersTotal v left)
       whole v = removePart-exact (λ i h. v i) p here (w p, P .room) (once p) (P .found)
 
-      t-left : find t left ≡ some (w t, There .room)
+      t-left : findPart t left ≡ some (w t, There .room)
       t-left = find-removePart t p here (ne-eqb t p (λ e. two (sym e))) ∙ There .found
 
       t-once : timesIn t left ≤ 1
@@ -105,9 +105,9 @@ module _ (σ : Bindings) (k : ℕ → List ℕ) (w : ℕ → ClosureHead) (a t :
             same-head i (omega (arith, whole (λ j. oneIf (eqb i j)), rest (λ j. oneIf (eqb i j)), once i)),
           )))
 
-      pub enter-change : k′ b ≡ remove p (k b) → k′ t ≡ inserted p (k t) → Change σ k w t g needs b here k′ w′ entered
+      pub enter-change : k′ b ≡ removed p (k b) → k′ t ≡ inserted p (k t) → Change σ k w t g needs b here k′ w′ entered
       enter-change loses gains = record {
-        own = loses ∙ ap (remove p) own ∙ sym (tops-removePart p here) ∙ sym (tops-alter t (λ e. e) (put p (w p) inner) left);
+        own = loses ∙ ap (removed p) own ∙ sym (tops-removePart p here) ∙ sym (tops-alter t (λ e. e) (put p (w p) inner) left);
         held = held-alter k k′ w w′ t (λ e. e) (put p (w p) inner) left (There .room) t-left t-once (held-removePart k w p here held)
             (λ i m. (
               same-body i (omega (arith, whole (λ j. oneIf (eqb i j)), rest (λ j. oneIf (eqb i j))))

@@ -6,11 +6,11 @@ use mathlib.Core.Option.{Option, none, some}
 use mathlib.Core.Path.{_≡_, sym, ap, _∙_}
 use native.Mathlib.Omega.{arith}
 use lib.Dec.{eqb}
-use Rattle.base_sets.specs.Sets.{elem, inserted, remove}
+use Rattle.base_sets.specs.Sets.{elem, inserted, removed}
 use Rattle.read_scripts.specs.Tree.{oneIf, tops, timesIn, put}
 use Rattle.read_scripts.specs.Represents.{Held}
 use Rattle.theory_machine.specs.Bodies.{_>>=_, check, removePart, alter}
-use Rattle.theory_machine.specs.Moves.{Moved, quiet, spentHead, spend, isNamed, headName, exitMove}
+use Rattle.theory_machine.specs.Moves.{MoveMade, quiet, spentHead, spend, isNamed, headName, exitMove}
 use Rattle.read_scripts.proofs.Numbers.{own-times}
 use Rattle.theory_machine.proofs.Sums.{removePart-exact}
 use Rattle.theory_closures.specs.Closure.{Action, ClosureHead, Closure, Bindings, viewUnder}
@@ -46,7 +46,7 @@ module _ (σ : Bindings) (k : ℕ → List ℕ) (w : ℕ → ClosureHead) (a t :
   abbrev left : Closure
   left = alter t (λ e. e) (removePart p) here
 
-  abbrev pub exited : Moved Action
+  abbrev pub exited : MoveMade Action
   exited = quiet (put p (w p) inner left)
 
   -- sums over the parts
@@ -62,7 +62,7 @@ module _ (σ : Bindings) (k : ℕ → List ℕ) (w : ℕ → ClosureHead) (a t :
     exit-is e = rw (There .found, holder-is k w a p (There .room) (There .held) (omega (arith, whole (λ i. oneIf (eqb a i)), once a)) on-top holds, P .found, A .found, e)
 
     -- the part p goes from the body of t into that of b, and the actor's first item is spent
-    module _ (g : Closure → Option (Moved Action)) (needs : (s : Closure) → elem t (tops s) ≡ false → g s ≡ none)
+    module _ (g : Closure → Option (MoveMade Action)) (needs : (s : Closure) → elem t (tops s) ≡ false → g s ≡ none)
         (b : ℕ) (own : k b ≡ tops here) (apart : timesIn b here ≡ 0) (k′ : ℕ → List ℕ) (w′ : ℕ → ClosureHead) (spent : Spent σ w w′ a)
         (bodies : (i : ℕ) → (i ≡ t → ⊥) → (i ≡ b → ⊥) → k i ≡ k′ i) where
       -- the parts that a sum tells apart
@@ -79,13 +79,13 @@ module _ (σ : Bindings) (k : ℕ → List ℕ) (w : ℕ → ClosureHead) (a t :
       held-inner = held-spend σ k k′ w w′ a (P .room) spent (P .held) within (omega (arith, whole (λ j. oneIf (eqb a j)), each (λ j. oneIf (eqb a j)), once a))
           (λ i m. in-room i (omega (arith, each (λ j. oneIf (eqb i j)))))
 
-      held-left : Held k′ w′ (removePart p (There .room)) → k′ t ≡ remove p (k t) → Held k′ w′ left
+      held-left : Held k′ w′ (removePart p (There .room)) → k′ t ≡ removed p (k t) → Held k′ w′ left
       held-left rest loses = held-alter k k′ w w′ t (λ e. e) (removePart p) here (There .room) (There .found) (once t) held
           (λ i m. (
             same-body i (omega (arith, whole (λ j. oneIf (eqb i j)))) (numbers-differ i t (removePart t here) m (omega (arith, whole (λ j. oneIf (eqb t j)), once t, own-times t))),
             same-head i (omega (arith, whole (λ j. oneIf (eqb i j)), each (λ j. oneIf (eqb i j)), once i)),
           ))
-          (loses ∙ ap (remove p) (There .own) ∙ sym (tops-removePart p (There .room)))
+          (loses ∙ ap (removed p) (There .own) ∙ sym (tops-removePart p (There .room)))
           (sym (same-head t (omega (arith, whole (λ j. oneIf (eqb t j)), each (λ j. oneIf (eqb t j)), once t, own-times t))))
           rest
 
@@ -96,7 +96,7 @@ module _ (σ : Bindings) (k : ℕ → List ℕ) (w : ℕ → ClosureHead) (a t :
             same-head i (omega (arith, whole (λ j. oneIf (eqb i j)), each (λ j. oneIf (eqb i j)), once i)),
           ))
 
-      pub exit-change : k′ t ≡ remove p (k t) → k′ b ≡ inserted p (k b) → Change σ k w t g needs b here k′ w′ exited
+      pub exit-change : k′ t ≡ removed p (k t) → k′ b ≡ inserted p (k b) → Change σ k w t g needs b here k′ w′ exited
       exit-change loses gains = record {
         own = gains ∙ ap (inserted p) (own ∙ sym (tops-alter t (λ e. e) (removePart p) here)) ∙ sym (tops-put p (w p) inner left);
         held = held-put k′ w′ p (w p) inner left

@@ -9,7 +9,7 @@ use lib.ListN.{getD, set, length, replicate, getD-replicate}
 use lib.Seq.{getD-set-same, getD-set-other}
 use borrow.Author.Tests.{eqb-true, eqb-false, ltb-false, lt-ltb}
 use Rattle.base_sets.specs.Sets.{members, elem, headOr}
-use Rattle.read_scripts.specs.Tree.{close, part, oneIf, tops, total, parts, timesIn}
+use Rattle.read_scripts.specs.Tree.{close, part, oneIf, tops, totalOver, parts, timesIn}
 use Rattle.read_scripts.specs.Represents.{Held}
 use Rattle.theory_machine.specs.Moves.{isNamed, headName}
 use Rattle.base_slices.proofs.Tests.{byTest}
@@ -47,16 +47,16 @@ place-none σ at x b e = rw (not-in x b e) (nowhere σ x b e)
 -- ---- the ways on of the pass
 
 -- the place of a part in the body of the part i, whose head is h, if that has a name
-abbrev below : Bindings → (i : ℕ) (h : ClosureHead) (x : ℕ) → Closure → ℕ
-below σ i h x s = cond (isNamed (headName (viewUnder σ) h)) (placeFrom σ i x s) 65
+abbrev insideOf : Bindings → (i : ℕ) (h : ClosureHead) (x : ℕ) → Closure → ℕ
+insideOf σ i h x s = cond (isNamed (headName (viewUnder σ) h)) (placeFrom σ i x s) 65
 
-below-none : (σ : Bindings) (i : ℕ) (h : ClosureHead) (x : ℕ) (s : Closure) → timesIn x s ≡ 0 → below σ i h x s ≡ 65
+below-none : (σ : Bindings) (i : ℕ) (h : ClosureHead) (x : ℕ) (s : Closure) → timesIn x s ≡ 0 → insideOf σ i h x s ≡ 65
 below-none σ i h x s e = byTest (isNamed (headName (viewUnder σ) h)) (λ t. rw t (place-none σ i x s e)) (λ t. rw t)
 
 -- `after` are the places when those in the body of the part i are written, if it has a name
 abbrev pub Enters : Bindings → (k : ℕ → List ℕ) (w : ℕ → ClosureHead) (i fuel : ℕ) (before after : ℕ → ℕ) → Type 0
 Enters σ k w i fuel before after =
-    (s : Closure) → k i ≡ tops s → Held k w s → ((j : ℕ) → timesIn j s ≤ 1) → parts s ≤ fuel → (x : ℕ) → after x ≡ firstPlace (below σ i (w i) x s) (before x)
+    (s : Closure) → k i ≡ tops s → Held k w s → ((j : ℕ) → timesIn j s ≤ 1) → parts s ≤ fuel → (x : ℕ) → after x ≡ firstPlace (insideOf σ i (w i) x s) (before x)
 
 module _ (σ : Bindings) (k : ℕ → List ℕ) (w : ℕ → ClosureHead) where
   pub enters-named : (i fuel : ℕ) (P P₁ : ℕ → ℕ) → isNamed (headName (viewUnder σ) (w i)) ≡ true → Locates σ k w (k i) i fuel P P₁ → Enters σ k w i fuel P P₁
@@ -72,31 +72,31 @@ module _ (σ : Bindings) (k : ℕ → List ℕ) (w : ℕ → ClosureHead) where
     locates-none z (part j g s r) e h once m x = absurd (no-cons j (tops r) (sym e ∙ z))
 
     pub locates-no-fuel : fuel ≡ 0 → Locates σ k w left at fuel P P
-    unfolding tops elem placeBelow total
+    unfolding tops elem placeBelow totalOver
     locates-no-fuel d close e h once m x = refl
     locates-no-fuel d (part j g s r) e h once m x = absurd (let z : ⊥ = omega arith in z)
 
     -- what is written of a part, of those in its body and of those beside it, no number standing twice
     together : at < 65 → (j : ℕ) (h : ClosureHead) (x : ℕ) (s r : Closure) → oneIf (eqb x j) + (timesIn x s + timesIn x r) ≤ 1
-        → firstPlace (placeFrom σ at x r) (firstPlace (below σ j h x s) (cond (eqb x j) at (P x))) ≡ firstPlace (cond (eqb x j || elem x (tops r)) at (firstPlace (below σ j h x s) (placeBelow σ x r))) (P x)
+        → firstPlace (placeFrom σ at x r) (firstPlace (insideOf σ j h x s) (cond (eqb x j) at (P x))) ≡ firstPlace (cond (eqb x j || elem x (tops r)) at (firstPlace (insideOf σ j h x s) (placeBelow σ x r))) (P x)
     together own j h x s r once = byTest (eqb x j)
         (λ t. let o : 1 + (timesIn x s + timesIn x r) ≤ 1 = rw t at once in rw (t, below-none σ j h x s (omega arith), place-none σ at x r (omega arith), lt-ltb at 65 own))
         (λ t. byTest (elem x (tops r))
         (λ u. rw (t, u, lt-ltb at 65 own))
         (λ u. byTest (eqb (timesIn x s) 0)
-        (λ v. rw (t, u) (first-swap (below σ j h x s) (placeBelow σ x r) (P x) (below-none σ j h x s (eqb-true (timesIn x s) 0 v))))
-        (λ v. rw (t, u) (first-last (below σ j h x s) (placeBelow σ x r) (P x) (nowhere σ x r (omega (arith, eqb-false (timesIn x s) 0 v)))))))
+        (λ v. rw (t, u) (first-swap (insideOf σ j h x s) (placeBelow σ x r) (P x) (below-none σ j h x s (eqb-true (timesIn x s) 0 v))))
+        (λ v. rw (t, u) (first-last (insideOf σ j h x s) (placeBelow σ x r) (P x) (nowhere σ x r (omega (arith, eqb-false (timesIn x s) 0 v)))))))
 
     pub locates-first : (i : ℕ) (l : List ℕ) (P₁ P₂ P₃ : ℕ → ℕ) → left ≡ i ∷ l → at < 65 → ((x : ℕ) → P₁ x ≡ cond (eqb x i) at (P x)) → Enters σ k w i (fuel - 1) P₁ P₂
         → Locates σ k w l at (fuel - 1) P₂ P₃ → Locates σ k w left at fuel P P₃
-    unfolding tops elem placeBelow total
+    unfolding tops elem placeBelow totalOver
     locates-first i l P₁ P₂ P₃ first own here inside rest close e h once m x = absurd (no-cons i l (sym first ∙ e))
     locates-first i l P₁ P₂ P₃ first own here inside rest (part j g s r) e h once m x =
         let p : i ≡ j = ap (headOr 0) (sym first ∙ e) in
         let a : w i ≡ g = ap w p ∙ h .1 in
-        let y : P₂ x ≡ firstPlace (below σ i (w i) x s) (P₁ x) = inside s (ap k p ∙ h .0) (h .2) (λ n. omega (arith, once n)) (omega arith) x in
+        let y : P₂ x ≡ firstPlace (insideOf σ i (w i) x s) (P₁ x) = inside s (ap k p ∙ h .0) (h .2) (λ n. omega (arith, once n)) (omega arith) x in
         rest r (ap tail (sym first ∙ e)) (h .3) (λ n. omega (arith, once n)) (omega arith) x
-        ∙ ap (firstPlace (placeFrom σ at x r)) (y ∙ ap (firstPlace (below σ i (w i) x s)) (here x) ∙ (λ q. firstPlace (below σ (p q) (a q) x s) (cond (eqb x (p q)) at (P x))))
+        ∙ ap (firstPlace (placeFrom σ at x r)) (y ∙ ap (firstPlace (insideOf σ i (w i) x s)) (here x) ∙ (λ q. firstPlace (insideOf σ (p q) (a q) x s) (cond (eqb x (p q)) at (P x))))
         ∙ together own j g x s r (once x)
 
 -- ---- the places in an array

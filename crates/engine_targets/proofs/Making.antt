@@ -10,10 +10,10 @@ use lib.Dec.{eqb}
 use lib.ListN.{getD, length}
 use borrow.Author.Tests.{eqb-true, eqb-false}
 use Rattle.read_messages.specs.Message.{Message}
-use Rattle.base_sets.specs.Sets.{remove, joined}
+use Rattle.base_sets.specs.Sets.{removed, joined}
 use Rattle.read_scripts.specs.Tree.{receipt, output}
 use Rattle.read_scripts.specs.Represents.{bodyIn}
-use Rattle.theory_machine.specs.Moves.{Moved, moveHere}
+use Rattle.theory_machine.specs.Moves.{MoveMade, moveHere}
 use Rattle.theory_machine.proofs.Inversion.{here-inv}
 use Rattle.base_slices.proofs.Tests.{byTest}
 use Rattle.theory_closures.specs.Closure.{Action, ClosureHead, Closure, Bindings, viewUnder, settleUnder, settledUnder, closureMove}
@@ -72,7 +72,7 @@ module _ (script kinds starts : List ℕ) (weight spent : ℕ) (s : State) (f : 
   Made spent′ news = After script kinds starts weight spent s f R t (moveHere (viewUnder σ) a t) (here-needs σ a t) spent′ s′ news
 
   -- a move that is made in the body of b, whatever its kind
-  by-change : (b : ℕ) (S : Spot σ k w f a t b) (n : Moved Action) → moveHere (viewUnder σ) a t (S .here) ≡ some n
+  by-change : (b : ℕ) (S : Spot σ k w f a t b) (n : MoveMade Action) → moveHere (viewUnder σ) a t (S .here) ≡ some n
       → (Shrinks (S .here) n → Change σ k w t (moveHere (viewUnder σ) a t) (here-needs σ a t) b (S .here) k′ w′ n) → (spent′ : ℕ) → s′ .bindings .first + length (n .news) ≡ s .bindings .first
       → ((i : ℕ) → getD (s′ .offsets) i 0 ≤ spent′) → Made spent′ (n .news)
   by-change b S n e C spent′ bound most =
@@ -87,10 +87,10 @@ module _ (script kinds starts : List ℕ) (weight spent : ℕ) (s : State) (f : 
     most = raised-most (s .offsets) (s′ .offsets) a spent raised (R .spends)
 
     -- THEOREM: OPEN. The target goes, its body stays where the actor stands.
-    pub open-made : (p : ℕ) → place σ a f ≡ p → canOpen σ k w p a t ≡ true → Replaced k k′ p (joined (k t) (remove t (k p))) → Made (spent + 1) []
-    open-made p ep = subst (λ (x : ℕ). canOpen σ k w x a t ≡ true → Replaced k k′ x (joined (k t) (remove t (k x))) → Made (spent + 1) []) ep here
+    pub open-made : (p : ℕ) → place σ a f ≡ p → canOpen σ k w p a t ≡ true → Replaced k k′ p (joined (k t) (removed t (k p))) → Made (spent + 1) []
+    open-made p ep = subst (λ (x : ℕ). canOpen σ k w x a t ≡ true → Replaced k k′ x (joined (k t) (removed t (k x))) → Made (spent + 1) []) ep here
       where
-        here : canOpen σ k w (at a) a t ≡ true → Replaced k k′ (at a) (joined (k t) (remove t (k (at a)))) → Made (spent + 1) []
+        here : canOpen σ k w (at a) a t ≡ true → Replaced k k′ (at a) (joined (k t) (removed t (k (at a)))) → Made (spent + 1) []
         here e C =
             let (S, i, two, made) = open-at σ k w f holds a t e in
             by-change (at a) S _ made
@@ -130,11 +130,11 @@ module _ (script kinds starts : List ℕ) (weight spent : ℕ) (s : State) (f : 
   -- THEOREM: the receipt. Both go, the receipt's body stands there, and its variable is bound to the message.
   pub receive-made : ((i : ℕ) → getD (s .offsets) i 0 ≡ getD (s′ .offsets) i 0) → s′ .bindings .first + 1 ≡ s .bindings .first
       → (v : ℕ) (m : Message) → w a ≡ receipt v → w t ≡ output m → (p : ℕ) → place σ a f ≡ p → canReceive σ k w p a t ≡ true
-      → Replaced k k′ p (joined (k a) (remove t (remove a (k p)))) → (spent′ : ℕ) → spent ≤ spent′ → Made spent′ ((v, m) ∷ [])
+      → Replaced k k′ p (joined (k a) (removed t (removed a (k p)))) → (spent′ : ℕ) → spent ≤ spent′ → Made spent′ ((v, m) ∷ [])
   receive-made alike bound v m ea et p ep e C spent′ l =
-      subst (λ (x : ℕ). canReceive σ k w x a t ≡ true → Replaced k k′ x (joined (k a) (remove t (remove a (k x)))) → Made spent′ ((v, m) ∷ [])) ep here e C
+      subst (λ (x : ℕ). canReceive σ k w x a t ≡ true → Replaced k k′ x (joined (k a) (removed t (removed a (k x)))) → Made spent′ ((v, m) ∷ [])) ep here e C
     where
-      here : canReceive σ k w (at a) a t ≡ true → Replaced k k′ (at a) (joined (k a) (remove t (remove a (k (at a))))) → Made spent′ ((v, m) ∷ [])
+      here : canReceive σ k w (at a) a t ≡ true → Replaced k k′ (at a) (joined (k a) (removed t (removed a (k (at a))))) → Made spent′ ((v, m) ∷ [])
       here d D =
           let (S, i, made) = receive-at σ k w f holds a t d v m ea et in
           by-change (at a) S _ made

@@ -10,12 +10,12 @@ use lib.Dec.{eqb}
 use borrow.Author.Tests.{ne-eqb}
 use Rattle.read_messages.specs.Message.{Message}
 use Rattle.read_messages.specs.declared.Named.the-variants.{Nameless}
-use Rattle.base_sets.specs.Sets.{elem, remove, joined}
+use Rattle.base_sets.specs.Sets.{elem, removed, joined}
 use Rattle.base_sets.proofs.Lists.{elem-remove, elem-joined}
-use Rattle.read_scripts.specs.Tree.{receipt, output, oneIf, tops, timesIn, merge}
+use Rattle.read_scripts.specs.Tree.{receipt, output, oneIf, tops, timesIn, mergeParts}
 use Rattle.read_scripts.specs.Represents.{Held}
 use Rattle.theory_machine.specs.Bodies.{_>>=_, check, removePart}
-use Rattle.theory_machine.specs.Moves.{Moved, quiet, variableOf, messageOf, spentHead, spend, sameName, toOpen, firstOf, openMove, receiveMove}
+use Rattle.theory_machine.specs.Moves.{MoveMade, quiet, variableOf, messageOf, spentHead, spend, sameName, toOpen, firstOf, openMove, receiveMove}
 use Rattle.base_slices.proofs.Tests.{byTest, or-right}
 use Rattle.theory_machine.proofs.Sums.{find-total, merge-total}
 use Rattle.theory_closures.specs.Closure.{Action, ClosureHead, Closure, Bindings, viewUnder}
@@ -57,9 +57,9 @@ module _ (σ : Bindings) (k : ℕ → List ℕ) (w : ℕ → ClosureHead) (a t :
 
     -- ---- OPEN
     abbrev both : Closure
-    both = merge (There .room) (removePart t here)
+    both = mergeParts (There .room) (removePart t here)
 
-    abbrev pub opened : Moved Action
+    abbrev pub opened : MoveMade Action
     opened = quiet (spend (viewUnder σ) a both)
 
     pub open-is : mayOpen σ (w a) (w t) ≡ true → openMove (viewUnder σ) a t here ≡ some opened
@@ -67,14 +67,14 @@ module _ (σ : Bindings) (k : ℕ → List ℕ) (w : ℕ → ClosureHead) (a t :
     open-is e = rw (There .found, A .found, e)
 
     -- ---- the receipt
-    abbrev pub received : (v : ℕ) (m : Message) → Moved Action
-    received v m = record { body = merge (A .room) (removePart t (removePart a here)); news = (v, m) ∷ [] }
+    abbrev pub received : (v : ℕ) (m : Message) → MoveMade Action
+    received v m = record { body = mergeParts (A .room) (removePart t (removePart a here)); news = (v, m) ∷ [] }
 
     pub receive-is : (v : ℕ) (m : Message) → w a ≡ receipt v → w t ≡ output m → receiveMove (viewUnder σ) a t here ≡ some (received v m)
     unfolding receiveMove _>>=_ variableOf messageOf
     receive-is v m ea et = rw (There .found, A .found, ea, et)
 
-    module _ (g : Closure → Option (Moved Action)) (needs : (s : Closure) → elem t (tops s) ≡ false → g s ≡ none)
+    module _ (g : Closure → Option (MoveMade Action)) (needs : (s : Closure) → elem t (tops s) ≡ false → g s ≡ none)
         (b : ℕ) (own : k b ≡ tops here) (apart : timesIn b here ≡ 0) (once : (j : ℕ) → timesIn j here ≤ 1)
         (k′ : ℕ → List ℕ) (w′ : ℕ → ClosureHead) (bodies : (i : ℕ) → (i ≡ b → ⊥) → k i ≡ k′ i) where
       -- the body of a number that stands here is as it was
@@ -82,12 +82,12 @@ module _ (σ : Bindings) (k : ℕ → List ℕ) (w : ℕ → ClosureHead) (a t :
       stays i l = bodies i (numbers-differ i b here l apart)
 
       -- both go, the receipt's body comes
-      pub receive-change : (v : ℕ) (m : Message) → Shrinks here (received v m) → k′ b ≡ joined (k a) (remove t (remove a (k b))) → ((i : ℕ) → w i ≡ w′ i)
+      pub receive-change : (v : ℕ) (m : Message) → Shrinks here (received v m) → k′ b ≡ joined (k a) (removed t (removed a (k b))) → ((i : ℕ) → w i ≡ w′ i)
           → Change σ k w t g needs b here k′ w′ (received v m)
       receive-change v m l joins heads = record {
-        own = joins ∙ (λ j. joined (A .own j) (remove t (remove a (own j)))) ∙ (λ j. joined (tops (A .room)) (remove t (sym (tops-removePart a here) j)))
+        own = joins ∙ (λ j. joined (A .own j) (removed t (removed a (own j)))) ∙ (λ j. joined (tops (A .room)) (removed t (sym (tops-removePart a here) j)))
             ∙ ap (joined (tops (A .room))) (sym (tops-removePart t (removePart a here))) ∙ sym (tops-merge (A .room) (removePart t (removePart a here)));
-        held = frame k k′ w w′ (merge (A .room) (removePart t (removePart a here)))
+        held = frame k k′ w w′ (mergeParts (A .room) (removePart t (removePart a here)))
             (held-merge k w (A .room) (removePart t (removePart a here)) (A .held) (held-removePart k w t (removePart a here) (held-removePart k w a here held)))
             (λ i c. (stays i (omega (arith, fewer here (received v m) l (λ j. oneIf (eqb i j)))), heads i));
         head = heads b;
@@ -95,15 +95,15 @@ module _ (σ : Bindings) (k : ℕ → List ℕ) (w : ℕ → ClosureHead) (a t :
       }
 
       -- the ambient goes, its body stays, and the actor's first item is spent
-      pub open-change : Spent σ w w′ a → (a ≡ t → ⊥) → k′ b ≡ joined (k t) (remove t (k b)) → Change σ k w t g needs b here k′ w′ opened
+      pub open-change : Spent σ w w′ a → (a ≡ t → ⊥) → k′ b ≡ joined (k t) (removed t (k b)) → Change σ k w t g needs b here k′ w′ opened
       open-change spent two joins =
           let held-both : Held k w both = held-merge k w (There .room) (removePart t here) (There .held) (held-removePart k w t here held) in
           let less : (i : ℕ) → timesIn i both ≤ timesIn i here = λ i. omega (arith, merge-total (λ j h. oneIf (eqb i j)) (There .room) (removePart t here), find-total (λ j h. oneIf (eqb i j)) t here (w t, There .room) (There .found)) in
-          let kept : elem a (remove t (tops here)) ≡ true = elem-remove a t (tops here) ∙ rw (ne-eqb t a (λ e. two (sym e))) beside in
-          let on-top : elem a (tops both) ≡ true = ap (elem a) (tops-merge (There .room) (removePart t here) ∙ ap (joined (tops (There .room))) (tops-removePart t here)) ∙ elem-joined a (tops (There .room)) (remove t (tops here)) ∙ or-right (elem a (tops (There .room))) (elem a (remove t (tops here))) kept in
+          let kept : elem a (removed t (tops here)) ≡ true = elem-remove a t (tops here) ∙ rw (ne-eqb t a (λ e. two (sym e))) beside in
+          let on-top : elem a (tops both) ≡ true = ap (elem a) (tops-merge (There .room) (removePart t here) ∙ ap (joined (tops (There .room))) (tops-removePart t here)) ∙ elem-joined a (tops (There .room)) (removed t (tops here)) ∙ or-right (elem a (tops (There .room))) (elem a (removed t (tops here))) kept in
           let at-a : 1 ≤ timesIn a here = in-times a here beside in
           record {
-            own = joins ∙ (λ j. joined (There .own j) (remove t (own j))) ∙ ap (joined (tops (There .room))) (sym (tops-removePart t here)) ∙ sym (tops-merge (There .room) (removePart t here))
+            own = joins ∙ (λ j. joined (There .own j) (removed t (own j))) ∙ ap (joined (tops (There .room))) (sym (tops-removePart t here)) ∙ sym (tops-merge (There .room) (removePart t here))
                 ∙ sym (tops-alter a (spentHead (viewUnder σ)) (λ s. s) both);
             held = held-spend σ k k′ w w′ a both spent held-both on-top (omega (arith, less a, once a)) (λ i l. stays i (omega (arith, less i)));
             head = spent .others b (λ e. numbers-differ a b here at-a apart (sym e));

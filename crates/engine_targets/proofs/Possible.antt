@@ -12,7 +12,7 @@ use Rattle.read_messages.specs.declared.Named.{Named}
 use Rattle.read_messages.specs.declared.Named.the-variants.{Called}
 use Rattle.base_sets.specs.Sets.{elem}
 use Rattle.read_scripts.specs.Tree.{receipt, output, tops}
-use Rattle.theory_machine.specs.Moves.{Moved, isNamed, sameName, toEnter, toExit, toOpen, variableOf, messageOf, headName, firstOf, moveHere, anywhere}
+use Rattle.theory_machine.specs.Moves.{MoveMade, isNamed, sameName, toEnter, toExit, toOpen, variableOf, messageOf, headName, firstOf, moveHere, anywhere}
 use Rattle.theory_machine.proofs.Inversion.{Here, by-open, by-receive, by-enter, by-exit, here-inv}
 use Rattle.base_slices.proofs.Tests.{byTest}
 use Rattle.theory_closures.specs.Closure.{Action, ClosureHead, Closure, Bindings, viewUnder, settledUnder, closureMove}
@@ -100,13 +100,13 @@ module _ (σ : Bindings) (k : ℕ → List ℕ) (w : ℕ → ClosureHead) (f : C
         (both (eq-eqb t (at (at a)) (sym r))
         (same-name (x .place) (ap (λ (h : ClosureHead). toExit (firstOf (viewUnder σ) h)) (A .1) ∙ ap toExit (x .asked)) (ap (λ (b : ℕ). headName (viewUnder σ) (w b)) r ∙ ap (headName (viewUnder σ)) (T .1) ∙ x .named)))))))
 
-  made : (b : ℕ) (S : In b) (n : Moved Action) → moveHere (viewUnder σ) a t (S .here) ≡ some n → isSome (closureMove σ a t f) ≡ true
+  made : (b : ℕ) (S : In b) (n : MoveMade Action) → moveHere (viewUnder σ) a t (S .here) ≡ some n → isSome (closureMove σ a t f) ≡ true
   unfolding closureMove settledUnder isSome
-  made b S n e = ap (λ (o : Option (Moved Action)). isSome (settledUnder σ o)) (S .works n e .1)
+  made b S n e = ap (λ (o : Option (MoveMade Action)). isSome (settledUnder σ o)) (S .works n e .1)
 
   not-made : anywhere (viewUnder σ) (moveHere (viewUnder σ) a t) f ≡ none → isSome (closureMove σ a t f) ≡ false
   unfolding closureMove settledUnder isSome
-  not-made e = ap (λ (o : Option (Moved Action)). isSome (settledUnder σ o)) e
+  not-made e = ap (λ (o : Option (MoveMade Action)). isSome (settledUnder σ o)) e
 
   can : canMove σ k w at a t ≡ true → isSome (closureMove σ a t f) ≡ true
   unfolding canMove canMoveFrom
@@ -124,7 +124,7 @@ module _ (σ : Bindings) (k : ℕ → List ℕ) (w : ℕ → ClosureHead) (f : C
   cannot : canMove σ k w at a t ≡ false → isSome (closureMove σ a t f) ≡ false
   cannot e = not-made (pick (site σ k w t (moveHere (viewUnder σ) a t) (here-needs σ a t) f (Q .top) (Q .once) (Q .low) (Q .held)))
     where
-      none-here : (S : In (at t)) → at t < 65 → (o : Option (Moved Action)) → moveHere (viewUnder σ) a t (S .here) ≡ o → anywhere (viewUnder σ) (moveHere (viewUnder σ) a t) f ≡ none
+      none-here : (S : In (at t)) → at t < 65 → (o : Option (MoveMade Action)) → moveHere (viewUnder σ) a t (S .here) ≡ o → anywhere (viewUnder σ) (moveHere (viewUnder σ) a t) f ≡ none
       none-here S l none q = S .fails q
       none-here S l (some n) q = absurd (true≢false (sym (could S l (n .body) (n .news) (here-inv (viewUnder σ) a t (S .here) n q)) ∙ e))
 

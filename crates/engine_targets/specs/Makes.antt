@@ -5,10 +5,10 @@ use mathlib.Core.List.{List, _∷_, _++_}
 use mathlib.Core.Option.{some}
 use mathlib.Core.Path.{_≡_}
 use lib.ListN.{getD, set, drop}
-use Rattle.base_sets.specs.Sets.{members, remove, joined}
+use Rattle.base_sets.specs.Sets.{members, removed, joined}
 use Rattle.read_messages.specs.Spelling.{messageAt}
 use Rattle.read_scripts.specs.Represents.{bodyIn}
-use Rattle.theory_machine.specs.Moves.{Moved}
+use Rattle.theory_machine.specs.Moves.{MoveMade}
 use Rattle.theory_closures.specs.Closure.{Action, ClosureHead, Closure, Bindings, closureMove}
 use Rattle.engine_states.specs.Represents.{heads, boundIn, Represents}
 use Rattle.engine_states.specs.Searches.{place}
@@ -19,7 +19,7 @@ module _ (script kinds starts : List ℕ) (s r : State) where
   -- r stands for what the move (a, t) makes of the closure b for which s stands
   abbrev pub Makes : (weight spent a t : ℕ) (b : Closure) → Type 0
   Makes weight spent a t b =
-      (m : Moved Action) × (closureMove (boundIn script s) a t b ≡ some m) × Represents script kinds starts weight spent r (m .body) × (boundIn script r ≡ m .news ++ boundIn script s)
+      (m : MoveMade Action) × (closureMove (boundIn script s) a t b ≡ some m) × Represents script kinds starts weight spent r (m .body) × (boundIn script r ≡ m .news ++ boundIn script s)
 
   -- where the test holds of a closure for which s stands; offsets that fit into 32 bits do after the move
   abbrev pub MakesIf : (test : Closure → Type 0) (a t : ℕ) → Type 0
@@ -38,7 +38,7 @@ module _ (script kinds starts : List ℕ) (s r : State) where
   pub record Received (p a t : ℕ) : Type 0 where
     pub set-of : ℕ
     pub kids : r .kids ≡ set (s .kids) p set-of
-    pub members-of : members set-of ≡ joined (bodyIn (s .kids) a) (remove t (remove a (bodyIn (s .kids) p)))
+    pub members-of : members set-of ≡ joined (bodyIn (s .kids) a) (removed t (removed a (bodyIn (s .kids) p)))
     pub offsets : r .offsets ≡ s .offsets
     pub first : r .bindings .first + 1 ≡ s .bindings .first
     pub news : boundIn script r ≡ (getD starts a 0, messageAt (drop (getD starts t 0) script)) ∷ boundIn script s

@@ -1,12 +1,12 @@
 // Answers as text, put into a lent buffer piece by piece, as the functions of digits put them. It rests on the promises of
 // digits and slices, and on what an answer of the call is.
+use base_slices::head;
 use checker::Answer;
 use checker::Verdict;
 use program_digits::put_byte;
 use program_digits::put_bytes;
 use program_digits::put_decimal;
 use program_digits::put_words;
-use base_slices::head;
 ghost use mathlib.Core.List.{_++_};
 ghost use lib.ListN.{take};
 ghost use Rattle.checker.specs.Answering.{answerOf};

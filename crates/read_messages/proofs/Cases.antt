@@ -5,7 +5,7 @@ use mathlib.Core.List.{List}
 use mathlib.Core.Path.{_≡_, refl, sym, ap, _∙_}
 use Rattle.read_messages.specs.Words.{member}
 use Rattle.read_messages.specs.Reading.{Cursor, got, _>>=_}
-use Rattle.read_messages.specs.Message.{Message, name, variable, enter, exit, opens, empty, path}
+use Rattle.read_messages.specs.Message.{Message, name, variable, enter, exit, opens, emptyMessage, path}
 use Rattle.read_messages.specs.ReadMessage.{messageWord, bound, messageFrom, readMessage}
 use Rattle.read_messages.specs.declared.MessageWord.{MessageWord}
 use Rattle.read_messages.specs.declared.MessageWord.the-variants.{Name, Variable, Enter, Exit, Open, Empty, Path, Unfit}
@@ -19,7 +19,7 @@ pub record Cases (M : List ℕ → Cursor → Message × Cursor → Type 0) : Ty
   pub variables : (around : List ℕ) (c : Cursor) (q : ℕ × Cursor) (v : ℕ) → Next c q → member v around ≡ true → M around c (variable v, q .1)
   pub wraps : (around : List ℕ) (c : Cursor) (q : ℕ × Cursor) (p : Message × Cursor) → Next c q → M around (q .1) p
       → M around c (enter (p .0), p .1) × M around c (exit (p .0), p .1) × M around c (opens (p .0), p .1)
-  pub empties : (around : List ℕ) (c : Cursor) (q : ℕ × Cursor) → Next c q → M around c (empty, q .1)
+  pub empties : (around : List ℕ) (c : Cursor) (q : ℕ × Cursor) → Next c q → M around c (emptyMessage, q .1)
   pub paths : (around : List ℕ) (c : Cursor) (q : ℕ × Cursor) (p r : Message × Cursor) → Next c q → M around (q .1) p → M around (p .1) r → M around c (path (p .0) (r .0), r .1)
 
 module _ (M : List ℕ → Cursor → Message × Cursor → Type 0) (cases : Cases M) where

@@ -10,8 +10,8 @@ use lib.Dec.{leb}
 use lib.ListN.{length, getD, drop, length-drop}
 use borrow.Author.Tests.{leb-true}
 use Rattle.read_messages.specs.Reading.{Cursor, cursor, Reading, refuse, got, _>>=_, ask, takeWord, nextWord, outcome}
-use Rattle.read_messages.specs.Message.{Message, name, variable, enter, exit, opens, empty, path}
-use Rattle.read_messages.specs.ReadMessage.{messageWord, fits, bound, messageFrom, readMessage, follow, asked}
+use Rattle.read_messages.specs.Message.{Message, name, variable, enter, exit, opens, emptyMessage, path}
+use Rattle.read_messages.specs.ReadMessage.{messageWord, wordFits, bound, messageFrom, readMessage, follow, asked}
 use Rattle.read_messages.specs.declared.MessageWord.{MessageWord}
 use Rattle.read_messages.specs.declared.MessageWord.the-variants.{Name, Variable, Enter, Exit, Open, Empty, Path, Unfit}
 use Rattle.read_messages.specs.declared.Asked.{Asked}
@@ -54,7 +54,7 @@ module _ (around : List ℕ) (read : Cursor → Reading (Message × Cursor)) (h 
   from-behind Enter c p e = one-behind c enter p e
   from-behind Exit c p e = one-behind c exit p e
   from-behind Open c p e = one-behind c opens p e
-  from-behind Empty c p e = leaf-behind c empty p e
+  from-behind Empty c p e = leaf-behind c emptyMessage p e
   from-behind Path c p e =
       bind-all (λ (q : Message × Cursor). Behind c (q .1)) (read c) _
       (λ q e₁. bind-all (λ (q : Message × Cursor). Behind c (q .1)) (read (q .1)) _
@@ -73,7 +73,7 @@ read-behind around c q p n b = record {
 -- the questions that the first word of a message was asked, q being that word and the cursor behind it
 pub record Begins (nest : ℕ) (around : List ℕ) (c : Cursor) (q : ℕ × Cursor) : Type 0 where
   pub next : Next c q
-  pub fit : fits (messageWord (q .0)) ≡ true
+  pub fit : wordFits (messageWord (q .0)) ≡ true
   pub bounded : bound around (messageWord (q .0)) ≡ true
   pub levelled : nest ≤ 64
 
@@ -84,7 +84,7 @@ pub message-all : (P : Message × Cursor → Type 0) (f nest : ℕ) (around : Li
 unfolding readMessage
 message-all P f nest around c h =
     bind-all P (nextWord 5 c) _
-    (λ q e₁. bind-all P (ask 2 (c .index) (fits (messageWord (q .0)))) _
+    (λ q e₁. bind-all P (ask 2 (c .index) (wordFits (messageWord (q .0)))) _
     (λ u e₂. bind-all P (ask 3 (c .index) (bound around (messageWord (q .0)))) _
     (λ v e₃. bind-all P (ask 4 (c .index) (leb nest 64)) _
     (λ w e₄. h q (record { next = next 5 c q e₁; fit = ask-inv 2 _ _ u e₂; bounded = ask-inv 3 _ _ v e₃; levelled = leb-true nest 64 (ask-inv 4 _ _ w e₄) })))))
@@ -144,8 +144,8 @@ module _ (i : ℕ) (read : Cursor → Reading (Message × Cursor)) (c : Cursor) 
   forget-two (refuse q j) = refl
   forget-two (got p) = forget (path (p .0)) (read (p .1))
 
-  from-counted : (m : MessageWord) → fits m ≡ true → outcome (messageFrom read m c) ≡ counted (follow m) i read c
-  unfolding messageFrom follow fits outcome
+  from-counted : (m : MessageWord) → wordFits m ≡ true → outcome (messageFrom read m c) ≡ counted (follow m) i read c
+  unfolding messageFrom follow wordFits outcome
   from-counted (Name n) e = refl
   from-counted (Variable v) e = refl
   from-counted Enter e = forget enter (read c)
@@ -168,7 +168,7 @@ step : (f nest : ℕ) (around : List ℕ) (at number w : ℕ) (ws : List ℕ) �
 unfolding readMessage takeWord asked
 step f nest around at number w ws =
     ap (λ (x : Reading (Message × Cursor)). outcome x) (bind-got (takeWord 5 at number (w ∷ ws)) _ (w, cursor (suc at) number ws) refl)
-    ∙ questions at (readMessage f (suc nest) around) (cursor (suc at) number ws) (fits (messageWord w)) (bound around (messageWord w)) (leb nest 64) (follow (messageWord w)) _
+    ∙ questions at (readMessage f (suc nest) around) (cursor (suc at) number ws) (wordFits (messageWord w)) (bound around (messageWord w)) (leb nest 64) (follow (messageWord w)) _
     (from-counted at (readMessage f (suc nest) around) (cursor (suc at) number ws) (messageWord w))
 
 -- the outcome for the words s, the first of which has the index `at`
@@ -222,7 +222,7 @@ module _ (x : First) where
   unfolding asked
   level b e =
       let m : MessageWord = messageWord (getD (x .words) 0 0) in
-      subst (Level (x .nest)) (sym (x .answers) ∙ e) (level-told (x .nest) (fits m) (bound (x .around) m) (leb (x .nest) 64) (follow m) refl)
+      subst (Level (x .nest)) (sym (x .answers) ∙ e) (level-told (x .nest) (wordFits m) (bound (x .around) m) (leb (x .nest) 64) (follow m) refl)
 
   module _ (number : ℕ) where
     -- the cursor at the first word, and the one behind it
@@ -235,14 +235,14 @@ module _ (x : First) where
     abbrev reader : Cursor → Reading (Message × Cursor)
     reader = readMessage (length (drop 1 (x .words))) (suc (x .nest)) (x .around)
 
-    abbrev pub whole : Outcome
-    whole = readOf (x .words) (x .at) (x .nest) (x .around) number
+    abbrev pub fullRead : Outcome
+    fullRead = readOf (x .words) (x .at) (x .nest) (x .around) number
 
     -- the outcome of the message that begins at the index n of the words, one level further in
     abbrev pub further : ℕ → Outcome
     further n = readOf (part (x .words) (n - x .at)) n (x .nest + 1) (x .around) number
 
-    arm : (b : Asked) → x .answer ≡ b → counted b (x .at) reader second ≡ whole
+    arm : (b : Asked) → x .answer ≡ b → counted b (x .at) reader second ≡ fullRead
     arm b e =
         sym (ap (λ (l : List ℕ). readOf l (x .at) (x .nest) (x .around) number) (first (x .words) (x .some))
         ∙ step (length (drop 1 (x .words))) (x .nest) (x .around) (x .at) number (getD (x .words) 0 0) (drop 1 (x .words))
@@ -254,20 +254,20 @@ module _ (x : First) where
         read-behind (x .around) here (getD (x .words) 0 0, second) p (record { words = first (x .words) (x .some); index = refl; number = refl })
         (behind (x .around) second p (message-advances (length (drop 1 (x .words))) (suc (x .nest)) (x .around) second p e))
 
-    pub no-read : (q : ℕ) → x .answer ≡ No q → Refused q (x .at) ≡ whole
+    pub no-read : (q : ℕ) → x .answer ≡ No q → Refused q (x .at) ≡ fullRead
     no-read q e = arm (No q) e
 
-    pub leaf-read : x .answer ≡ Leaf → Read (x .at + 1) ≡ whole
+    pub leaf-read : x .answer ≡ Leaf → Read (x .at + 1) ≡ fullRead
     leaf-read e = rw (add-one (x .at)) (arm Leaf e)
 
     module _ (r : Outcome) (er : r ≡ readOf (part (x .words) 1) (x .at + 1) (x .nest + 1) (x .around) number) where
       read-second : r ≡ outcome (reader second)
       read-second = rw (part-drop (x .words) 1, add-one (x .at), add-one (x .nest)) at er
 
-      pub one-read : x .answer ≡ One → r ≡ whole
+      pub one-read : x .answer ≡ One → r ≡ fullRead
       one-read e = read-second ∙ arm One e
 
-      pub two-refused : x .answer ≡ Two → (q i : ℕ) → r ≡ Refused q i → r ≡ whole
+      pub two-refused : x .answer ≡ Two → (q i : ℕ) → r ≡ Refused q i → r ≡ fullRead
       two-refused e q i d = d ∙ sym (outcome-refused (reader second) _ q i (sym read-second ∙ d)) ∙ arm Two e
 
       module _ (n : ℕ) (d : r ≡ Read n) where
@@ -287,7 +287,7 @@ module _ (x : First) where
             (message-fuel _ _ (suc (x .nest)) (x .around) (cursor n number (drop (n - x .at) (x .words))) (omega arith)
             (omega (arith, length-drop 1 (x .words), length-drop (n - x .at) (x .words), first-bounds))))
 
-        pub two-read : x .answer ≡ Two → (r′ : Outcome) → r′ ≡ further n → r′ ≡ whole
+        pub two-read : x .answer ≡ Two → (r′ : Outcome) → r′ ≡ further n → r′ ≡ fullRead
         two-read e r′ er′ =
             let (p, ep, en) = outcome-read (reader second) n (sym read-second ∙ d) in
             er′ ∙ two-on p en (inside p ep)

@@ -8,7 +8,7 @@ use lib.Dec.{leb}
 use lib.ListN.{length}
 use Rattle.read_messages.specs.Reading.{Cursor, Reading, refuse, got, _>>=_, ask, takeWord, nextWord}
 use Rattle.read_messages.specs.Message.{Message, enter, exit, opens}
-use Rattle.read_messages.specs.ReadMessage.{messageWord, fits, bound, messageFrom, readMessage}
+use Rattle.read_messages.specs.ReadMessage.{messageWord, wordFits, bound, messageFrom, readMessage}
 use Rattle.read_messages.specs.declared.MessageWord.{MessageWord}
 use Rattle.read_messages.specs.declared.MessageWord.the-variants.{Name, Variable, Enter, Exit, Open, Empty, Path, Unfit}
 use Rattle.read_messages.proofs.Readings.{Advances, next, next-advances}
@@ -72,7 +72,7 @@ unfolding readMessage
 message-within x zero nest around c l = omega arith
 message-within x (suc f) nest around c l =
     bind-within x (nextWord 5 c) _ (next-within x 5 c l)
-    (λ q e. bind-within x (ask 2 (c .index) (fits (messageWord (q .0)))) _ (ask-within x 2 (c .index) _ (omega arith))
+    (λ q e. bind-within x (ask 2 (c .index) (wordFits (messageWord (q .0)))) _ (ask-within x 2 (c .index) _ (omega arith))
     (λ _ _. bind-within x (ask 3 (c .index) (bound around (messageWord (q .0)))) _ (ask-within x 3 (c .index) _ (omega arith))
     (λ _ _. bind-within x (ask 4 (c .index) (leb nest 64)) _ (ask-within x 4 (c .index) _ (omega arith))
     (λ _ _. from-within x around (readMessage f (suc nest) around) (message-advances f (suc nest) around) (message-within x f (suc nest) around) (messageWord (q .0)) (q .1) (next-ends x 5 c q e l)))))

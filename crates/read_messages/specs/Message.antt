@@ -14,7 +14,7 @@ pub data Message : Type 0 where
   name : ℕ → Message
   variable : ℕ → Message
   enter exit opens : Message → Message
-  empty : Message
+  emptyMessage : Message
   path : Message → Message → Message
 
 -- "A message's leaves are what remains when its PATHs are opened; the inside of A, B, C isn't opened. Leaves apart from
@@ -25,7 +25,7 @@ items (variable v) = variable v ∷ []
 items (enter m) = enter m ∷ []
 items (exit m) = exit m ∷ []
 items (opens m) = opens m ∷ []
-items empty = []
+items emptyMessage = []
 items (path m k) = items m ++ items k
 
 -- "A message is a name only if it is one NAME word". Everything that asks for a name asks it here.
@@ -35,7 +35,7 @@ nameOf (variable v) = Nameless
 nameOf (enter m) = Nameless
 nameOf (exit m) = Nameless
 nameOf (opens m) = Nameless
-nameOf empty = Nameless
+nameOf emptyMessage = Nameless
 nameOf (path m k) = Nameless
 
 -- what an item asks: "IN, EXIT or OPEN of a name m"
@@ -45,7 +45,7 @@ asks (variable v) = Other
 asks (enter m) = Enter (nameOf m)
 asks (exit m) = Exit (nameOf m)
 asks (opens m) = Open (nameOf m)
-asks empty = Other
+asks emptyMessage = Other
 asks (path m k) = Other
 
 -- the first of an action's items
@@ -60,7 +60,7 @@ substitute v r (variable u) = cond (eqb u v) r (variable u)
 substitute v r (enter m) = enter (substitute v r m)
 substitute v r (exit m) = exit (substitute v r m)
 substitute v r (opens m) = opens (substitute v r m)
-substitute v r empty = empty
+substitute v r emptyMessage = emptyMessage
 substitute v r (path m k) = path (substitute v r m) (substitute v r k)
 
 -- "(where it is itself an item of an action, the message's items)": an action's items with r for each variable v
@@ -75,7 +75,7 @@ mentions v (variable u) = cond (eqb u v) 1 0
 mentions v (enter m) = mentions v m
 mentions v (exit m) = mentions v m
 mentions v (opens m) = mentions v m
-mentions v empty = 0
+mentions v emptyMessage = 0
 mentions v (path m k) = mentions v m + mentions v k
 
 -- To unfold this is to unfold every definition of this module: for a proof by computation.

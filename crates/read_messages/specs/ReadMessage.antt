@@ -6,7 +6,7 @@ use mathlib.Core.List.{List}
 use lib.Dec.{leb, eqb}
 use Rattle.read_messages.specs.Words.{kind, operand, nameFits, member}
 use Rattle.read_messages.specs.Reading.{Cursor, Reading, refuse, got, _>>=_, ask, nextWord}
-use Rattle.read_messages.specs.Message.{Message, name, variable, enter, exit, opens, empty, path}
+use Rattle.read_messages.specs.Message.{Message, name, variable, enter, exit, opens, emptyMessage, path}
 use Rattle.read_messages.specs.declared.MessageWord.{MessageWord}
 use Rattle.read_messages.specs.declared.MessageWord.the-variants.{Name, Variable, Enter, Exit, Open, Empty, Path, Unfit}
 use Rattle.read_messages.specs.declared.Asked.{Asked}
@@ -31,15 +31,15 @@ unfoldable pub messageWord : ℕ → MessageWord
 messageWord w = messageKind (kind w) (operand w)
 
 -- question 2: "Does this word's kind and operand fit (VAR: any operand)?"
-unfoldable pub fits : MessageWord → Bool
-fits (Name n) = true
-fits (Variable v) = true
-fits Enter = true
-fits Exit = true
-fits Open = true
-fits Empty = true
-fits Path = true
-fits Unfit = false
+unfoldable pub wordFits : MessageWord → Bool
+wordFits (Name n) = true
+wordFits (Variable v) = true
+wordFits Enter = true
+wordFits Exit = true
+wordFits Open = true
+wordFits Empty = true
+wordFits Path = true
+wordFits Unfit = false
 
 -- question 3: "Does VAR name a REC around it?", `around` being the indices of the receipts around, innermost first
 unfoldable pub bound : (around : List ℕ) → MessageWord → Bool
@@ -65,7 +65,7 @@ messageFrom read Exit c = do
 messageFrom read Open c = do
   (m, c₁) ← read c
   got (opens m, c₁)
-messageFrom read Empty c = got (empty, c)
+messageFrom read Empty c = got (emptyMessage, c)
 messageFrom read Path c = do
   (m, c₁) ← read c
   (k, c₂) ← read c₁
@@ -78,7 +78,7 @@ unfoldable pub readMessage : (fuel nest : ℕ) (around : List ℕ) → Cursor �
 readMessage zero nest around c = refuse 5 (c .index)
 readMessage (suc f) nest around c = do
   (w, c₁) ← nextWord 5 c
-  _ ← ask 2 (c .index) (fits (messageWord w))
+  _ ← ask 2 (c .index) (wordFits (messageWord w))
   _ ← ask 3 (c .index) (bound around (messageWord w))
   _ ← ask 4 (c .index) (leb nest 64)
   messageFrom (readMessage f (suc nest) around) (messageWord w) c₁
@@ -102,9 +102,9 @@ levelled nest a = cond (leb nest 64) a (No 4)
 -- messages follow.
 unfoldable pub asked : (nest : ℕ) (around : List ℕ) → MessageWord → Asked
 asked nest around m =
-    cond (fits m) (cond (bound around m) (levelled nest (follow m)) (No 3)) (No 2)
+    cond (wordFits m) (cond (bound around m) (levelled nest (follow m)) (No 3)) (No 2)
 
 -- To unfold this is to unfold every definition of this module: for a proof by computation.
 unfoldable pub computing : Unit {0}
-unfolding messageWord fits bound messageFrom readMessage follow asked
+unfolding messageWord wordFits bound messageFrom readMessage follow asked
 computing = tt

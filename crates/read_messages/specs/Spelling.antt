@@ -3,26 +3,26 @@
 use Prim.Native.Nat.{ℕ}
 use mathlib.Core.List.{List, [], _∷_}
 use lib.ListN.{drop}
-use Rattle.read_messages.specs.Message.{Message, name, variable, enter, exit, opens, empty, path}
+use Rattle.read_messages.specs.Message.{Message, name, variable, enter, exit, opens, emptyMessage, path}
 use Rattle.read_messages.specs.ReadMessage.{messageWord}
 use Rattle.read_messages.specs.declared.MessageWord.{MessageWord}
 use Rattle.read_messages.specs.declared.MessageWord.the-variants.{Name, Variable, Enter, Exit, Open, Empty, Path, Unfit}
 
 -- the first message of a row, empty where there is none
-unfoldable pub top : List Message → Message
-top [] = empty
-top (m ∷ ms) = m
+unfoldable pub topMessage : List Message → Message
+topMessage [] = emptyMessage
+topMessage (m ∷ ms) = m
 
 -- a word in front of words that spell the messages of the row
 unfoldable pub push : MessageWord → List Message → List Message
 push (Name n) s = name n ∷ s
 push (Variable v) s = variable v ∷ s
-push Enter s = enter (top s) ∷ drop 1 s
-push Exit s = exit (top s) ∷ drop 1 s
-push Open s = opens (top s) ∷ drop 1 s
-push Empty s = empty ∷ s
-push Path s = path (top s) (top (drop 1 s)) ∷ drop 2 s
-push Unfit s = empty ∷ s
+push Enter s = enter (topMessage s) ∷ drop 1 s
+push Exit s = exit (topMessage s) ∷ drop 1 s
+push Open s = opens (topMessage s) ∷ drop 1 s
+push Empty s = emptyMessage ∷ s
+push Path s = path (topMessage s) (topMessage (drop 1 s)) ∷ drop 2 s
+push Unfit s = emptyMessage ∷ s
 
 -- The messages that the words spell, one behind another; a word of no message stands for an empty one.
 unfoldable pub spelled : List ℕ → List Message
@@ -31,4 +31,4 @@ spelled (w ∷ ws) = push (messageWord w) (spelled ws)
 
 -- the message at the first of the words
 unfoldable pub messageAt : List ℕ → Message
-messageAt ws = top (spelled ws)
+messageAt ws = topMessage (spelled ws)

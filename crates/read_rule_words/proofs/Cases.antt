@@ -10,7 +10,7 @@ use Rattle.read_messages.specs.Words.{kind, operand, nameFits}
 use Rattle.read_messages.specs.Reading.{Cursor, cursor, got, ask, nextWord, nextPart, isEmpty}
 use Rattle.read_messages.proofs.Readings.{refuse≢got, bind-all, got-all, ask-inv, Next, next}
 use Rattle.read_rule_words.specs.Rule.{Rule, truth, negation, either, void, at, beside, some-name, sometime, somewhere, placed}
-use Rattle.read_rule_words.specs.ReadRule.{RuleKind, TRUE, NOT, OR, VOID, AT, BESIDE, SOME, SOMETIME, SOMEWHERE, PLACED, OTHER, ruleKind, isChosen, termOf, fits, termBound, bound, somesWith, oneRule, twoRules, ruleFrom, readRule, readWholeRule}
+use Rattle.read_rule_words.specs.ReadRule.{RuleKind, TRUE, NOT, OR, VOID, AT, BESIDE, SOME, SOMETIME, SOMEWHERE, PLACED, OTHER, ruleKind, isChosen, termOf, operandFits, termBound, bound, somesWith, oneRule, twoRules, ruleFrom, readRule, readWholeRule}
 use Rattle.read_rule_words.proofs.Words.{kind-told}
 
 -- what is known of the operand of AT and PLACED: it fits, and its SOME is around
@@ -48,9 +48,9 @@ module _ (C : List ℕ → Cursor → Rule × Cursor → Type 0) (cases : Cases 
         bind-all (C somes c) (readRule f (suc around) somes (q .1)) _
         (λ p e. bind-all (C somes c) (readRule f (suc around) somes (p .1)) _ (λ r d. got-all (C somes c) _ (h p r (read somes (q .1) p e) (read somes (p .1) r d))))
 
-    from-case : (k : RuleKind) → ruleKind (q .0) ≡ k → fits k (operand (q .0)) ≡ true → bound somes k (operand (q .0)) ≡ true → somesWith k (length somes) ≤ 8
+    from-case : (k : RuleKind) → ruleKind (q .0) ≡ k → operandFits k (operand (q .0)) ≡ true → bound somes k (operand (q .0)) ≡ true → somesWith k (length somes) ≤ 8
         → (p : Rule × Cursor) → ruleFrom (readRule f (suc around)) k (termOf (operand (q .0))) (c .index) somes (q .1) ≡ got p → C somes c p
-    unfolding ruleFrom fits bound somesWith
+    unfolding ruleFrom operandFits bound somesWith
     from-case TRUE e x y z = got-all (C somes c) _ (cases .leaves somes c q n .0 (kind-told (q .0) TRUE e))
     from-case NOT e x y z = one-case (negation (c .index)) somes (q .1) (λ p h. cases .ones somes c q p n h .0 (kind-told (q .0) NOT e))
     from-case OR e x y z = two-case (either (c .index)) (λ p r h g. cases .twos somes c q p r n h g .0 (kind-told (q .0) OR e))
@@ -69,7 +69,7 @@ module _ (C : List ℕ → Cursor → Rule × Cursor → Type 0) (cases : Cases 
   rule-case zero around somes c = λ p e. refuse≢got e
   rule-case (suc f) around somes c =
       bind-all (C somes c) (nextWord 11 c) _
-      (λ q e₁. bind-all (C somes c) (ask 8 (c .index) (fits (ruleKind (q .0)) (operand (q .0)))) _
+      (λ q e₁. bind-all (C somes c) (ask 8 (c .index) (operandFits (ruleKind (q .0)) (operand (q .0)))) _
       (λ u₂ e₂. bind-all (C somes c) (ask 9 (c .index) (bound somes (ruleKind (q .0)) (operand (q .0)))) _
       (λ u₃ e₃. bind-all (C somes c) (ask 10 (c .index) (leb around 64 && leb (somesWith (ruleKind (q .0)) (length somes)) 8)) _
       (λ u₄ e₄. from-case f around somes c q (next 11 c q e₁) (rule-case f (suc around)) (ruleKind (q .0)) refl (ask-inv 8 _ _ u₂ e₂) (ask-inv 9 _ _ u₃ e₃)

@@ -10,7 +10,7 @@ use borrow.Author.Tests.{le-leb, lt-leb}
 use Rattle.read_messages.specs.Words.{kind, operand, nameFits, member}
 use Rattle.base_slices.proofs.Tails.{before}
 use Rattle.read_rule_words.specs.Rule.{Term, constant, chosen, ruleName, greatestRuleName}
-use Rattle.read_rule_words.specs.ReadRule.{RuleKind, TRUE, NOT, OR, VOID, AT, BESIDE, SOME, SOMETIME, SOMEWHERE, PLACED, OTHER, ruleKind, isChosen, termOf, fits, termBound, bound, somesWith}
+use Rattle.read_rule_words.specs.ReadRule.{RuleKind, TRUE, NOT, OR, VOID, AT, BESIDE, SOME, SOMETIME, SOMEWHERE, PLACED, OTHER, ruleKind, isChosen, termOf, operandFits, termBound, bound, somesWith}
 use Rattle.read_rule_words.specs.RuleWords.{termWord, follow, levelled, askedPlain, askedTerm, asked}
 use Rattle.read_rule_words.specs.declared.RuleTerm.{RuleTerm}
 use Rattle.read_rule_words.specs.declared.RuleTerm.the-variants.{Constant, Chosen}
@@ -81,7 +81,7 @@ askedBy PLACED around somes n = askedTerm around somes n Place
 askedBy OTHER around somes n = No 8
 
 kind-asked : (k : RuleKind) (around : ℕ) (somes : List ℕ) (n : ℕ) → askedBy k around somes n ≡ asked around somes k n
-unfolding asked askedPlain askedTerm fits bound somesWith follow
+unfolding asked askedPlain askedTerm operandFits bound somesWith follow
 kind-asked TRUE around somes n = refl
 kind-asked NOT around somes n = refl
 kind-asked OR around somes n = refl

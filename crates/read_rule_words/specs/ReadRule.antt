@@ -24,18 +24,18 @@ unfoldable pub termOf : ℕ → Term
 termOf n = cond (isChosen n) (chosen (n - 134217728)) (constant n)
 
 -- question 8: "Does it fit (variable: any index)?"
-unfoldable pub fits : RuleKind → (operand : ℕ) → Bool
-fits TRUE n = eqb n 0
-fits NOT n = eqb n 0
-fits OR n = eqb n 0
-fits VOID n = eqb n 0
-fits AT n = nameFits n || isChosen n
-fits BESIDE n = eqb n 0
-fits SOME n = eqb n 0
-fits SOMETIME n = eqb n 0
-fits SOMEWHERE n = eqb n 0
-fits PLACED n = nameFits n || isChosen n
-fits OTHER n = false
+unfoldable pub operandFits : RuleKind → (operand : ℕ) → Bool
+operandFits TRUE n = eqb n 0
+operandFits NOT n = eqb n 0
+operandFits OR n = eqb n 0
+operandFits VOID n = eqb n 0
+operandFits AT n = nameFits n || isChosen n
+operandFits BESIDE n = eqb n 0
+operandFits SOME n = eqb n 0
+operandFits SOMETIME n = eqb n 0
+operandFits SOMEWHERE n = eqb n 0
+operandFits PLACED n = nameFits n || isChosen n
+operandFits OTHER n = false
 
 unfoldable pub termBound : (somes : List ℕ) → Term → Bool
 termBound somes (constant n) = true
@@ -104,7 +104,7 @@ unfoldable pub readRule : (fuel around : ℕ) → Reader
 readRule zero around somes c = refuse 11 (c .index)
 readRule (suc f) around somes c = do
   (w, c₁) ← nextWord 11 c
-  _ ← ask 8 (c .index) (fits (ruleKind w) (operand w))
+  _ ← ask 8 (c .index) (operandFits (ruleKind w) (operand w))
   _ ← ask 9 (c .index) (bound somes (ruleKind w) (operand w))
   _ ← ask 10 (c .index) (leb around 64 && leb (somesWith (ruleKind w) (length somes)) 8)
   ruleFrom (readRule f (suc around)) (ruleKind w) (termOf (operand w)) (c .index) somes c₁
@@ -120,5 +120,5 @@ readWholeRule n ws = do
 
 -- To unfold this is to unfold every definition of this module: for a proof by computation.
 unfoldable pub computing : Unit {0}
-unfolding ruleKind isChosen termOf fits termBound bound somesWith oneRule twoRules ruleFrom readRule readWholeRule
+unfolding ruleKind isChosen termOf operandFits termBound bound somesWith oneRule twoRules ruleFrom readRule readWholeRule
 computing = tt

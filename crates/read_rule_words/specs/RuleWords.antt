@@ -6,7 +6,7 @@ use lib.ListN.{length}
 use lib.Dec.{leb, eqb}
 use Rattle.read_messages.specs.Words.{nameFits}
 use Rattle.read_rule_words.specs.Rule.{Term, constant, chosen}
-use Rattle.read_rule_words.specs.ReadRule.{RuleKind, TRUE, NOT, OR, VOID, AT, BESIDE, SOME, SOMETIME, SOMEWHERE, PLACED, OTHER, isChosen, termOf, fits, termBound, bound, somesWith}
+use Rattle.read_rule_words.specs.ReadRule.{RuleKind, TRUE, NOT, OR, VOID, AT, BESIDE, SOME, SOMETIME, SOMEWHERE, PLACED, OTHER, isChosen, termOf, operandFits, termBound, bound, somesWith}
 use Rattle.read_rule_words.specs.declared.RuleTerm.{RuleTerm}
 use Rattle.read_rule_words.specs.declared.RuleTerm.the-variants.{Constant, Chosen}
 use Rattle.read_rule_words.specs.declared.Asked.{Asked}
@@ -47,4 +47,4 @@ askedTerm around somes n a =
 -- What `ask_rule` of the code answers: the first of the questions 8, 9 and 10 that is answered by no, or what follows.
 unfoldable pub asked : (around : ℕ) (somes : List ℕ) → RuleKind → (operand : ℕ) → Asked
 asked around somes k n =
-    cond (fits k n) (cond (bound somes k n) (levelled around (somesWith k (length somes)) (follow k)) (No 9)) (No 8)
+    cond (operandFits k n) (cond (bound somes k n) (levelled around (somesWith k (length somes)) (follow k)) (No 9)) (No 8)

@@ -14,7 +14,7 @@ use Rattle.read_messages.specs.declared.Outcome.the-variants.{Read}
 use Rattle.read_messages.proofs.Readings.{bind-cong, bind-got, bind-refuse, Advances, advances-on, Next, next, next-advances, next-shorter, advances-shorter, next-end}
 use Rattle.read_rule_words.specs.Rule.{Term, Rule, truth, negation, either, void, at, beside, some-name, sometime, somewhere, ruleIndex}
 use Rattle.read_rule_words.specs.Rule as Rule
-use Rattle.read_rule_words.specs.ReadRule.{RuleKind, TRUE, NOT, OR, VOID, AT, BESIDE, SOME, SOMETIME, SOMEWHERE, PLACED, OTHER, ruleKind, termOf, fits, bound, somesWith, Reader, oneRule, twoRules, ruleFrom, readRule}
+use Rattle.read_rule_words.specs.ReadRule.{RuleKind, TRUE, NOT, OR, VOID, AT, BESIDE, SOME, SOMETIME, SOMEWHERE, PLACED, OTHER, ruleKind, termOf, operandFits, bound, somesWith, Reader, oneRule, twoRules, ruleFrom, readRule}
 use Rattle.read_rule_words.specs.RuleWords.{follow, levelled, asked}
 use Rattle.read_rules.specs.RuleTable.{refusedAt, turned, entered, tabulate, scanned}
 use Rattle.read_rules.specs.declared.RuleTable.{RuleTable}
@@ -202,5 +202,5 @@ module _ (f around i : ℕ) (somes : List ℕ) (t : RuleTable) where
   unfolding readRule takeWord asked levelled
   step n w ws =
       ap (scanned t) (bind-got (takeWord 11 i n (w ∷ ws)) _ (w, cursor (suc i) n ws) refl)
-      ∙ questions (fits (ruleKind w) (operand w)) (bound somes (ruleKind w) (operand w)) (leb around 64 && leb (somesWith (ruleKind w) (length somes)) 8) (follow (ruleKind w)) (cursor (suc i) n ws) _
+      ∙ questions (operandFits (ruleKind w) (operand w)) (bound somes (ruleKind w) (operand w)) (leb around 64 && leb (somesWith (ruleKind w) (length somes)) 8) (follow (ruleKind w)) (cursor (suc i) n ws) _
       (from-stepped (ruleKind w) (termOf (operand w)) (cursor (suc i) n ws))

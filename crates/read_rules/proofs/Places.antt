@@ -12,7 +12,7 @@ use Rattle.read_messages.specs.Reading.{Cursor, cursor, got, ask, nextWord, nex
 use Rattle.read_messages.proofs.Readings.{ask-inv}
 use Rattle.read_messages.proofs.Places.{Within, bind-within, ask-within, Ends, ends-on, next-within, next-ends}
 use Rattle.read_rule_words.specs.Rule.{Term, Rule, negation, either, at, beside, some-name, sometime, somewhere, placed}
-use Rattle.read_rule_words.specs.ReadRule.{RuleKind, TRUE, NOT, OR, VOID, AT, BESIDE, SOME, SOMETIME, SOMEWHERE, PLACED, OTHER, ruleKind, termOf, fits, bound, somesWith, Reader, oneRule, twoRules, ruleFrom, readRule, readWholeRule}
+use Rattle.read_rule_words.specs.ReadRule.{RuleKind, TRUE, NOT, OR, VOID, AT, BESIDE, SOME, SOMETIME, SOMEWHERE, PLACED, OTHER, ruleKind, termOf, operandFits, bound, somesWith, Reader, oneRule, twoRules, ruleFrom, readRule, readWholeRule}
 use Rattle.read_rules.proofs.Laws.{RuleRead, rule-read}
 
 -- a rule, by the rules inside it
@@ -48,7 +48,7 @@ unfolding readRule
 read-within x zero around somes c l = omega arith
 read-within x (suc f) around somes c l =
     bind-within x (nextWord 11 c) _ (next-within x 11 c l)
-    (λ q e. bind-within x (ask 8 (c .index) (fits (ruleKind (q .0)) (operand (q .0)))) _ (ask-within x 8 (c .index) _ (omega arith))
+    (λ q e. bind-within x (ask 8 (c .index) (operandFits (ruleKind (q .0)) (operand (q .0)))) _ (ask-within x 8 (c .index) _ (omega arith))
     (λ _ _. bind-within x (ask 9 (c .index) (bound somes (ruleKind (q .0)) (operand (q .0)))) _ (ask-within x 9 (c .index) _ (omega arith))
     (λ _ _. bind-within x (ask 10 (c .index) (leb around 64 && leb (somesWith (ruleKind (q .0)) (length somes)) 8)) _ (ask-within x 10 (c .index) _ (omega arith))
     (λ _ _. from-within x (readRule f (suc around)) (rule-read f (suc around)) (read-within x f (suc around)) (ruleKind (q .0)) (termOf (operand (q .0))) (c .index) somes (q .1) (omega arith) (next-ends x 11 c q e l)))))

@@ -15,7 +15,7 @@ use Rattle.read_messages.specs.declared.Outcome.the-variants.{Read, Refused}
 use Rattle.read_messages.proofs.Readings.{placed, read≢refused}
 use Rattle.base_slices.proofs.Tails.{no-element, first, part, part-drop}
 use Rattle.read_rule_words.specs.Rule.{Rule}
-use Rattle.read_rule_words.specs.ReadRule.{RuleKind, TRUE, NOT, OR, VOID, AT, BESIDE, SOME, SOMETIME, SOMEWHERE, PLACED, OTHER, ruleKind, fits, bound, somesWith, Reader, readRule}
+use Rattle.read_rule_words.specs.ReadRule.{RuleKind, TRUE, NOT, OR, VOID, AT, BESIDE, SOME, SOMETIME, SOMEWHERE, PLACED, OTHER, ruleKind, operandFits, bound, somesWith, Reader, readRule}
 use Rattle.read_rule_words.specs.RuleWords.{follow, levelled, asked}
 use Rattle.read_rules.specs.RuleTable.{refusedAt, turned, entered, tabulate, scanned}
 use Rattle.read_rules.specs.declared.RuleTable.{RuleTable}
@@ -101,7 +101,7 @@ module _ (x : First) where
   level b e =
       let w : ℕ = getD (x .words) 0 0 in
       subst (Level (x .around) (length (x .somes))) (sym (x .answers) ∙ e)
-      (level-told (x .around) (length (x .somes)) (ruleKind w) (fits (ruleKind w) (operand w)) (bound (x .somes) (ruleKind w) (operand w)) _ refl)
+      (level-told (x .around) (length (x .somes)) (ruleKind w) (operandFits (ruleKind w) (operand w)) (bound (x .somes) (ruleKind w) (operand w)) _ refl)
 
   -- the cursor behind the first word, and what reads there
   abbrev second : Cursor
@@ -110,36 +110,36 @@ module _ (x : First) where
   abbrev reader : Reader
   reader = readRule (length (drop 1 (x .words))) (suc (x .around))
 
-  abbrev pub whole : RuleScan
-  whole = scanned (x .table) (ruleAt (x .words) (x .at) (x .around) (x .somes) (x .table .count))
+  abbrev pub fullScan : RuleScan
+  fullScan = scanned (x .table) (ruleAt (x .words) (x .at) (x .around) (x .somes) (x .table .count))
 
   -- the rule that begins at the index n of the words, one level further in, with the table u
   abbrev pub further : (n : ℕ) (somes : List ℕ) (u : RuleTable) → RuleScan
   further k somes u = scanned u (ruleAt (part (x .words) k) (x .at + k) (x .around + 1) somes (u .count))
 
-  arm : (b : Asked) → x .answer ≡ b → stepped b (x .at) reader (x .somes) second (x .table) ≡ whole
+  arm : (b : Asked) → x .answer ≡ b → stepped b (x .at) reader (x .somes) second (x .table) ≡ fullScan
   arm b e =
       sym (ap (λ (l : List ℕ). scanned (x .table) (ruleAt l (x .at) (x .around) (x .somes) (x .table .count))) (first (x .words) (x .some))
       ∙ step (length (drop 1 (x .words))) (x .around) (x .at) (x .somes) (x .table) (x .table .count) (getD (x .words) 0 0) (drop 1 (x .words))
       ∙ ap (λ (a : Asked). stepped a (x .at) reader (x .somes) second (x .table)) (sym (x .answers) ∙ e))
 
-  pub no-read : (q : ℕ) → x .answer ≡ No q → refusedAt q (x .at) ≡ whole
+  pub no-read : (q : ℕ) → x .answer ≡ No q → refusedAt q (x .at) ≡ fullScan
   no-read q e = arm (No q) e
 
-  pub leaf-read : x .answer ≡ Leaf → record { outcome = Read (x .at + 1); table = x .table } ≡ whole
+  pub leaf-read : x .answer ≡ Leaf → record { outcome = Read (x .at + 1); table = x .table } ≡ fullScan
   leaf-read e = rw (add-one (x .at)) (arm Leaf e)
 
   -- what is read behind the first word, with the table u
   inside : (somes : List ℕ) (u : RuleTable) (r : RuleScan) → r ≡ further 1 somes u → r ≡ scanned u (reader somes (cursor (suc (x .at)) (u .count) (drop 1 (x .words))))
   inside somes u r e = rw (part-drop (x .words) 1, add-one (x .at), add-one (x .around)) at e
 
-  pub one-read : (r : RuleScan) → r ≡ further 1 (x .somes) (x .table) → x .answer ≡ One → r ≡ whole
+  pub one-read : (r : RuleScan) → r ≡ further 1 (x .somes) (x .table) → x .answer ≡ One → r ≡ fullScan
   one-read r er e = inside (x .somes) (x .table) r er ∙ arm One e
 
-  pub choice-read : (a : List ℕ) (r : RuleScan) → a ≡ x .at ∷ x .somes → r ≡ further 1 a (x .table) → x .answer ≡ Choice → r ≡ whole
+  pub choice-read : (a : List ℕ) (r : RuleScan) → a ≡ x .at ∷ x .somes → r ≡ further 1 a (x .table) → x .answer ≡ Choice → r ≡ fullScan
   choice-read a r ea er e = inside (x .at ∷ x .somes) (x .table) r (rw ea at er) ∙ arm Choice e
 
-  pub place-read : (u : RuleTable) (r : RuleScan) → u ≡ entered (x .at) (x .table .count) (x .table) → r ≡ further 1 (x .somes) u → x .answer ≡ Place → r ≡ whole
+  pub place-read : (u : RuleTable) (r : RuleScan) → u ≡ entered (x .at) (x .table .count) (x .table) → r ≡ further 1 (x .somes) u → x .answer ≡ Place → r ≡ fullScan
   place-read u r eu er e =
       inside (x .somes) (entered (x .at) (x .table .count) (x .table)) r (rw eu at er)
       ∙ ap (λ (n : ℕ). scanned (entered (x .at) (x .table .count) (x .table)) (reader (x .somes) (cursor (suc (x .at)) n (drop 1 (x .words))))) (add-one (x .table .count))
@@ -147,7 +147,7 @@ module _ (x : First) where
 
   -- the first of two rules, l being what its reader answers
   module _ (l : RuleScan) (el : l ≡ further 1 (x .somes) (x .table)) where
-    pub two-refused : (q i : ℕ) → l .outcome ≡ Refused q i → x .answer ≡ Two → l ≡ whole
+    pub two-refused : (q i : ℕ) → l .outcome ≡ Refused q i → x .answer ≡ Two → l ≡ fullScan
     two-refused q i d e = onward-refused (x .at) reader (x .somes) (x .table) (reader (x .somes) second) l q i (inside (x .somes) (x .table) l el) d ∙ arm Two e
 
     -- it has a word, and no more than there are; the PLACED words are no more than the words
@@ -183,7 +183,7 @@ module _ (x : First) where
           (omega (arith, m .ahead, en, length-drop 1 (x .words), length-drop (n - x .at) (x .words)))))
 
       pub two-read : (u : RuleTable) (r : RuleScan) → u ≡ turned (x .at) n (l .table)
-          → r ≡ scanned u (ruleAt (part (x .words) (n - x .at)) n (x .around + 1) (x .somes) (u .count)) → x .answer ≡ Two → r ≡ whole
+          → r ≡ scanned u (ruleAt (part (x .words) (n - x .at)) n (x .around + 1) (x .somes) (u .count)) → x .answer ≡ Two → r ≡ fullScan
       two-read u r eu er e =
           let (p, ep, en, et) = scan-told (x .table) (reader (x .somes) second) l n (inside (x .somes) (x .table) l el) d in
           let m : RuleRead (x .somes) second p = rule-read (length (drop 1 (x .words))) (suc (x .around)) (x .somes) second p ep in

@@ -10,7 +10,7 @@ use Rattle.read_messages.specs.Message.{Message}
 use Rattle.read_messages.specs.ReadMessage.{readMessage}
 use Rattle.read_messages.proofs.Readings.{refuse≢got, bind-all, got-all, Next, next}
 use Rattle.read_scripts.specs.Tree.{Head, ambient, action, receipt, output, close, part}
-use Rattle.read_scripts.specs.Script.{Written, Script, partWord, fits, partFrom, readBody, readScript}
+use Rattle.read_scripts.specs.Script.{Written, Script, partWord, partFits, partFrom, readBody, readScript}
 use Rattle.read_scripts.specs.declared.PartWord.{PartWord}
 use Rattle.read_scripts.specs.declared.PartWord.the-variants.{Close, Ambient, Action, Receipt, Output, No}
 use Rattle.read_scripts.proofs.Laws.{or-close-all}
@@ -69,7 +69,7 @@ module _ (M : List ℕ → Cursor → Message × Cursor → Type 0) (B : List �
   body-case zero nest around c = λ p e. refuse≢got e
   body-case (suc f) nest around c =
       bind-all (B around c) (nextWord 5 c) _
-      (λ q e₁. bind-all (B around c) (ask 2 (c .index) (fits (partWord (q .0)))) _
+      (λ q e₁. bind-all (B around c) (ask 2 (c .index) (partFits (partWord (q .0)))) _
       (λ _ _. bind-all (B around c) (ask 4 (c .index) (leb nest 64)) _
       (λ _ _. or-close-all (B around c) (partWord (q .0)) (q .1) _ (cases .closed around c q (next 5 c q e₁))
       (bind-all (B around c) (partFrom (readMessage f nest around) (readBody f (suc nest)) around (partWord (q .0)) (c .index) (nextPart (q .1))) _

@@ -15,8 +15,8 @@ use Rattle.read_messages.proofs.Readings.{refuse≢got, bind-all, got-all, bind
 use Rattle.read_messages.specs.Spelling.{messageAt}
 use Rattle.read_messages.proofs.Laws.{MessageRead, message-advances, message-fuel}
 use Rattle.read_messages.proofs.Spells.{read-message}
-use Rattle.read_scripts.specs.Tree.{Head, ambient, action, receipt, output, close, part, kindNumber, total, parts}
-use Rattle.read_scripts.specs.Script.{Written, Script, partWord, fits, guardedFrom, partFrom, orClose, readBody}
+use Rattle.read_scripts.specs.Tree.{Head, ambient, action, receipt, output, close, part, kindNumber, totalOver, parts}
+use Rattle.read_scripts.specs.Script.{Written, Script, partWord, partFits, guardedFrom, partFrom, orClose, readBody}
 use Rattle.read_scripts.specs.Table.{startBy, startOf}
 use Rattle.read_scripts.specs.Represents.{Numbered, Placed, Low, headAt}
 use Rattle.read_scripts.specs.declared.PartWord.{PartWord}
@@ -96,7 +96,7 @@ module _ (nest : ℕ) (around : List ℕ) (c : Cursor) where
   receipt-read a i r b = record { ahead = b .ahead; advances = b .advances; numbers = b .numbers; fewer = b .fewer; numbered = b .numbered; placed = b .placed; low = b .low; says = λ ws s e. receipt-says ws i }
 
   output-read : (i : ℕ) (q : Message × Cursor) → MessageRead around c q → Spelt c q → PartRead nest around c ((record { index = i; head = output (q .0) }, close), q .1)
-  unfolding total
+  unfolding totalOver
   output-read i q m l = record {
     ahead = m .ahead;
     advances = m .advances;
@@ -109,12 +109,12 @@ module _ (nest : ℕ) (around : List ℕ) (c : Cursor) where
   }
 
   closed-read : (q : ℕ × Cursor) → Next c q → BodyRead nest around c (close, q .1)
-  unfolding total
+  unfolding totalOver
   closed-read q n = record { ahead = omega (arith, n .index); advances = next-advances c q n; numbers = omega (arith, n .number); fewer = omega (arith, n .index, n .number); numbered = tt; placed = λ ws s. tt; low = λ n l. tt }
 
   part-more : (q : ℕ × Cursor) (p : (Written × Script) × Cursor) (r : Script × Cursor)
       → Next c q → PartRead nest around (nextPart (q .1)) p → (p .0 .0 .index ≡ c .index) × (startOf (p .0 .0) ≤ c .index + 1) → BodyRead nest around (p .1) r → BodyRead nest around c (part (c .number) (p .0 .0) (p .0 .1) (r .0), r .1)
-  unfolding total
+  unfolding totalOver
   part-more q p r n a i b = record {
     ahead = omega (arith, n .index, a .ahead, b .ahead);
     advances = advances-on c (p .1) (r .1) (advances-on c (q .1) (p .1) (next-advances c q n) (record { ahead = a .advances .ahead; within = a .advances .within; tail = a .advances .tail })) (b .advances);
@@ -190,7 +190,7 @@ unfolding readBody
 body-advances zero nest around c p e = refuse≢got e
 body-advances (suc f) nest around c p e =
     bind-all (BodyRead nest around c) (nextWord 5 c) _
-    (λ q e₁. bind-all (BodyRead nest around c) (ask 2 (c .index) (fits (partWord (q .0)))) _
+    (λ q e₁. bind-all (BodyRead nest around c) (ask 2 (c .index) (partFits (partWord (q .0)))) _
     (λ _ _. bind-all (BodyRead nest around c) (ask 4 (c .index) (leb nest 64)) _
     (λ _ _. or-close-all (BodyRead nest around c) (partWord (q .0)) (q .1) _ (closed-read nest around c q (next 5 c q e₁))
     (bind-all (BodyRead nest around c) (partFrom (readMessage f nest around) (readBody f (suc nest)) around (partWord (q .0)) (c .index) (nextPart (q .1))) _

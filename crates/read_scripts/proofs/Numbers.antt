@@ -7,7 +7,7 @@ use native.Mathlib.Omega.{arith}
 use lib.Dec.{eqb, ltb}
 use borrow.Author.Tests.{eqb-true, ltb-true, ltb-false}
 use Rattle.base_slices.proofs.Tests.{byTest, eqb-same}
-use Rattle.read_scripts.specs.Tree.{Body, close, part, total, parts, oneIf, timesIn}
+use Rattle.read_scripts.specs.Tree.{Body, close, part, totalOver, parts, oneIf, timesIn}
 use Rattle.read_scripts.specs.Represents.{Numbered}
 
 -- a part's own number is counted once, and one that is not counted is another's
@@ -44,7 +44,7 @@ one-range v i = byTest (eqb v i)
 
 module _ {H : Type 0} (j : ℕ) where
   pub numbered-range : (n : ℕ) (b : Body H) → Numbered n b → Range j n (n + parts b) (timesIn j b)
-  unfolding total
+  unfolding totalOver
   numbered-range n close N = record { once = omega arith; under = λ h. refl; over = λ h. refl }
   numbered-range n (part i h b r) N =
       let B = numbered-range (n + 1) b (N .1) in

@@ -12,7 +12,7 @@ use Rattle.read_messages.specs.ReadMessage.{readMessage}
 use Rattle.read_messages.proofs.Laws.{MessageRead, message-advances}
 use Rattle.read_messages.proofs.Places.{Within, bind-within, ask-within, Ends, ends-on, next-within, next-ends, message-within}
 use Rattle.read_scripts.specs.Tree.{Head, ambient, action}
-use Rattle.read_scripts.specs.Script.{Script, partWord, fits, guardedFrom, partFrom, orClose, readBody, readScript}
+use Rattle.read_scripts.specs.Script.{Script, partWord, partFits, guardedFrom, partFrom, orClose, readBody, readScript}
 use Rattle.read_scripts.specs.declared.PartWord.{PartWord}
 use Rattle.read_scripts.specs.declared.PartWord.the-variants.{Close, Ambient, Action, Receipt, Output, No}
 use Rattle.read_scripts.proofs.Laws.{body-advances, part-read, short}
@@ -50,7 +50,7 @@ unfolding readBody
 body-within x zero nest around c l = omega arith
 body-within x (suc f) nest around c l =
     bind-within x (nextWord 5 c) _ (next-within x 5 c l)
-    (λ q e. bind-within x (ask 2 (c .index) (fits (partWord (q .0)))) _ (ask-within x 2 (c .index) _ (omega arith))
+    (λ q e. bind-within x (ask 2 (c .index) (partFits (partWord (q .0)))) _ (ask-within x 2 (c .index) _ (omega arith))
     (λ _ _. bind-within x (ask 4 (c .index) (leb nest 64)) _ (ask-within x 4 (c .index) _ (omega arith))
     (λ _ _.
     let k : Ends x (q .1) = next-ends x 5 c q e l in

@@ -14,7 +14,7 @@ use Rattle.read_messages.proofs.Mentioning.{mentions-other}
 use Rattle.read_messages.proofs.Readings.{Next}
 use Rattle.read_messages.proofs.Cases as message
 use Rattle.base_slices.proofs.Tests.{byTest}
-use Rattle.read_scripts.specs.Tree.{Head, ambient, action, receipt, output, close, part, oneIf, total}
+use Rattle.read_scripts.specs.Tree.{Head, ambient, action, receipt, output, close, part, oneIf, totalOver}
 use Rattle.read_scripts.specs.Script.{Script, readScript}
 use Rattle.read_scripts.proofs.Cases as body
 use Rattle.read_scripts.proofs.Numbers.{Range, two-ranges, sooner, one-range}
@@ -35,7 +35,7 @@ uses v (output m) = mentions v m
 
 -- how many receipts it has
 abbrev pub receiptsOf : ℕ → Script → ℕ
-receiptsOf v b = total (λ k w. oneIf (receives v (w .head))) b
+receiptsOf v b = totalOver (λ k w. oneIf (receives v (w .head))) b
 
 -- how often it is used outside them
 unfoldable pub looseIn : ℕ → Script → ℕ
@@ -72,14 +72,14 @@ pub record Bound (around : List ℕ) (c : Cursor) (p : Script × Cursor) : Type 
   pub bound : (v : ℕ) → member v around ≡ false → looseIn v (p .0) ≡ 0
 
 none-bound : (around : List ℕ) (c d : Cursor) → c .index ≤ d .index → Bound around c (close, d)
-unfolding total looseIn
+unfolding totalOver looseIn
 none-bound around c d l = record { rises = l; ranges = λ v. record { once = omega arith; under = λ h. refl; over = λ h. refl }; bound = λ v d. refl }
 
 -- a part that is no receipt
 module _ (around : List ℕ) (c : Cursor) (q : ℕ × Cursor) (x : Next c q) (m : Message × Cursor) (k : Known around (nextPart (q .1)) m) where
   with-message : (h : Head Message) (b r : Script × Cursor) → Bound around (m .1) b → Bound around (b .1) r → ((v : ℕ) → receives v h ≡ false) → ((v : ℕ) → uses v h ≡ mentions v (m .0))
       → Bound around c (part (c .number) (body.at (c .index) h) (b .0) (r .0), r .1)
-  unfolding total looseIn
+  unfolding totalOver looseIn
   with-message h b r B R n u = record {
     rises = omega (arith, x .index, k .rises, B .rises, R .rises);
     ranges = λ v. rw (n v)
@@ -94,7 +94,7 @@ member-cons v i around t d = rw (t, d)
 
 receipt-bound : (around : List ℕ) (c : Cursor) (q : ℕ × Cursor) (b r : Script × Cursor) → Next c q → Bound (c .index ∷ around) (nextPart (q .1)) b → Bound around (b .1) r
     → Bound around c (part (c .number) (body.at (c .index) (receipt (c .index))) (b .0) (r .0), r .1)
-unfolding total looseIn
+unfolding totalOver looseIn
 receipt-bound around c q b r x B R = record {
   rises = omega (arith, x .index, B .rises, R .rises);
   ranges = λ v.

@@ -21,8 +21,8 @@ use Rattle.read_messages.proofs.Readings.{bind-got, placed, outcome-read, read�
 use Rattle.base_slices.proofs.Tails.{part-drop, length-part}
 use Rattle.base_slices.proofs.Tails as Tails
 use Rattle.read_messages.proofs.Laws.{MessageRead, message-advances, readOf, read-bounds}
-use Rattle.read_scripts.specs.Tree.{Head, ambient, action, receipt, close, part, total, parts, kindNumber}
-use Rattle.read_scripts.specs.Script.{Written, Script, partWord, fits, guardedHead, guardedFrom, partFrom, orClose, readBody, askedPart}
+use Rattle.read_scripts.specs.Tree.{Head, ambient, action, receipt, close, part, totalOver, parts, kindNumber}
+use Rattle.read_scripts.specs.Script.{Written, Script, partWord, partFits, guardedHead, guardedFrom, partFrom, orClose, readBody, askedPart}
 use Rattle.read_scripts.specs.Table.{entered, startBy, tabulate, refusedAt, vacant, scanned, scannedPart}
 use Rattle.read_scripts.specs.declared.Table.{Table}
 use Rattle.read_scripts.specs.declared.Scan.{Scan}
@@ -56,8 +56,8 @@ unfolding partWord
 word-second w = second (eqb (operand w) 0) (eqb (kind w) 0) (eqb (kind w) 1) (eqb (kind w) 2) (eqb (kind w) 3) (eqb (kind w) 4)
 
 -- a part word of deep nesting does not fit
-unfit : (p : PartWord) → fits (cond (fits p) (No 4) p) ≡ false
-unfolding fits
+unfit : (p : PartWord) → partFits (cond (partFits p) (No 4) p) ≡ false
+unfolding partFits
 unfit Close = refl
 unfit Ambient = refl
 unfit Action = refl
@@ -65,15 +65,15 @@ unfit Receipt = refl
 unfit Output = refl
 unfit (No q) = refl
 
-pub asked-nest : (nest : ℕ) (p w : PartWord) → w ≡ askedPart nest p → fits w ≡ true → nest ≤ 64
+pub asked-nest : (nest : ℕ) (p w : PartWord) → w ≡ askedPart nest p → partFits w ≡ true → nest ≤ 64
 unfolding askedPart
 asked-nest nest p w e f = told (leb nest 64) refl
   where
     told : (b : Bool) → leb nest 64 ≡ b → nest ≤ 64
     told true d = leb-true nest 64 d
     told false d =
-        let g : fits (askedPart nest p) ≡ false = rw d (unfit p) in
-        let z : true ≡ false = sym f ∙ ap fits e ∙ g in
+        let g : partFits (askedPart nest p) ≡ false = rw d (unfit p) in
+        let z : true ≡ false = sym f ∙ ap partFits e ∙ g in
         let y : _≡_ {A = ℕ} 0 1 = cc in
         absurd (omega arith)
 
@@ -83,8 +83,8 @@ module _ (around : List ℕ) (message : Cursor → Reading (Message × Cursor)) 
   abbrev goesOn : PartWord → Reading (Script × Cursor)
   goesOn w = orClose w c (partFrom message inside around w i d >>= k)
 
-  questions : (b : Bool) (p : PartWord) → Second p → (ask 2 i (fits p) >>= λ _. ask 4 i b >>= λ _. goesOn p) ≡ goesOn (cond (fits p) (cond b p (No 4)) p)
-  unfolding fits ask _>>=_ orClose partFrom
+  questions : (b : Bool) (p : PartWord) → Second p → (ask 2 i (partFits p) >>= λ _. ask 4 i b >>= λ _. goesOn p) ≡ goesOn (cond (partFits p) (cond b p (No 4)) p)
+  unfolding partFits ask _>>=_ orClose partFrom
   questions true Close s = refl
   questions true Ambient s = refl
   questions true Action s = refl
@@ -113,7 +113,7 @@ abbrev behindPart : (f nest : ℕ) (around : List ℕ) (n : ℕ) → (Written ×
 behindPart f nest around n q = readBody f nest around (q .1) >>= λ r. got (part n (q .0 .0) (q .0 .1) (r .0), r .1)
 
 unroll : (f nest : ℕ) (around : List ℕ) (c : Cursor) → readBody (suc f) nest around c
-    ≡ (nextWord 5 c >>= λ q. ask 2 (c .index) (fits (partWord (q .0))) >>= λ _. ask 4 (c .index) (leb nest 64) >>= λ _.
+    ≡ (nextWord 5 c >>= λ q. ask 2 (c .index) (partFits (partWord (q .0))) >>= λ _. ask 4 (c .index) (leb nest 64) >>= λ _.
     goesOn around (readMessage f nest around) (readBody f (suc nest)) (c .index) (q .1) (nextPart (q .1)) (behindPart f nest around (c .number)) (partWord (q .0)))
 unfolding readBody
 unroll f nest around c = refl
@@ -174,7 +174,7 @@ pub entered-next : (o k s : ℕ) (table t : Table) → t ≡ entered o k s table
 entered-next o k s table t e = ap (λ (x : Table). x .count) e ∙ entered-count o k s table ∙ add-one (table .count)
 
 pub tabulate-count : (o : ℕ) (b : Script) (t : Table) → tabulate o b t .count ≡ t .count + parts b
-unfolding tabulate total
+unfolding tabulate totalOver
 tabulate-count o close t = omega arith
 tabulate-count o (part i w b r) t =
     omega (arith, tabulate-count o r (tabulate i b (entered o (kindNumber (w .head)) (startBy (w .head) (w .index)) t)), tabulate-count i b (entered o (kindNumber (w .head)) (startBy (w .head) (w .index)) t), entered-count o (kindNumber (w .head)) (startBy (w .head) (w .index)) t)
@@ -248,7 +248,7 @@ module _ (s : List ℕ) (at nest : ℕ) (around : List ℕ) (owner : ℕ) (table
         body-hands q i d = part-refused owner t here _ p q i told d ∙ sym goes
 
         again : (q : (Written × Script) × Cursor) (n : ℕ) (t′ : Table) → here ≡ got q → q .1 .index ≡ n → t′ ≡ tabulate owner (part (t .count) (q .0 .0) (q .0 .1) close) t → BodyOn s at nest around owner table k n t′
-        unfolding total
+        unfolding totalOver
         again q n t′ eq en et =
             let a : PartRead nest around (cursor (at + k + 1) (suc (t .count)) (drop 1 (drop k s))) q = part-read (length (drop k s) - 1) nest around w (at + k) (cursor (at + k + 1) (suc (t .count)) (drop 1 (drop k s))) q eq in
             let c : t′ .count ≡ t .count + parts (part (t .count) (q .0 .0) (q .0 .1) close) = ap (λ (x : Table). x .count) et ∙ tabulate-count owner (part (t .count) (q .0 .0) (q .0 .1) close) t in

@@ -13,12 +13,12 @@ use lib.Dec.{leb, ltb, eqb}
 use borrow.Author.Tests.{ne-eqb, eqb-true, eqb-false, lt-ltb, le-ltb, ltb-true, ltb-false, leb-true}
 use Rattle.base_slices.proofs.Tails.{zeros}
 use Rattle.base_slices.proofs.Tests.{byTest}
-use Rattle.base_sets.specs.Sets.{members, inserted, mask, Below}
+use Rattle.base_sets.specs.Sets.{members, inserted, mask, AllUnder}
 use Rattle.base_sets.proofs.Members.{members-rising, members-below, members-empty}
 use Rattle.base_sets.proofs.Lists.{members-mask, inserted-rising}
 use Rattle.read_messages.specs.Reading.{Cursor, cursor, got, ask, isEmpty}
 use Rattle.read_messages.proofs.Readings.{bind-all, got-all, ask-inv}
-use Rattle.read_scripts.specs.Tree.{Body, close, part, tops, total, parts, mapHeads, kindNumber}
+use Rattle.read_scripts.specs.Tree.{Body, close, part, tops, totalOver, parts, mapHeads, kindNumber}
 use Rattle.read_scripts.specs.Script.{Written, Script, readBody, readScript}
 use Rattle.read_scripts.specs.Table.{vacant, entered, startOf, tabulate, scanned}
 use Rattle.read_scripts.specs.Represents.{Numbered, Held, bodyIn, headAt, headIn, written, Placed, Low, Tabled}
@@ -28,17 +28,17 @@ use Rattle.read_scripts.proofs.Laws.{body-advances, short}
 
 -- ---- a number above all others of a rising list is inserted at its end
 
-inserted-last : (n : ℕ) (l : List ℕ) → Below n l → inserted n l ≡ l ++ (n ∷ [])
+inserted-last : (n : ℕ) (l : List ℕ) → AllUnder n l → inserted n l ≡ l ++ (n ∷ [])
 unfolding inserted
 inserted-last n [] b = refl
 inserted-last n (x ∷ l) b =
     rw (le-ltb n x (omega (arith, b .0)), ne-eqb n x (λ e. omega (arith, b .0))) (ap (λ (k : List ℕ). x ∷ k) (inserted-last n l (b .1)))
 
-below-more : (n m : ℕ) (l : List ℕ) → n ≤ m → Below n l → Below m l
+below-more : (n m : ℕ) (l : List ℕ) → n ≤ m → AllUnder n l → AllUnder m l
 below-more n m [] h b = tt
 below-more n m (x ∷ l) h b = (omega (arith, b .0), below-more n m l h (b .1))
 
-below-append : (n : ℕ) (l k : List ℕ) → Below n l → Below n k → Below n (l ++ k)
+below-append : (n : ℕ) (l k : List ℕ) → AllUnder n l → AllUnder n k → AllUnder n (l ++ k)
 below-append n [] k a b = b
 below-append n (x ∷ l) k a b = (a .0, below-append n l k (a .1) b)
 
@@ -55,7 +55,7 @@ module _ {G H : Type 0} (f : G → H) (k k′ : ℕ → List ℕ) (w w′ : ℕ 
   held-frame : (n : ℕ) (b : Body G) → Numbered n b
       → ((j : ℕ) → n ≤ j → j < n + parts b → k j ≡ k′ j) → ((j : ℕ) → n ≤ j → j < n + parts b → w j ≡ w′ j)
       → Held k w (mapHeads f b) → Held k′ w′ (mapHeads f b)
-  unfolding total mapHeads
+  unfolding totalOver mapHeads
   held-frame n close N K W h = tt
   held-frame n (part i g b r) N K W h =
       let e : i ≡ n = N .0 in (
@@ -93,7 +93,7 @@ other o n j w a b e = ⊎-elim (λ h. omega arith) (λ h. omega arith) (w .small
 owner-more : (o n m : ℕ) → n ≤ m → Owner o n → Owner o m
 owner-more o n m h w = record { inside = w .inside; smaller = ⊎-elim (λ a. inl (omega arith)) (λ a. inr a) (w .smaller) }
 
-inserted-members : (n m : ℕ) → n < 64 → Below n (members m) → members (mask (inserted n (members m))) ≡ members m ++ (n ∷ [])
+inserted-members : (n m : ℕ) → n < 64 → AllUnder n (members m) → members (mask (inserted n (members m))) ≡ members m ++ (n ∷ [])
 inserted-members n m l b =
     members-mask (inserted n (members m)) (inserted-rising 0 n (members m) (omega arith) (members-rising m))
     (rw (inserted-last n (members m) b) (below-append 64 (members m) (n ∷ []) (members-below m) (l, tt)))
@@ -116,7 +116,7 @@ module _ (o k s : ℕ) (t : Table) (R : Room t) (W : Owner o (t .count)) (l : t 
   entered-start : getD (entered o k s t .starts) (t .count) 0 ≡ s
   entered-start = rw entered-is (getD-set-same (t .starts) (t .count) s 0 (omega (arith, R .starts-length)))
 
-  entered-own : Below (t .count) (bodyIn (t .kids) o) → bodyIn (entered o k s t .kids) o ≡ bodyIn (t .kids) o ++ (t .count ∷ [])
+  entered-own : AllUnder (t .count) (bodyIn (t .kids) o) → bodyIn (entered o k s t .kids) o ≡ bodyIn (t .kids) o ++ (t .count ∷ [])
   entered-own B =
       rw entered-is
       (ap members (getD-set-same (t .kids) o (mask (inserted (t .count) (members (getD (t .kids) o 0)))) 0 (omega (arith, R .kids-length, W .inside)))
@@ -165,7 +165,7 @@ record Filled (ws : List ℕ) (o : ℕ) (b : Script) (t u : Table) : Type 0 wher
 -- what is shown of a body's parts, for every table that they are written to
 abbrev Fills : List ℕ → (o : ℕ) → Script → Type 0
 Fills ws o b =
-    (t : Table) → Numbered (t .count) b → Placed ws b → t .count + parts b ≤ 64 → Room t → Owner o (t .count) → Below (t .count) (bodyIn (t .kids) o) → Filled ws o b t (tabulate o b t)
+    (t : Table) → Numbered (t .count) b → Placed ws b → t .count + parts b ≤ 64 → Room t → Owner o (t .count) → AllUnder (t .count) (bodyIn (t .kids) o) → Filled ws o b t (tabulate o b t)
 
 -- A part and what stands in it are written: i is the part's number, t₁ the table with the part, t₂ with what stands in it too.
 module _ (ws : List ℕ) (o i : ℕ) (w : Written) (b r : Script) (t t₁ t₂ : Table) (e : i ≡ t .count) (l : t .count + (1 + (parts b + parts r)) ≤ 64) (W : Owner o (t .count))
@@ -184,11 +184,11 @@ module _ (ws : List ℕ) (o i : ℕ) (w : Written) (b r : Script) (t t₁ t₂ :
       ap members (F .wrote .kids-kept o (λ z. owned i (omega arith) (omega arith) (sym z)) (⊎-elim (λ a. inl (omega (arith, first-count))) (λ a. inr (omega (arith, first-count))) (W .smaller)))
       ∙ h
 
-  next-below : bodyIn (t₂ .kids) o ≡ bodyIn (t .kids) o ++ (i ∷ []) → Below (t .count) (bodyIn (t .kids) o) → Below (t₂ .count) (bodyIn (t₂ .kids) o)
+  next-below : bodyIn (t₂ .kids) o ≡ bodyIn (t .kids) o ++ (i ∷ []) → AllUnder (t .count) (bodyIn (t .kids) o) → AllUnder (t₂ .count) (bodyIn (t₂ .kids) o)
   next-below h B = rw h (below-append (t₂ .count) (bodyIn (t .kids) o) (i ∷ []) (below-more (t .count) (t₂ .count) (bodyIn (t .kids) o) (omega (arith, inside-count)) B) (omega (arith, inside-count), tt))
 
   -- the parts behind it are written
-  rest-filled : Fills ws o r → Numbered (t .count + 1 + parts b) r → Placed ws r → bodyIn (t₂ .kids) o ≡ bodyIn (t .kids) o ++ (i ∷ []) → Below (t .count) (bodyIn (t .kids) o) → Filled ws o r t₂ (tabulate o r t₂)
+  rest-filled : Fills ws o r → Numbered (t .count + 1 + parts b) r → Placed ws r → bodyIn (t₂ .kids) o ≡ bodyIn (t .kids) o ++ (i ∷ []) → AllUnder (t .count) (bodyIn (t .kids) o) → Filled ws o r t₂ (tabulate o r t₂)
   rest-filled f N P h B = f t₂ (rw inside-count N) P (omega (arith, inside-count)) (F .wrote .room) (owner-more o (t .count) (t₂ .count) (omega (arith, inside-count)) W) (next-below h B)
 
   module _ (u : Table) (G : Filled ws o r t₂ u) where
@@ -222,7 +222,7 @@ module _ (ws : List ℕ) (o i : ℕ) (w : Written) (b r : Script) (t t₁ t₂ :
 
     part-filled : bodyIn (t₂ .kids) o ≡ bodyIn (t .kids) o ++ (i ∷ []) → bodyIn (t₁ .kids) i ≡ [] → getD (t₁ .kinds) i 0 ≡ kindNumber (w .head) → getD (t₁ .starts) i 0 ≡ startOf w
         → Numbered (t .count + 1) b → Placed ws (part i w b r) → Filled ws o (part i w b r) t u
-    unfolding total tops mapHeads
+    unfolding totalOver tops mapHeads
     part-filled h n k s N P = record {
       wrote = all-wrote;
       own = G .own ∙ ap (λ (m : List ℕ). m ++ tops r) h ∙ append-assoc (bodyIn (t .kids) o) (i ∷ []) (tops r);
@@ -249,7 +249,7 @@ module _ (ws : List ℕ) (o i : ℕ) (w : Written) (b r : Script) (t : Table) (e
       f with-part (rw c N) P (omega arith) (entered-wrote o kindOf (startOf w) t R W room .room) (record { inside = omega arith; smaller = inl (omega arith) }) (rw no-body tt)
 
   -- a part and the parts behind it
-  both-filled : Filled ws i b with-part (tabulate i b with-part) → Fills ws o r → Numbered (t .count) (part i w b r) → Placed ws (part i w b r) → Below (t .count) (bodyIn (t .kids) o)
+  both-filled : Filled ws i b with-part (tabulate i b with-part) → Fills ws o r → Numbered (t .count) (part i w b r) → Placed ws (part i w b r) → AllUnder (t .count) (bodyIn (t .kids) o)
       → Filled ws o (part i w b r) t (tabulate o r (tabulate i b with-part))
   both-filled F f N P B =
       let E = entered-wrote o kindOf (startOf w) t R W room in
@@ -260,7 +260,7 @@ module _ (ws : List ℕ) (o i : ℕ) (w : Written) (b r : Script) (t : Table) (e
 
 module _ (ws : List ℕ) where
   filled : (o : ℕ) (b : Script) → Fills ws o b
-  unfolding tabulate total tops mapHeads
+  unfolding tabulate totalOver tops mapHeads
   filled o close t N P l R W B = record {
     wrote = record { counts = omega arith; room = R; kinds-kept = λ j a. refl; starts-kept = λ j a. refl; kids-kept = λ j n a. refl };
     own = sym (append-nil (bodyIn (t .kids) o));
@@ -304,17 +304,17 @@ script-tabled ws =
     tabled ws (q .0) (b .numbered) (b .placed ws refl) (b .low 1024 (omega (arith, b .advances .within))) (omega (arith, b .numbers, leb-true (q .1 .number) 64 (ask-inv 6 0 _ u e₆))))))))
 
 -- the cursor's number is the number of parts
-abbrev Counts : Script × Cursor → Type 0
-Counts p = p .1 .number ≡ parts (p .0)
+abbrev CountsParts : Script × Cursor → Type 0
+CountsParts p = p .1 .number ≡ parts (p .0)
 
 pub script-number : (ws : List ℕ) (p : Script × Cursor) → readScript ws ≡ got p → p .1 .number ≡ parts (p .0)
 unfolding readScript
 script-number ws =
-    bind-all Counts (ask 1 0 (leb 1 (length ws) && leb (length ws) 1024)) _
-    (λ _ _. bind-all Counts (readBody (length ws) 0 [] (cursor 0 0 ws)) _
-    (λ q e. bind-all Counts (ask 5 (q .1 .index) (isEmpty (q .1 .left))) _
-    (λ _ _. bind-all Counts (ask 6 0 (leb (q .1 .number) 64)) _
-    (λ _ _. got-all Counts q (omega (arith, body-advances (length ws) 0 [] (cursor 0 0 ws) q e .numbers))))))
+    bind-all CountsParts (ask 1 0 (leb 1 (length ws) && leb (length ws) 1024)) _
+    (λ _ _. bind-all CountsParts (readBody (length ws) 0 [] (cursor 0 0 ws)) _
+    (λ q e. bind-all CountsParts (ask 5 (q .1 .index) (isEmpty (q .1 .left))) _
+    (λ _ _. bind-all CountsParts (ask 6 0 (leb (q .1 .number) 64)) _
+    (λ _ _. got-all CountsParts q (omega (arith, body-advances (length ws) 0 [] (cursor 0 0 ws) q e .numbers))))))
 
 -- what the reader answers, and so what its table holds
 abbrev pub Answers : List ℕ → Scan → Type 0

@@ -13,7 +13,7 @@ use Rattle.base_slices.proofs.Tails.{before}
 use Rattle.read_scripts.proofs.PartWord.{the-type}
 use Rattle.read_scripts.specs.declared.PartWord.{PartWord}
 use Rattle.read_scripts.specs.declared.PartWord.the-variants.{Close, Ambient, Action, Receipt, Output, No}
-use Rattle.read_scripts.specs.Script.{fits, askedPart}
+use Rattle.read_scripts.specs.Script.{partFits, askedPart}
 use Rattle.read_scripts.specs.Measures.{greatestName}
 
 -- the variants before `No`
@@ -25,7 +25,7 @@ no-fit = ⊎-elim (λ e. omega arith) (⊎-elim (λ e. omega arith) (⊎-elim (�
 
 -- What is asked of a part word: question 2 is answered by the word itself, and then question 4.
 pub asked-deep : (nest : ℕ) (p : PartWord) → Fit p → 64 < nest → askedPart nest p ≡ No 4
-unfolding askedPart fits
+unfolding askedPart partFits
 asked-deep nest Close f h = rw (lt-leb nest 64 h)
 asked-deep nest Ambient f h = rw (lt-leb nest 64 h)
 asked-deep nest Action f h = rw (lt-leb nest 64 h)
@@ -34,7 +34,7 @@ asked-deep nest Output f h = rw (lt-leb nest 64 h)
 asked-deep nest (No q) f h = absurd (no-fit f)
 
 pub asked-within : (nest : ℕ) (p : PartWord) → nest ≤ 64 → askedPart nest p ≡ p
-unfolding askedPart fits
+unfolding askedPart partFits
 asked-within nest Close h = rw (le-leb nest 64 h)
 asked-within nest Ambient h = rw (le-leb nest 64 h)
 asked-within nest Action h = rw (le-leb nest 64 h)

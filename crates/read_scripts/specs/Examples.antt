@@ -7,7 +7,7 @@ use Rattle.read_messages.specs.Words
 use Rattle.read_messages.specs.Reading
 use Rattle.read_messages.specs.Reading.{Reading, refuse, got, cursor}
 use Rattle.read_messages.specs.ReadMessage
-use Rattle.read_messages.specs.Message.{name, enter, empty}
+use Rattle.read_messages.specs.Message.{name, enter, emptyMessage}
 use Rattle.read_messages.specs.Message
 use Rattle.read_scripts.specs.Tree.{Head, ambient, action, receipt, close, part}
 use Rattle.read_scripts.specs.Tree
@@ -68,8 +68,8 @@ refused-rightly = refl
 
 abbrev empty-actions : Script
 empty-actions =
-    part 0 (written 0 (action empty)) (part 1 (written 2 (ambient (name 1))) close close)
-    (part 2 (written 6 (receipt 6)) (part 3 (written 7 (action empty)) close close) close)
+    part 0 (written 0 (action emptyMessage)) (part 1 (written 2 (ambient (name 1))) close close)
+    (part 2 (written 6 (receipt 6)) (part 3 (written 7 (action emptyMessage)) close close) close)
 
 settles : started empty-actions ≡ part 1 (ambient (name 1)) close (part 2 (receipt 6) (part 3 (action []) close close) close)
 unfolding Tree.computing Script.computing Message.computing

@@ -6,7 +6,7 @@ use lib.ListN.{length}
 use lib.Dec.{eqb}
 use Rattle.read_messages.specs.Words.{kind, operand}
 use Rattle.read_messages.specs.Message.{Message, items}
-use Rattle.read_scripts.specs.Tree.{Head, ambient, action, receipt, output, total, greatest}
+use Rattle.read_scripts.specs.Tree.{Head, ambient, action, receipt, output, totalOver, greatest}
 use Rattle.read_scripts.specs.Script.{Script}
 
 -- "In the bound, receipts and actions are the script's RECs and ACTs"
@@ -23,10 +23,10 @@ isAction (receipt v) = 0
 isAction (output m) = 0
 
 unfoldable pub receiptsIn : Script → ℕ
-receiptsIn b = total (λ i w. isReceipt (w .head)) b
+receiptsIn b = totalOver (λ i w. isReceipt (w .head)) b
 
 unfoldable pub actionsIn : Script → ℕ
-actionsIn b = total (λ i w. isAction (w .head)) b
+actionsIn b = totalOver (λ i w. isAction (w .head)) b
 
 -- "items are those of its parts' messages as read, a VAR counting as one"
 abbrev pub itemsOf : Head Message → ℕ

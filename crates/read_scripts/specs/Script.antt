@@ -35,13 +35,13 @@ unfoldable pub partWord : ℕ → PartWord
 partWord w = cond (eqb (operand w) 0) (partKind (kind w)) (No 2)
 
 -- question 2: "Does this word's kind and operand fit (VAR: any operand)?"
-unfoldable pub fits : PartWord → Bool
-fits Close = true
-fits Ambient = true
-fits Action = true
-fits Receipt = true
-fits Output = true
-fits (No q) = false
+unfoldable pub partFits : PartWord → Bool
+partFits Close = true
+partFits Ambient = true
+partFits Action = true
+partFits Receipt = true
+partFits Output = true
+partFits (No q) = false
 
 -- a message and then a body; `written` says what the part is by its message
 abbrev pub guardedFrom :
@@ -84,7 +84,7 @@ unfoldable pub readBody : (fuel nest : ℕ) (around : List ℕ) → Cursor → R
 readBody zero nest around c = refuse 5 (c .index)
 readBody (suc f) nest around c = do
   (w, c₁) ← nextWord 5 c
-  _ ← ask 2 (c .index) (fits (partWord w))
+  _ ← ask 2 (c .index) (partFits (partWord w))
   _ ← ask 4 (c .index) (leb nest 64)
   orClose (partWord w) c₁ (do
     (p, c₂) ← partFrom (readMessage f nest around) (readBody f (suc nest)) around (partWord w) (c .index) (nextPart c₁)
@@ -101,18 +101,18 @@ readScript ws = do
   got (b, c)
 
 -- "An action is held as its items."
-unfoldable pub holdHead : Head Message → PlainHead
-holdHead (ambient m) = ambient m
-holdHead (action m) = action (items m)
-holdHead (receipt v) = receipt v
-holdHead (output m) = output m
+unfoldable pub headWithItems : Head Message → PlainHead
+headWithItems (ambient m) = ambient m
+headWithItems (action m) = action (items m)
+headWithItems (receipt v) = receipt v
+headWithItems (output m) = output m
 
 -- the plain machine's tree at the start: "this is so from the start"
-unfoldable pub hold : Script → Plain
-hold b = mapHeads (λ w. holdHead (w .head)) b
+unfoldable pub withItems : Script → Plain
+withItems b = mapHeads (λ w. headWithItems (w .head)) b
 
 unfoldable pub started : Script → Plain
-started b = settle (hold b)
+started b = settle (withItems b)
 
 -- what a guarded part of that kind is: 1 AMB, 2 ACT
 abbrev pub guardedHead : ℕ → Message → Head Message
@@ -120,9 +120,9 @@ guardedHead k m = cond (eqb k 1) (ambient m) (action m)
 
 -- What `ask_part` of the code answers: questions 2 and 4.
 unfoldable pub askedPart : (nest : ℕ) → PartWord → PartWord
-askedPart nest p = cond (fits p) (cond (leb nest 64) p (No 4)) p
+askedPart nest p = cond (partFits p) (cond (leb nest 64) p (No 4)) p
 
 -- To unfold this is to unfold every definition of this module: for a proof by computation.
 unfoldable pub computing : Unit {0}
-unfolding partWord fits partFrom orClose readBody readScript holdHead hold started askedPart
+unfolding partWord partFits partFrom orClose readBody readScript headWithItems withItems started askedPart
 computing = tt

@@ -46,9 +46,9 @@ module _ {H : Type 0} where
   tops (part i h b r) = i ∷ tops r
 
   -- the sum of f over all parts, at any depth
-  unfoldable pub total : (ℕ → H → ℕ) → Body H → ℕ
-  total f close = 0
-  total f (part i h b r) = f i h + (total f b + total f r)
+  unfoldable pub totalOver : (ℕ → H → ℕ) → Body H → ℕ
+  totalOver f close = 0
+  totalOver f (part i h b r) = f i h + (totalOver f b + totalOver f r)
 
   -- the greatest value of f over all parts, 0 if there are none
   unfoldable pub greatest : (ℕ → H → ℕ) → Body H → ℕ
@@ -57,11 +57,11 @@ module _ {H : Type 0} where
 
   -- "the parts in the tree": how many there are
   abbrev pub parts : Body H → ℕ
-  parts b = total (λ i h. 1) b
+  parts b = totalOver (λ i h. 1) b
 
   -- how often part number j stands in the tree
   abbrev pub timesIn : ℕ → Body H → ℕ
-  timesIn j b = total (λ i h. oneIf (eqb j i)) b
+  timesIn j b = totalOver (λ i h. oneIf (eqb j i)) b
 
   -- the body with one part more, at the place of its number
   unfoldable pub put : ℕ → H → Body H → Body H → Body H
@@ -69,9 +69,9 @@ module _ {H : Type 0} where
   put n g b (part i h s r) = cond (ltb n i) (part n g b (part i h s r)) (cond (eqb n i) (part i h s r) (part i h s (put n g b r)))
 
   -- the parts of both bodies
-  unfoldable pub merge : Body H → Body H → Body H
-  merge close k = k
-  merge (part i h s r) k = put i h s (merge r k)
+  unfoldable pub mergeParts : Body H → Body H → Body H
+  mergeParts close k = k
+  mergeParts (part i h s r) k = put i h s (mergeParts r k)
 
 -- the same tree with other heads
 unfoldable pub mapHeads : {G H : Type 0} → (G → H) → Body G → Body H
@@ -83,7 +83,7 @@ mapHeads f (part i h b r) = part i (f h) (mapHeads f b) (mapHeads f r)
 unfoldable pub settleBy : {A : Type 0} → (Head A → Bool) → Body (Head A) → Body (Head A)
 settleBy bare close = close
 settleBy bare (part i h b r) =
-    cond (bare h) (merge (settleBy bare b) (settleBy bare r))
+    cond (bare h) (mergeParts (settleBy bare b) (settleBy bare r))
     (put i h (cond (isAmbient h) (settleBy bare b) b) (settleBy bare r))
 
 -- The plain machine's tree: "An action is held as its items."
@@ -108,5 +108,5 @@ settle b = settleBy bare b
 
 -- To unfold this is to unfold every definition of this module: for a proof by computation.
 unfoldable pub computing : Unit {0}
-unfolding kindNumber isAmbient tops total greatest put merge mapHeads settleBy bare settle
+unfolding kindNumber isAmbient tops totalOver greatest put mergeParts mapHeads settleBy bare settle
 computing = tt

@@ -11,7 +11,7 @@ use Rattle.theory_machine.specs.Moves.{headName}
 use Rattle.theory_machine.proofs.Inversion.{plain-name}
 use Rattle.read_rule_words.specs.Rule.{Names, termName, Rule, truth, negation, either, void, at, beside, some-name, sometime, somewhere, placed, Later}
 use Rattle.theory_calculus.specs.Satisfaction.{Inside, first, later, Within, here, deeper, Reaches, stay, go, Alone, wrapped, Sat}
-use Rattle.theory_calculus.specs.Order.{Part, front, behind}
+use Rattle.theory_calculus.specs.Order.{HasPart, front, behind}
 use Rattle.theory_calculus.specs.Calculus.{Process, 𝟎, ambient, _≅_, StructRefl, StructSymm, StructTrans, StructAmb, StructZeroPar, RedCong, stop, step, _⟶*_, _↓_, Loc, _↓*_, Satisfies}
 use Rattle.theory_calculus.specs.TreeProcess.{piece, process}
 use Rattle.theory_calculus.proofs.Divisions.{as-nothing, as-both, divided-congruent}
@@ -65,13 +65,13 @@ module _ (n : ℕ) where
       (z .0, go (w .0) (w .1) (w .2) (w .3) (z .1), z .2)
 
   -- insides and sublocations (000, proposition 3.3)
-  part-inside : {b i c : Plain} {k m : ℕ} → Part b k (Head.ambient (name m)) i c → Inside b i
+  part-inside : {b i c : Plain} {k m : ℕ} → HasPart b k (Head.ambient (name m)) i c → Inside b i
   unfolding headName nameOf
   part-inside front = first refl
   part-inside (behind p) = later (part-inside p)
 
-  inside-part : {b c : Plain} → Inside b c → (k : ℕ) × (m : ℕ) × (r : Plain) × Part b k (Head.ambient (name m)) c r
-  inside-part (first {k = k} {n = m} {h = h} {b = b} {r = r} e) = (k, m, r, subst (λ g. Part (part k g b r) k (Head.ambient (name m)) b r) (sym (plain-name h m e)) front)
+  inside-part : {b c : Plain} → Inside b c → (k : ℕ) × (m : ℕ) × (r : Plain) × HasPart b k (Head.ambient (name m)) c r
+  inside-part (first {k = k} {n = m} {h = h} {b = b} {r = r} e) = (k, m, r, subst (λ g. HasPart (part k g b r) k (Head.ambient (name m)) b r) (sym (plain-name h m e)) front)
   inside-part (later x) = let y = inside-part x in (y .0, y .1, _, behind (y .3))
 
   within-sublocation : {b c : Plain} → Within b c → Good n b → (process b ↓* process c) × Good n c

@@ -5,13 +5,13 @@ use mathlib.Core.List.{List, [], _∷_}
 use mathlib.Core.Path.{_≡_, refl, sym, ap, subst}
 use mathlib.Core.Logic.{inl, inr}
 use native.Mathlib.Omega.{arith}
-use Rattle.read_messages.specs.Message.{Message, empty, items}
+use Rattle.read_messages.specs.Message.{Message, emptyMessage, items}
 use Rattle.read_scripts.specs.Tree.{Head, close, part, PlainHead, Plain}
 use Rattle.theory_calculus.specs.Satisfaction.{Divided, nothing, left, right}
 use Rattle.theory_calculus.specs.Calculus.{occurs, Process, 𝟎, _‖_, ambient, _≅_, StructRefl, StructSymm, StructTrans, StructParAssoc, StructZeroPar}
 use Rattle.theory_calculus.specs.TreeProcess.{prefix, piece, process}
-use Rattle.theory_calculus.proofs.Shapes.{Tag, place, can, hear, say, Shape, nil, cell, _⊕_, chain, Same, done, match, same-sym, pick-sum}
-use Rattle.theory_calculus.proofs.Congruences.{renamed-own, bound, own, shape, sound, complete, Below, top, top-below, par-both, par-swap}
+use Rattle.theory_calculus.proofs.Shapes.{Tag, place, can, hear, say, Shape, noCells, cell, _⧺_, chain, Same, done, match, same-sym, pick-sum}
+use Rattle.theory_calculus.proofs.Congruences.{renamed-own, bound, own, processShape, sound, complete, BelowAll, highest, top-below, par-both, par-swap}
 
 -- a message that is one item
 abbrev pub Item : Message → Type 0
@@ -55,76 +55,76 @@ settled-inside (ambient-part x) = x
 -- the cell that a settled part is: its tag and the shape inside it
 unfoldable pub tag : ℕ → PlainHead → Tag
 tag n (Head.ambient m) = place m
-tag n (Head.action []) = can empty
+tag n (Head.action []) = can emptyMessage
 tag n (Head.action (i ∷ is)) = can i
 tag n (Head.receipt v) = hear n
 tag n (Head.output m) = say m
 
-unfoldable pub core : ℕ → PlainHead → Process → Shape
-core n (Head.ambient m) p = shape n own p
-core n (Head.action []) p = nil
-core n (Head.action (i ∷ is)) p = shape n own (prefix is p)
-core n (Head.receipt v) p = shape (suc n) (bound own v n) p
-core n (Head.output m) p = nil
+unfoldable pub coreOf : ℕ → PlainHead → Process → Shape
+coreOf n (Head.ambient m) p = processShape n own p
+coreOf n (Head.action []) p = noCells
+coreOf n (Head.action (i ∷ is)) p = processShape n own (prefix is p)
+coreOf n (Head.receipt v) p = processShape (suc n) (bound own v n) p
+coreOf n (Head.output m) p = noCells
 
 -- the shape of a tree
-unfoldable pub flat : ℕ → Plain → Shape
-flat n b = shape n own (process b)
+unfoldable pub flattened : ℕ → Plain → Shape
+flattened n b = processShape n own (process b)
 
 -- a settled part is one cell
-one-cell : (n : ℕ) (h : PlainHead) (b : Plain) → SettledPart h b → (p : Process) → shape n own (piece h p) ≡ cell (tag n h) (core n h p) nil
-unfolding shape tag core chain piece prefix
+one-cell : (n : ℕ) (h : PlainHead) (b : Plain) → SettledPart h b → (p : Process) → processShape n own (piece h p) ≡ cell (tag n h) (coreOf n h p) noCells
+unfolding processShape tag coreOf chain piece prefix
 one-cell n (Head.ambient m) b s p = rw (renamed-own m)
 one-cell n (Head.action is) b (action-part {i = i} t) p = rw (renamed-own i, t)
 one-cell n (Head.receipt v) b s p = refl
 one-cell n (Head.output m) b s p = rw (renamed-own m)
 
-flat-part : (n k : ℕ) (h : PlainHead) (b r : Plain) → SettledPart h b → flat n (part k h b r) ≡ cell (tag n h) (core n h (process b)) (flat n r)
-unfolding flat process shape _⊕_
-flat-part n k h b r s = ap (λ (u : Shape). u ⊕ shape n own (process r)) (one-cell n h b s (process b))
+flat-part : (n k : ℕ) (h : PlainHead) (b r : Plain) → SettledPart h b → flattened n (part k h b r) ≡ cell (tag n h) (coreOf n h (process b)) (flattened n r)
+unfolding flattened process processShape _⧺_
+flat-part n k h b r s = ap (λ (u : Shape). u ⧺ processShape n own (process r)) (one-cell n h b s (process b))
 
-pub settled-flat : (n k : ℕ) (h : PlainHead) (b r : Plain) → Settled (part k h b r) → flat n (part k h b r) ≡ cell (tag n h) (core n h (process b)) (flat n r)
+pub settled-flat : (n k : ℕ) (h : PlainHead) (b r : Plain) → Settled (part k h b r) → flattened n (part k h b r) ≡ cell (tag n h) (coreOf n h (process b)) (flattened n r)
 settled-flat n k h b r s = flat-part n k h b r (settled-part s)
 
-pub flat-close : (n : ℕ) → flat n close ≡ nil
-unfolding flat process shape
+pub flat-close : (n : ℕ) → flattened n close ≡ noCells
+unfolding flattened process processShape
 flat-close n = refl
 
 abbrev IsNil : Shape → Type 0
-IsNil nil = Unit {0}
+IsNil noCells = Unit {0}
 IsNil (cell g i r) = ⊥
 
 same-nil : {a b : Shape} → Same a b → IsNil a → IsNil b
 same-nil done x = x
 same-nil (match p a h) x = absurd x
 
-nil-sum : (s t : Shape) → Same nil (s ⊕ t) → Same nil s × Same nil t
-unfolding _⊕_
-nil-sum nil t h = (done, h)
+nil-sum : (s t : Shape) → Same noCells (s ⧺ t) → Same noCells s × Same noCells t
+unfolding _⧺_
+nil-sum noCells t h = (done, h)
 nil-sum (cell g i r) t h = absurd (same-nil h tt)
 
 module _ (n : ℕ) where
   abbrev Division : Plain → Shape → Shape → Type 0
-  Division b s t = (c : Plain) × (d : Plain) × Divided b c d × Same (flat n c) s × Same (flat n d) t
+  Division b s t = (c : Plain) × (d : Plain) × Divided b c d × Same (flattened n c) s × Same (flattened n d) t
 
-  divide-part : (k : ℕ) (h : PlainHead) (b r : Plain) → SettledPart h b → ((s t : Shape) → Same (flat n r) (s ⊕ t) → Division r s t)
-      → (s t : Shape) → Same (cell (tag n h) (core n h (process b)) (flat n r)) (s ⊕ t) → Division (part k h b r) s t
+  divide-part : (k : ℕ) (h : PlainHead) (b r : Plain) → SettledPart h b → ((s t : Shape) → Same (flattened n r) (s ⧺ t) → Division r s t)
+      → (s t : Shape) → Same (cell (tag n h) (coreOf n h (process b)) (flattened n r)) (s ⧺ t) → Division (part k h b r) s t
   divide-part k h b r w ih s t (match p a e) = elim (pick-sum s t p) [
-    | inl x ↦ let y = ih (x .0) t (subst (Same (flat n r)) (x .2) e) in
+    | inl x ↦ let y = ih (x .0) t (subst (Same (flattened n r)) (x .2) e) in
         (part k h b (y .0), y .1, left (y .2), subst (λ u. Same u s) (sym (flat-part n k h b (y .0) w)) (match (x .1) a (y .3)), y .4)
-    | inr x ↦ let y = ih s (x .0) (subst (Same (flat n r)) (x .2) e) in
+    | inr x ↦ let y = ih s (x .0) (subst (Same (flattened n r)) (x .2) e) in
         (y .0, part k h b (y .1), right (y .2), y .3, subst (λ u. Same u t) (sym (flat-part n k h b (y .1) w)) (match (x .1) a (y .4)))
   ]
 
-  divide : (b : Plain) → Settled b → (s t : Shape) → Same (flat n b) (s ⊕ t) → Division b s t
-  divide close w s t h = unfold flat process shape in (let x = nil-sum s t h in (close, close, nothing, x .0, x .1))
+  divide : (b : Plain) → Settled b → (s t : Shape) → Same (flattened n b) (s ⧺ t) → Division b s t
+  divide close w s t h = unfold flattened process processShape in (let x = nil-sum s t h in (close, close, nothing, x .0, x .1))
   divide (part k h b r) w s t e =
-      divide-part k h b r (settled-part w) (divide r (settled-rest w)) s t (subst (λ u. Same u (s ⊕ t)) (settled-flat n k h b r w) e)
+      divide-part k h b r (settled-part w) (divide r (settled-rest w)) s t (subst (λ u. Same u (s ⧺ t)) (settled-flat n k h b r w) e)
 
   -- a body that is the same as nothing
-  only-nil : (b : Plain) → Settled b → Same (flat n b) nil → b ≡ close
+  only-nil : (b : Plain) → Settled b → Same (flattened n b) noCells → b ≡ close
   only-nil close w h = refl
-  only-nil (part k h b r) w e = absurd (same-nil (same-sym (subst (λ u. Same u nil) (settled-flat n k h b r w) e)) tt)
+  only-nil (part k h b r) w e = absurd (same-nil (same-sym (subst (λ u. Same u noCells) (settled-flat n k h b r w) e)) tt)
 
   pub tag-place : (h : PlainHead) (m : Message) → tag n h ≡ place m → h ≡ Head.ambient m
   unfolding tag
@@ -134,12 +134,12 @@ module _ (n : ℕ) where
   tag-place (Head.receipt v) m e = cc
   tag-place (Head.output k) m e = cc
 
-  pub tree-sound : (b : Plain) {p : Process} → process b ≅ p → Same (flat n b) (shape n own p)
-  unfolding flat
+  pub tree-sound : (b : Plain) {p : Process} → process b ≅ p → Same (flattened n b) (processShape n own p)
+  unfolding flattened
   tree-sound b h = sound h n own
 
-  pub tree-complete : (b : Plain) {p : Process} → Below n (process b) → Below n p → Same (flat n b) (shape n own p) → process b ≅ p
-  unfolding flat
+  pub tree-complete : (b : Plain) {p : Process} → BelowAll n (process b) → BelowAll n p → Same (flattened n b) (processShape n own p) → process b ≅ p
+  unfolding flattened
   tree-complete b c d h = complete n c d h
 
 divided-occurs : (v : ℕ) {b c d : Plain} → Divided b c d → occurs v (process b) ≡ occurs v (process c) + occurs v (process d)
@@ -150,15 +150,15 @@ divided-occurs v (right x) = omega (arith, divided-occurs v x)
 
 -- 000, proposition 3.1: what is congruent to 0, and to P | Q
 pub as-nothing : (b : Plain) → Settled b → process b ≅ 𝟎 → b ≡ close
-unfolding shape
+unfolding processShape
 as-nothing b w h = only-nil 0 b w (tree-sound 0 b h)
 
 pub as-both : (b : Plain) → Settled b → (p q : Process) → process b ≅ p ‖ q → (c : Plain) × (d : Plain) × Divided b c d × (process c ≅ p) × (process d ≅ q)
-unfolding shape
+unfolding processShape
 as-both b w p q h =
-    let n : ℕ = top (process b) + (top p + top q) in
-    let below : Below n (process b) = top-below (process b) n (omega arith) in
-    let x = divide n b w (shape n own p) (shape n own q) (tree-sound n b h) in (
+    let n : ℕ = highest (process b) + (highest p + highest q) in
+    let below : BelowAll n (process b) = top-below (process b) n (omega arith) in
+    let x = divide n b w (processShape n own p) (processShape n own q) (tree-sound n b h) in (
       x .0,
       x .1,
       x .2,

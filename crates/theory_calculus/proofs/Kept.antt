@@ -7,16 +7,16 @@ use mathlib.Core.Option.{some}
 use native.Mathlib.Omega.{arith}
 use lib.Dec.{eqb, ltb}
 use borrow.Author.Tests.{eqb-true, ne-eqb}
-use Rattle.read_messages.specs.Message.{Message, name, variable, enter, exit, opens, empty, path, items, substituteItems, mentions}
+use Rattle.read_messages.specs.Message.{Message, name, variable, enter, exit, opens, emptyMessage, path, items, substituteItems, mentions}
 use Rattle.read_messages.specs.Message as message
-use Rattle.read_scripts.specs.Tree.{Head, close, part, oneIf, isAmbient, total, timesIn, put, merge, settleBy, bare, PlainHead, Plain, settle}
-use Rattle.theory_machine.specs.Moves.{Moved, spentHead}
+use Rattle.read_scripts.specs.Tree.{Head, close, part, oneIf, isAmbient, totalOver, timesIn, put, mergeParts, settleBy, bare, PlainHead, Plain, settle}
+use Rattle.theory_machine.specs.Moves.{MoveMade, spentHead}
 use Rattle.theory_machine.specs.PlainMachine.{rest, substituteHead, substituteBody, plain, move}
 use Rattle.base_slices.proofs.Tests.{byTest}
 use Rattle.theory_machine.proofs.Inversion.{move-inv}
 use Rattle.theory_machine.proofs.Sums.{map-total, Shrinks, made-total, move-total}
 use Rattle.theory_calculus.specs.Satisfaction.{Divided, wrapped}
-use Rattle.theory_calculus.specs.Order.{Part}
+use Rattle.theory_calculus.specs.Order.{HasPart}
 use Rattle.theory_calculus.specs.Calculus.{ambient}
 use Rattle.theory_calculus.specs.TreeProcess.{piece, process}
 use Rattle.theory_calculus.proofs.Variables.{free}
@@ -33,7 +33,7 @@ compound (variable v) = 0
 compound (enter m) = 0
 compound (exit m) = 0
 compound (opens m) = 0
-compound empty = 1
+compound emptyMessage = 1
 compound (path m k) = 1
 
 unfoldable pub compounds : List Message → ℕ
@@ -59,7 +59,7 @@ compounds-items (variable v) = refl
 compounds-items (enter m) = refl
 compounds-items (exit m) = refl
 compounds-items (opens m) = refl
-compounds-items empty = refl
+compounds-items emptyMessage = refl
 compounds-items (path m k) = omega (arith, compounds-append (items m) (items k), compounds-items m, compounds-items k)
 
 compounds-substitute : (v : ℕ) (m : Message) (is : List Message) → compounds (substituteItems v m is) ≡ 0
@@ -76,7 +76,7 @@ compound-item (variable v) z = refl
 compound-item (enter m) z = refl
 compound-item (exit m) z = refl
 compound-item (opens m) z = refl
-compound-item empty z = absurd (omega arith)
+compound-item emptyMessage z = absurd (omega arith)
 compound-item (path m k) z = absurd (omega arith)
 
 -- a settled tree
@@ -86,13 +86,13 @@ put-settled k h i close w s = settled-join w s
 put-settled k h i (part l g c r) w s = byTest (ltb k l) (λ t. rw t (settled-join w s))
     (λ t. byTest (eqb k l) (λ u. rw (t, u) s) (λ u. rw (t, u) (settled-join (settled-part s) (put-settled k h i r w (settled-rest s)))))
 
-merge-settled : (b c : Plain) → Settled b → Settled c → Settled (merge b c)
-unfolding merge
+merge-settled : (b c : Plain) → Settled b → Settled c → Settled (mergeParts b c)
+unfolding mergeParts
 merge-settled close c w s = s
-merge-settled (part k h b r) c w s = put-settled k h b (merge r c) (settled-part w) (merge-settled r c (settled-rest w) s)
+merge-settled (part k h b r) c w s = put-settled k h b (mergeParts r c) (settled-part w) (merge-settled r c (settled-rest w) s)
 
-settleBy-settled : (b : Plain) → total (λ k h. untidy h) b ≡ 0 → Settled (settleBy bare b)
-unfolding settleBy bare isAmbient total untidy compounds
+settleBy-settled : (b : Plain) → totalOver (λ k h. untidy h) b ≡ 0 → Settled (settleBy bare b)
+unfolding settleBy bare isAmbient totalOver untidy compounds
 settleBy-settled close z = closed
 settleBy-settled (part k (Head.ambient m) b r) z = put-settled k (Head.ambient m) (settleBy bare b) (settleBy bare r) (ambient-part (settleBy-settled b (omega arith))) (settleBy-settled r (omega arith))
 settleBy-settled (part k (Head.action []) b r) z = merge-settled (settleBy bare b) (settleBy bare r) (settleBy-settled b (omega arith)) (settleBy-settled r (omega arith))
@@ -101,13 +101,13 @@ settleBy-settled (part k (Head.receipt v) b r) z = put-settled k (Head.receipt v
 settleBy-settled (part k (Head.output m) b r) z = put-settled k (Head.output m) b (settleBy bare r) output-part (settleBy-settled r (omega arith))
 
 -- THEOREM: what is settled is settled, where actions hold items.
-pub settle-settled : (b : Plain) → total (λ k h. untidy h) b ≡ 0 → Settled (settle b)
+pub settle-settled : (b : Plain) → totalOver (λ k h. untidy h) b ≡ 0 → Settled (settle b)
 unfolding settle
 settle-settled b z = settleBy-settled b z
 
 -- a sum over heads that a spent item and a delivered message don't make greater
-total-less : (u w : PlainHead → ℕ) → ((h : PlainHead) → u h ≤ w h) → (b : Plain) → total (λ k h. u h) b ≤ total (λ k h. w h) b
-unfolding total
+total-less : (u w : PlainHead → ℕ) → ((h : PlainHead) → u h ≤ w h) → (b : Plain) → totalOver (λ k h. u h) b ≤ totalOver (λ k h. w h) b
+unfolding totalOver
 total-less u w l close = omega arith
 total-less u w l (part k h b r) = omega (arith, l h, total-less u w l b, total-less u w l r)
 
@@ -162,14 +162,14 @@ untidy-shrinks = by-heads untidy untidy-spent untidy-substitute
 -- and no variable free.
 pub record Good (n : ℕ) (b : Plain) : Type 0 where
   pub settled : Settled b
-  pub itemised : total (λ k h. untidy h) b ≡ 0
+  pub itemised : totalOver (λ k h. untidy h) b ≡ 0
   pub distinct : Distinct b
   pub below : (k : ℕ) → n ≤ k → timesIn k b ≡ 0
   pub once : Once b
   pub unbound : Closed (process b)
 
 -- what is less in every sum is good too
-good-less : (n : ℕ) (b c : Plain) → Good n b → Settled c → Closed (process c) → ((f : ℕ → PlainHead → ℕ) → Shrinks plain f 0 → total f c ≤ total f b) → Good n c
+good-less : (n : ℕ) (b c : Plain) → Good n b → Settled c → Closed (process c) → ((f : ℕ → PlainHead → ℕ) → Shrinks plain f 0 → totalOver f c ≤ totalOver f b) → Good n c
 good-less n b c g s o l = record {
   settled = s;
   itemised = omega (arith, l _ untidy-shrinks, g .itemised);
@@ -179,10 +179,10 @@ good-less n b c g s o l = record {
   unbound = o;
 }
 
-moved-settled : (b : Plain) (a t : ℕ) (m : Moved (List Message)) → total (λ k h. untidy h) b ≡ 0 → move a t b ≡ some m → Settled (m .body)
+moved-settled : (b : Plain) (a t : ℕ) (m : MoveMade (List Message)) → totalOver (λ k h. untidy h) b ≡ 0 → move a t b ≡ some m → Settled (m .body)
 moved-settled b a t m z e = let x = move-inv a t b m e in rw (x .2) (settle-settled (x .0) (omega (arith, made-total plain (λ k h. untidy h) 0 untidy-shrinks a t (x .1))))
 
-pub good-move : (n : ℕ) (b : Plain) (a t : ℕ) (m : Moved (List Message)) → Good n b → move a t b ≡ some m → Good n (m .body)
+pub good-move : (n : ℕ) (b : Plain) (a t : ℕ) (m : MoveMade (List Message)) → Good n b → move a t b ≡ some m → Good n (m .body)
 good-move n b a t m g e =
     good-less n b (m .body) g (moved-settled b a t m (g .itemised) e) (reduction-closed (move-reduces a t b m (g .distinct) (g .once) e) (g .unbound))
     (λ f w. omega (arith, move-total f 0 w a t b m e))
@@ -193,14 +193,14 @@ good-divided n b c d g x =
     let o = closed-both (process c) (process d) (closed-cong (divided-congruent x) (g .unbound)) in
     (good-less n b c g (s .0) (o .0) (λ f w. omega (arith, divided-total f x)), good-less n b d g (s .1) (o .1) (λ f w. omega (arith, divided-total f x)))
 
-pub good-part : (n : ℕ) (b c i : Plain) (k : ℕ) (m : Message) → Good n b → Part b k (Head.ambient m) i c → Good n i
+pub good-part : (n : ℕ) (b c i : Plain) (k : ℕ) (m : Message) → Good n b → HasPart b k (Head.ambient m) i c → Good n i
 unfolding piece
 good-part n b c i k m g p =
     good-less n b i g (settled-inside (part-settled p (g .settled)))
     (closed-ambient m (process i) (closed-both (ambient m (process i)) (process c) (closed-cong (part-process p) (g .unbound)) .0)) (λ f w. omega (arith, part-total f p))
 
 pub good-placed : (n k j : ℕ) (b : Plain) → Good n b → n ≤ k → Good (suc k) (wrapped k j b)
-unfolding total untidy binds process piece free mentions
+unfolding totalOver untidy binds process piece free mentions
 good-placed n k i b g l = record {
   settled = settled-ambient (g .settled) closed;
   itemised = omega (arith, g .itemised);

@@ -7,12 +7,12 @@ use mathlib.Core.Logic.{_↔_}
 use mathlib.Core.Option.{some}
 use native.Mathlib.Omega.{arith}
 use Rattle.read_messages.specs.Message.{Message, variable}
-use Rattle.read_scripts.specs.Tree.{Head, part, total, PlainHead, Plain}
-use Rattle.theory_machine.specs.Moves.{Moved}
+use Rattle.read_scripts.specs.Tree.{Head, part, totalOver, PlainHead, Plain}
+use Rattle.theory_machine.specs.Moves.{MoveMade}
 use Rattle.theory_machine.specs.PlainMachine.{move}
 use Rattle.read_rule_words.specs.Rule.{Names, Rule, Later}
 use Rattle.theory_calculus.specs.Satisfaction.{Sat}
-use Rattle.theory_calculus.specs.Order.{Part, Reordered, nothing, among, receipt}
+use Rattle.theory_calculus.specs.Order.{HasPart, Reordered, nothing, among, receipt}
 use Rattle.theory_calculus.specs.Calculus.{_≅_, StructRefl, StructAlpha, StructSymm, StructTrans, StructInput, substitute, occurs}
 use Rattle.theory_calculus.specs.TreeProcess.{piece, process}
 use Rattle.theory_calculus.proofs.Congruences.{par-both}
@@ -25,7 +25,7 @@ use Rattle.theory_calculus.proofs.Kept.{Good, binds-shrinks}
 use Rattle.theory_calculus.proofs.Agreement.{same-sat}
 
 -- one part, and the others, matched
-matched : (k : ℕ) (h : PlainHead) (i r : Plain) {l : ℕ} {g : PlainHead} {j q c : Plain} → Part c l g j q → piece h (process i) ≅ piece g (process j) → process r ≅ process q →
+matched : (k : ℕ) (h : PlainHead) (i r : Plain) {l : ℕ} {g : PlainHead} {j q c : Plain} → HasPart c l g j q → piece h (process i) ≅ piece g (process j) → process r ≅ process q →
     process (part k h i r) ≅ process c
 unfolding process
 matched k h i r p a b = StructTrans (par-both a b) (StructSymm (part-process p))
@@ -35,7 +35,7 @@ unfolding piece
 renamed-receipt i j u v z h = StructTrans (StructAlpha z) (StructInput h)
 
 part-bindings : (v k : ℕ) (h : PlainHead) (i r : Plain) → bindings v (part k h i r) ≡ binds v h + (bindings v i + bindings v r)
-unfolding total
+unfolding totalOver
 part-bindings v k h i r = refl
 
 -- THEOREM: they stand for congruent processes.
@@ -50,8 +50,8 @@ reordered-congruent (receipt {k = k} {u = u} {v = v} {i = i} {j = j} {r = r} p z
     matched k (Head.receipt v) i r p (renamed-receipt i j u v z (StructTrans (StructSymm (substitute-process v (variable u) i clear)) inner)) (reordered-congruent y (λ w. omega (arith, o w, once w)))
 
 -- THEOREM: where two trees stand for congruent processes, a move of one is matched by a move of the other.
-pub move-matched : (n : ℕ) (b c : Plain) → Good n b → Good n c → process b ≅ process c → (a t : ℕ) (m : Moved (List Message)) → move a t b ≡ some m →
-    (a′ : ℕ) × (t′ : ℕ) × (m′ : Moved (List Message)) × (move a′ t′ c ≡ some m′) × (process (m .body) ≅ process (m′ .body))
+pub move-matched : (n : ℕ) (b c : Plain) → Good n b → Good n c → process b ≅ process c → (a t : ℕ) (m : MoveMade (List Message)) → move a t b ≡ some m →
+    (a′ : ℕ) × (t′ : ℕ) × (m′ : MoveMade (List Message)) × (move a′ t′ c ≡ some m′) × (process (m .body) ≅ process (m′ .body))
 move-matched n b c g h p a t m e =
     let x = reduction-step (move-reduces a t b m (g .distinct) (g .once) e) c (h .settled) (h .once) (h .unbound) (StructSymm p) in
     let y = step-move (x .1) (h .distinct) in

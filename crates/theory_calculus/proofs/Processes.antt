@@ -10,8 +10,8 @@ use lib.Dec.{eqb, ltb}
 use borrow.Author.Tests.{eqb-true}
 use Rattle.read_messages.specs.Message.{Message, items, substituteItems}
 use Rattle.read_messages.specs.Message as message
-use Rattle.read_scripts.specs.Tree.{Head, close, part, oneIf, isAmbient, total, timesIn, put, merge, mapHeads, settleBy, bare, PlainHead, Plain, settle}
-use Rattle.theory_machine.specs.Bodies.{find, removePart, alter}
+use Rattle.read_scripts.specs.Tree.{Head, close, part, oneIf, isAmbient, totalOver, timesIn, put, mergeParts, mapHeads, settleBy, bare, PlainHead, Plain, settle}
+use Rattle.theory_machine.specs.Bodies.{findPart, removePart, alter}
 use Rattle.theory_machine.specs.PlainMachine.{substituteHead, substituteBody, plain}
 use Rattle.base_slices.proofs.Tests.{byTest}
 use Rattle.read_scripts.proofs.Numbers.{own-times, one-none}
@@ -39,24 +39,24 @@ piece-cong (Head.receipt v) e = StructInput e
 piece-cong (Head.output m) e = StructRefl
 
 pub put-process : (n : ℕ) (g : PlainHead) (i b : Plain) → timesIn n b ≡ 0 → process (put n g i b) ≅ piece g (process i) ‖ process b
-unfolding put process total
+unfolding put process totalOver
 put-process n g i close e = StructRefl
 put-process n g i (part k h b r) e = byTest (ltb n k) (λ t. rw t StructRefl)
     (λ t. byTest (eqb n k)
     (λ u. absurd (omega (arith, rw u at e)))
     (λ u. rw (t, u) (StructTrans (par-both StructRefl (put-process n g i r (omega arith))) par-swap)))
 
-pub merge-process : (b c : Plain) → ((j : ℕ) → timesIn j b + timesIn j c ≤ 1) → process (merge b c) ≅ process b ‖ process c
-unfolding merge process total
+pub merge-process : (b c : Plain) → ((j : ℕ) → timesIn j b + timesIn j c ≤ 1) → process (mergeParts b c) ≅ process b ‖ process c
+unfolding mergeParts process totalOver
 merge-process close c d = StructSymm (StructTrans StructParComm StructZeroPar)
 merge-process (part k h b r) c d =
-    StructTrans (put-process k h b (merge r c) (omega (arith, d k, own-times k, merge-total (λ i g. oneIf (eqb k i)) r c)))
+    StructTrans (put-process k h b (mergeParts r c) (omega (arith, d k, own-times k, merge-total (λ i g. oneIf (eqb k i)) r c)))
     (StructTrans (par-both StructRefl (merge-process r c (λ j. omega (arith, d j)))) (StructSymm StructParAssoc))
 
 module _ (n : ℕ) (F : PlainHead → PlainHead) (G : Plain → Plain) where
   -- the part altered, beside the others
-  pub alter-process : (b : Plain) (p : PlainHead × Plain) → timesIn n b ≤ 1 → find n b ≡ some p → process (alter n F G b) ≅ piece (F (p .0)) (process (G (p .1))) ‖ process (removePart n b)
-  unfolding find removePart alter process total
+  pub alter-process : (b : Plain) (p : PlainHead × Plain) → timesIn n b ≤ 1 → findPart n b ≡ some p → process (alter n F G b) ≅ piece (F (p .0)) (process (G (p .1))) ‖ process (removePart n b)
+  unfolding findPart removePart alter process totalOver
   alter-process close p d e = none≢some e
   alter-process (part k h b r) p d e = byTest (eqb n k)
       (λ t.
@@ -75,10 +75,10 @@ module _ (n : ℕ) (F : PlainHead → PlainHead) (G : Plain → Plain) where
       (λ u. let w : eqb n i ≡ false = ap (eqb n) (sym (eqb-true k i u)) ∙ d in rw (t, u, w, t, u))
       (λ u. byTest (eqb n i) (λ w. rw (t, u, w, t, u)) (λ w. rw (t, u, w, t, u) (ap (part i g c) (alter-put k h s r d)))))
 
-  pub alter-merge : (b c : Plain) → timesIn n b ≡ 0 → alter n F G (merge b c) ≡ merge b (alter n F G c)
-  unfolding merge total
+  pub alter-merge : (b c : Plain) → timesIn n b ≡ 0 → alter n F G (mergeParts b c) ≡ mergeParts b (alter n F G c)
+  unfolding mergeParts totalOver
   alter-merge close c d = refl
-  alter-merge (part k h s r) c d = alter-put k h s (merge r c) (one-none (eqb n k) (omega arith)) ∙ ap (put k h s) (alter-merge r c (omega arith))
+  alter-merge (part k h s r) c d = alter-put k h s (mergeParts r c) (one-none (eqb n k) (omega arith)) ∙ ap (put k h s) (alter-merge r c (omega arith))
 
 alter-nothing : (n : ℕ) (b : Plain) → alter n (λ h. h) (λ s. s) b ≡ b
 unfolding alter
@@ -86,7 +86,7 @@ alter-nothing n close = refl
 alter-nothing n (part k h b r) = byTest (eqb n k) (λ t. rw t) (λ t. rw t (ap (part k h b) (alter-nothing n r)))
 
 -- the part found, beside the others
-pub find-process : (n : ℕ) (b : Plain) (p : PlainHead × Plain) → timesIn n b ≤ 1 → find n b ≡ some p → process b ≅ piece (p .0) (process (p .1)) ‖ process (removePart n b)
+pub find-process : (n : ℕ) (b : Plain) (p : PlainHead × Plain) → timesIn n b ≤ 1 → findPart n b ≡ some p → process b ≅ piece (p .0) (process (p .1)) ‖ process (removePart n b)
 find-process n b p d e = rw (alter-nothing n b) at (alter-process n (λ h. h) (λ s. s) b p d e)
 
 -- an action with no items
@@ -107,7 +107,7 @@ either-process true b c e = e
 either-process false b c e = StructRefl
 
 settleBy-process : (b : Plain) → Distinct b → process (settleBy bare b) ≅ process b
-unfolding settleBy process total
+unfolding settleBy process totalOver
 settleBy-process close d = StructRefl
 settleBy-process (part k h b r) d =
     let x = settleBy-process b (λ j. omega (arith, d j)) in
@@ -128,7 +128,7 @@ binds v h = oneIf (receives v h)
 
 -- the receipts of v in the tree
 abbrev pub bindings : ℕ → Plain → ℕ
-bindings v b = total (λ k h. binds v h) b
+bindings v b = totalOver (λ k h. binds v h) b
 
 -- no variable is bound twice
 abbrev pub Once : Plain → Type 0
@@ -153,7 +153,7 @@ substitute-piece v m (Head.receipt u) p z h = rw (eqb-flip v u (one-none (eqb v 
 substitute-piece v m (Head.output n) p z h = StructRefl
 
 pub substitute-process : (v : ℕ) (m : Message) (b : Plain) → bindings v b ≡ 0 → process (substituteBody v m b) ≅ substitute v m (process b)
-unfolding substituteBody mapHeads process substitute total
+unfolding substituteBody mapHeads process substitute totalOver
 substitute-process v m close z = StructRefl
 substitute-process v m (part k h b r) z =
     par-both (substitute-piece v m h (process b) (omega arith) (substitute-process v m b (omega arith))) (substitute-process v m r (omega arith))

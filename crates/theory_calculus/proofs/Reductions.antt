@@ -8,9 +8,9 @@ use native.Mathlib.Omega.{arith}
 use lib.Dec.{eqb}
 use Rattle.read_messages.specs.Message.{Message, name, enter, exit, opens}
 use Rattle.read_messages.specs.declared.Named.the-variants.{Called}
-use Rattle.read_scripts.specs.Tree.{Head, oneIf, total, timesIn, put, PlainHead, Plain}
-use Rattle.theory_machine.specs.Bodies.{find, removePart, alter}
-use Rattle.theory_machine.specs.Moves.{Moved, headName, spentHead, spend, moveHere}
+use Rattle.read_scripts.specs.Tree.{Head, oneIf, totalOver, timesIn, put, PlainHead, Plain}
+use Rattle.theory_machine.specs.Bodies.{findPart, removePart, alter}
+use Rattle.theory_machine.specs.Moves.{MoveMade, headName, spentHead, spend, moveHere}
 use Rattle.theory_machine.specs.PlainMachine.{rest, substituteBody, plain, move}
 use Rattle.read_scripts.proofs.Numbers.{own-times}
 use Rattle.theory_machine.proofs.Inversion.{Opened, Received, Entered, Exited, Here, by-open, by-receive, by-enter, by-exit, here-inv, Makes, now, inner, outer, plain-name, plain-enter, plain-exit, plain-open, move-inv}
@@ -21,7 +21,7 @@ use Rattle.theory_calculus.proofs.Congruences.{par-both, par-swap}
 use Rattle.theory_calculus.proofs.Processes.{Distinct, Once, times-shrinks, put-process, merge-process, alter-process, alter-merge, find-process, settle-process, binds, bindings, own-binds, substitute-process}
 
 -- what a count of numbers sees of a part that is found
-counted : (j a : ℕ) (b : Plain) (p : PlainHead × Plain) → find a b ≡ some p → oneIf (eqb j a) + (timesIn j (p .1) + timesIn j (removePart a b)) ≤ timesIn j b
+counted : (j a : ℕ) (b : Plain) (p : PlainHead × Plain) → findPart a b ≡ some p → oneIf (eqb j a) + (timesIn j (p .1) + timesIn j (removePart a b)) ≤ timesIn j b
 counted j a b p e = find-total (λ k h. oneIf (eqb j k)) a b p e
 
 dropped : (j a : ℕ) (b : Plain) → timesIn j (removePart a b) ≤ timesIn j b
@@ -30,7 +30,7 @@ dropped j a b = removePart-total (λ k h. oneIf (eqb j k)) a b
 spends-times : (j a : ℕ) (b : Plain) → timesIn j (spend plain a b) ≤ timesIn j b
 spends-times j a b = spend-total plain (λ k h. oneIf (eqb j k)) 0 (times-shrinks j) a b
 
-module _ (t : ℕ) (b : Plain) {n : ℕ} {goal : PlainHead} {room : Plain} (d : timesIn t b ≤ 1) (e : find t b ≡ some (goal, room)) (w : headName plain goal ≡ Called n) where
+module _ (t : ℕ) (b : Plain) {n : ℕ} {goal : PlainHead} {room : Plain} (d : timesIn t b ≤ 1) (e : findPart t b ≡ some (goal, room)) (w : headName plain goal ≡ Called n) where
   -- a named ambient found, beside the others; and with its inside altered
   find-named : process b ≅ ambient (name n) (process room) ‖ process (removePart t b)
   unfolding piece
@@ -41,7 +41,7 @@ module _ (t : ℕ) (b : Plain) {n : ℕ} {goal : PlainHead} {room : Plain} (d : 
   alter-named G = rw (plain-name goal n w) at (alter-process t (λ h. h) G b (goal, room) d e)
 
 -- an action with the first item i, beside the others; and with that item spent
-module _ (a : ℕ) (b : Plain) {i : Message} {is : List Message} {doer : PlainHead} {after : Plain} (d : timesIn a b ≤ 1) (e : find a b ≡ some (doer, after)) (f : doer ≡ Head.action (i ∷ is)) where
+module _ (a : ℕ) (b : Plain) {i : Message} {is : List Message} {doer : PlainHead} {after : Plain} (d : timesIn a b ≤ 1) (e : findPart a b ≡ some (doer, after)) (f : doer ≡ Head.action (i ∷ is)) where
   find-action : process b ≅ action i (prefix is (process after)) ‖ process (removePart a b)
   unfolding piece prefix
   find-action = rw f at (find-process a b (doer, after) d e)
@@ -61,7 +61,7 @@ action≢ambient e = let z : _≡_ {A = ℕ} 0 1 = cc in omega arith
 module _ {a t : ℕ} {b c : Plain} (d : Distinct b) where
   module _ (x : Opened plain a t b c) (is : List Message) (f : x .doer ≡ Head.action (opens (name (x .place)) ∷ is)) where
     -- the actor stands beside the target, not inside it
-    opened-actor : find a (removePart t b) ≡ some (x .doer, x .after)
+    opened-actor : findPart a (removePart t b) ≡ some (x .doer, x .after)
     opened-actor =
         find-removePart a t b (apart a t b (x .actor) (x .target) (λ z.
         action≢ambient (sym f ∙ ap (λ (p : PlainHead × Plain). p .0) z ∙ plain-name (x .goal) (x .place) (x .named)))) ∙ x .actor
@@ -156,13 +156,13 @@ module _ {a t : ℕ} {b c : Plain} (d : Distinct b) where
   here-reduces u (by-exit x e) = let (is, f) = plain-exit (x .doer) (x .place) (x .asked) in RedCong (exited-before x is f) (RedPar RedOut) (StructSymm (exited-after x is f))
 
 makes-reduces : (a t : ℕ) {b c : Plain} {news : List (ℕ × Message)} → Distinct b → Once b → Makes plain (moveHere plain a t) b c news → process b ⟶ process c
-unfolding process piece total
+unfolding process piece totalOver
 makes-reduces a t d u (now {b} m e) = here-reduces d u (here-inv plain a t b m e)
 makes-reduces a t d u (inner {n = n} {h = h} e x) = rw (plain-name h n e) (RedPar (RedAmb (makes-reduces a t (λ j. omega (arith, d j)) (λ v. omega (arith, u v)) x)))
 makes-reduces a t d u (outer x) = RedCong StructParComm (RedPar (makes-reduces a t (λ j. omega (arith, d j)) (λ v. omega (arith, u v)) x)) StructParComm
 
 -- THEOREM: a move is a reduction.
-pub move-reduces : (a t : ℕ) (b : Plain) (m : Moved (List Message)) → Distinct b → Once b → move a t b ≡ some m → process b ⟶ process (m .body)
+pub move-reduces : (a t : ℕ) (b : Plain) (m : MoveMade (List Message)) → Distinct b → Once b → move a t b ≡ some m → process b ⟶ process (m .body)
 move-reduces a t b m d u e =
     let x = move-inv a t b m e in
     let less : Distinct (x .0) = λ j. omega (arith, d j, made-total plain (λ k h. oneIf (eqb j k)) 0 (times-shrinks j) a t (x .1)) in

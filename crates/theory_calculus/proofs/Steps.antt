@@ -8,7 +8,7 @@ use Rattle.read_messages.specs.Message.{Message, name, enter, exit, opens, item
 use Rattle.read_scripts.specs.Tree.{Head, Plain}
 use Rattle.theory_machine.specs.PlainMachine.{substituteBody}
 use Rattle.theory_calculus.specs.Satisfaction.{Divided}
-use Rattle.theory_calculus.specs.Order.{Part}
+use Rattle.theory_calculus.specs.Order.{HasPart}
 use Rattle.theory_calculus.specs.Calculus.{Process, 𝟎, _‖_, ambient, action, input, output, _≅_, StructRefl, StructSymm, StructTrans, StructAmb, StructParComm, StructParAssoc, StructZeroPar, _⟶_, RedIn, RedOut, RedOpen, RedIO, RedPar, RedAmb, RedCong}
 use Rattle.theory_calculus.specs.TreeProcess.{prefix, process}
 use Rattle.theory_calculus.proofs.Congruences.{par-both}
@@ -18,28 +18,28 @@ use Rattle.theory_calculus.proofs.Picks.{part-total, divided-total, par
 use Rattle.theory_calculus.proofs.Processes.{Once, bindings, binds, own-binds, substitute-process}
 
 -- one step of the tree, and the process that then stands
-pub data Step : Plain → Process → Type 0 where
-  opening : {b b₁ b₂ i j : Plain} {a t n : ℕ} {is : List Message} → Part b t (Head.ambient (name n)) i b₁ → Part b₁ a (Head.action (opens (name n) ∷ is)) j b₂ →
-      Step b ((prefix is (process j) ‖ process i) ‖ process b₂)
-  taking : {b b₁ b₂ i j : Plain} {a t v : ℕ} {m : Message} → Part b a (Head.receipt v) j b₁ → Part b₁ t (Head.output m) i b₂ →
-      Step b (process (substituteBody v m j) ‖ process b₂)
+pub data TreeStep : Plain → Process → Type 0 where
+  opening : {b b₁ b₂ i j : Plain} {a t n : ℕ} {is : List Message} → HasPart b t (Head.ambient (name n)) i b₁ → HasPart b₁ a (Head.action (opens (name n) ∷ is)) j b₂ →
+      TreeStep b ((prefix is (process j) ‖ process i) ‖ process b₂)
+  taking : {b b₁ b₂ i j : Plain} {a t v : ℕ} {m : Message} → HasPart b a (Head.receipt v) j b₁ → HasPart b₁ t (Head.output m) i b₂ →
+      TreeStep b (process (substituteBody v m j) ‖ process b₂)
   entering : {b b₁ b₂ i i₁ j room : Plain} {a t k n m : ℕ} {is : List Message} →
-      Part b k (Head.ambient (name n)) i b₁ → Part i a (Head.action (enter (name m) ∷ is)) j i₁ → Part b₁ t (Head.ambient (name m)) room b₂ →
-      Step b (ambient (name m) (ambient (name n) (prefix is (process j) ‖ process i₁) ‖ process room) ‖ process b₂)
+      HasPart b k (Head.ambient (name n)) i b₁ → HasPart i a (Head.action (enter (name m) ∷ is)) j i₁ → HasPart b₁ t (Head.ambient (name m)) room b₂ →
+      TreeStep b (ambient (name m) (ambient (name n) (prefix is (process j) ‖ process i₁) ‖ process room) ‖ process b₂)
   leaving : {b b₁ i i₁ j room room₁ : Plain} {a t k n m : ℕ} {is : List Message} →
-      Part b t (Head.ambient (name m)) room b₁ → Part room k (Head.ambient (name n)) i room₁ → Part i a (Head.action (exit (name m) ∷ is)) j i₁ →
-      Step b ((ambient (name n) (prefix is (process j) ‖ process i₁) ‖ ambient (name m) (process room₁)) ‖ process b₁)
-  inside : {b b₁ i : Plain} {k n : ℕ} {p : Process} → Part b k (Head.ambient (name n)) i b₁ → Step i p → Step b (ambient (name n) p ‖ process b₁)
+      HasPart b t (Head.ambient (name m)) room b₁ → HasPart room k (Head.ambient (name n)) i room₁ → HasPart i a (Head.action (exit (name m) ∷ is)) j i₁ →
+      TreeStep b ((ambient (name n) (prefix is (process j) ‖ process i₁) ‖ ambient (name m) (process room₁)) ‖ process b₁)
+  inside : {b b₁ i : Plain} {k n : ℕ} {p : Process} → HasPart b k (Head.ambient (name n)) i b₁ → TreeStep i p → TreeStep b (ambient (name n) p ‖ process b₁)
 
 -- a step of b after which a process congruent to q stands
 abbrev pub Stepped : Plain → Process → Type 0
-Stepped b q = (p : Process) × Step b p × (p ≅ q)
+Stepped b q = (p : Process) × TreeStep b p × (p ≅ q)
 
 beside : {b c d : Plain} → Divided b c d → {p : Process} → p ‖ process b ≅ (p ‖ process c) ‖ process d
 beside x = StructTrans (par-both StructRefl (divided-congruent x)) (StructSymm StructParAssoc)
 
 -- a step of a share is a step of the whole
-step-divided : {b c d : Plain} {p : Process} → Divided b c d → Step c p → Stepped b (p ‖ process d)
+step-divided : {b c d : Plain} {p : Process} → Divided b c d → TreeStep c p → Stepped b (p ‖ process d)
 step-divided x (opening t a) = let y = part-divided x t in let z = part-divided (y .2) a in (_, opening (y .1) (z .1), beside (z .2))
 step-divided x (taking a t) = let y = part-divided x a in let z = part-divided (y .2) t in (_, taking (y .1) (z .1), beside (z .2))
 step-divided x (entering k a t) = let y = part-divided x k in let z = part-divided (y .2) t in (_, entering (y .1) a (z .1), beside (z .2))

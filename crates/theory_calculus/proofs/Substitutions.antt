@@ -13,7 +13,7 @@ use Rattle.theory_calculus.specs.Calculus.{Process, _‖_, ambient, inpu
 use Rattle.read_messages.proofs.Mentioning.{mentions-other}
 use Rattle.theory_calculus.proofs.Variables.{occurs-less, input-same, input-other, substitute-absent, substitute-twice, substitute-comm, substitute-free, free, free-same, free-other, free-occurs, free-gone, free-less, free-more}
 use Rattle.theory_calculus.proofs.Shapes.{Same, same-one}
-use Rattle.theory_calculus.proofs.Congruences.{shape, bound, own, sound, complete, rename-shape, own-fresh, Below, below-under, below-renamed, top, top-below}
+use Rattle.theory_calculus.proofs.Congruences.{processShape, bound, own, sound, complete, rename-shape, own-fresh, BelowAll, below-under, below-renamed, highest, top-below}
 
 -- a message without variables
 abbrev pub Ground : Message → Type 0
@@ -55,15 +55,15 @@ substitute-cong v r g StructPath = StructPath
 
 -- what two congruent inputs become
 pub input-substitute : (x y : ℕ) (r : Message) → Ground r → (p q : Process) → input x p ≅ input y q → substitute x r p ≅ substitute y r q
-unfolding shape
+unfolding processShape
 input-substitute x y r g p q h =
-    let n : ℕ = top (input x p) + top (input y q) in
-    let a : Below n p = below-under n x p (top-below (input x p) n (omega arith)) in
-    let b : Below n q = below-under n y q (top-below (input y q) n (omega arith)) in
-    let s : Same (shape (suc n) (bound own x n) p) (shape (suc n) (bound own y n) q) = same-one (sound h n own) .1 in
-    let t : Same (shape (suc n) own (substitute x (variable n) p)) (shape (suc n) own (substitute y (variable n) q))
-    = subst (λ u. Same u (shape (suc n) own (substitute y (variable n) q))) (rename-shape (suc n) (bound own x n) own x n p (a n (omega arith)) (own-fresh x n))
-    (subst (λ u. Same (shape (suc n) (bound own x n) p) u) (rename-shape (suc n) (bound own y n) own y n q (b n (omega arith)) (own-fresh y n)) s) in
+    let n : ℕ = highest (input x p) + highest (input y q) in
+    let a : BelowAll n p = below-under n x p (top-below (input x p) n (omega arith)) in
+    let b : BelowAll n q = below-under n y q (top-below (input y q) n (omega arith)) in
+    let s : Same (processShape (suc n) (bound own x n) p) (processShape (suc n) (bound own y n) q) = same-one (sound h n own) .1 in
+    let t : Same (processShape (suc n) own (substitute x (variable n) p)) (processShape (suc n) own (substitute y (variable n) q))
+    = subst (λ u. Same u (processShape (suc n) own (substitute y (variable n) q))) (rename-shape (suc n) (bound own x n) own x n p (a n (omega arith)) (own-fresh x n))
+    (subst (λ u. Same (processShape (suc n) (bound own x n) p) u) (rename-shape (suc n) (bound own y n) own y n q (b n (omega arith)) (own-fresh y n)) s) in
     let c : substitute x (variable n) p ≅ substitute y (variable n) q = complete (suc n) (below-renamed n x p a) (below-renamed n y q b) t in
     subst (λ u. u ≅ substitute y r q) (substitute-twice x n r p (a n (omega arith)))
     (subst (λ u. substitute n r (substitute x (variable n) p) ≅ u) (substitute-twice y n r q (b n (omega arith))) (substitute-cong n r g c))

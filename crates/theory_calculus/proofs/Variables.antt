@@ -6,7 +6,7 @@ use mathlib.Core.Path.{_≡_, refl, sym, ap, ap₂, _∙_, subst}
 use native.Mathlib.Omega.{arith}
 use lib.Dec.{eqb}
 use borrow.Author.Tests.{eqb-true, eqb-false, ne-eqb}
-use Rattle.read_messages.specs.Message.{Message, name, variable, enter, exit, opens, empty, path, mentions}
+use Rattle.read_messages.specs.Message.{Message, name, variable, enter, exit, opens, emptyMessage, path, mentions}
 use Rattle.read_messages.specs.Message as message
 use Rattle.read_messages.proofs.Mentioning.{mentions-none, mentions-other}
 use Rattle.base_slices.proofs.Tests.{byTest, eqb-same}
@@ -22,7 +22,7 @@ message-absent y r (variable u) z = rw (mentions-none u y z)
 message-absent y r (enter m) z = ap enter (message-absent y r m z)
 message-absent y r (exit m) z = ap exit (message-absent y r m z)
 message-absent y r (opens m) z = ap opens (message-absent y r m z)
-message-absent y r empty z = refl
+message-absent y r emptyMessage z = refl
 message-absent y r (path m k) z = ap₂ path (message-absent y r m (omega arith)) (message-absent y r k (omega arith))
 
 message-twice : (x y : ℕ) (r m : Message) → mentions y m ≡ 0 → message.substitute y r (message.substitute x (variable y) m) ≡ message.substitute x r m
@@ -32,7 +32,7 @@ message-twice x y r (variable u) z = byTest (eqb u x) (λ t. rw (t, eqb-same y))
 message-twice x y r (enter m) z = ap enter (message-twice x y r m z)
 message-twice x y r (exit m) z = ap exit (message-twice x y r m z)
 message-twice x y r (opens m) z = ap opens (message-twice x y r m z)
-message-twice x y r empty z = refl
+message-twice x y r emptyMessage z = refl
 message-twice x y r (path m k) z = ap₂ path (message-twice x y r m (omega arith)) (message-twice x y r k (omega arith))
 
 -- a variable is gone when a message without it stands for it
@@ -43,7 +43,7 @@ message-gone x r (variable u) z = byTest (eqb u x) (λ t. rw t z) (λ t. rw t (m
 message-gone x r (enter m) z = message-gone x r m z
 message-gone x r (exit m) z = message-gone x r m z
 message-gone x r (opens m) z = message-gone x r m z
-message-gone x r empty z = refl
+message-gone x r emptyMessage z = refl
 message-gone x r (path m k) z = omega (arith, message-gone x r m z, message-gone x r k z)
 
 message-less : (v x : ℕ) (r m : Message) → mentions v r ≡ 0 → mentions v (message.substitute x r m) ≤ mentions v m
@@ -53,7 +53,7 @@ message-less v x r (variable u) z = byTest (eqb u x) (λ t. rw t (omega arith)) 
 message-less v x r (enter m) z = message-less v x r m z
 message-less v x r (exit m) z = message-less v x r m z
 message-less v x r (opens m) z = message-less v x r m z
-message-less v x r empty z = omega arith
+message-less v x r emptyMessage z = omega arith
 message-less v x r (path m k) z = omega (arith, message-less v x r m z, message-less v x r k z)
 
 message-more : (v x : ℕ) (r m : Message) → eqb x v ≡ false → mentions v m ≤ mentions v (message.substitute x r m)
@@ -63,7 +63,7 @@ message-more v x r (variable u) z = byTest (eqb u x) (λ t. let e : eqb u v ≡ 
 message-more v x r (enter m) z = message-more v x r m z
 message-more v x r (exit m) z = message-more v x r m z
 message-more v x r (opens m) z = message-more v x r m z
-message-more v x r empty z = omega arith
+message-more v x r emptyMessage z = omega arith
 message-more v x r (path m k) z = omega (arith, message-more v x r m z, message-more v x r k z)
 
 message-comm : (v x y : ℕ) (r m : Message) → eqb x v ≡ false → eqb y v ≡ false → mentions x r ≡ 0 → message.substitute v r (message.substitute x (variable y) m) ≡ message.substitute x (variable y) (message.substitute v r m)
@@ -75,7 +75,7 @@ message-comm v x y r (variable u) a b z = byTest (eqb u x)
 message-comm v x y r (enter m) a b z = ap enter (message-comm v x y r m a b z)
 message-comm v x y r (exit m) a b z = ap exit (message-comm v x y r m a b z)
 message-comm v x y r (opens m) a b z = ap opens (message-comm v x y r m a b z)
-message-comm v x y r empty a b z = refl
+message-comm v x y r emptyMessage a b z = refl
 message-comm v x y r (path m k) a b z = ap₂ path (message-comm v x y r m a b z) (message-comm v x y r k a b z)
 
 -- in processes

@@ -3,7 +3,7 @@
 use Prim.Native.Nat.{ℕ, suc}
 use Rattle.read_messages.specs.Message.{Message}
 use Rattle.read_scripts.specs.Tree.{Head, close, part, mapHeads}
-use Rattle.read_scripts.specs.Script.{Script, holdHead, hold, started}
+use Rattle.read_scripts.specs.Script.{Script, headWithItems, withItems, started}
 use Rattle.theory_calculus.specs.Calculus.{Process, _≅_, StructRefl, StructSymm, StructTrans, StructAmb, StructAction, StructInput, _⟶_, RedCong, _⟶*_}
 use Rattle.theory_calculus.specs.TreeProcess.{piece, process}
 use Rattle.theory_calculus.specs.Calculus as calculus
@@ -12,23 +12,23 @@ use Rattle.theory_calculus.proofs.Congruences.{par-both, action-items}
 use Rattle.theory_calculus.proofs.Processes.{Distinct, settle-process}
 
 -- "An action is held as its items": a part as it is held stands for what is written
-held-part : (h : Head Message) {p q : Process} → p ≅ q → piece (holdHead h) p ≅ writtenPart h q
-unfolding piece holdHead writtenPart
+held-part : (h : Head Message) {p q : Process} → p ≅ q → piece (headWithItems h) p ≅ writtenPart h q
+unfolding piece headWithItems writtenPart
 held-part (Head.ambient m) e = StructAmb e
 held-part (Head.action m) e = StructTrans (StructSymm (action-items m)) (StructAction e)
 held-part (Head.receipt v) e = StructInput e
 held-part (Head.output m) e = StructRefl
 
 -- a script that is held stands for what is written
-pub held-written : (b : Script) → process (hold b) ≅ written b
-unfolding hold mapHeads process written
+pub held-written : (b : Script) → process (withItems b) ≅ written b
+unfolding withItems mapHeads process written
 held-written close = StructRefl
 held-written (part k w b r) = par-both (held-part (w .head) (held-written b)) (held-written r)
 
 -- THEOREM: the first tree stands for what is written, up to congruence, where no number stands twice.
-pub started-written : (b : Script) → Distinct (hold b) → process (started b) ≅ written b
+pub started-written : (b : Script) → Distinct (withItems b) → process (started b) ≅ written b
 unfolding started
-started-written b d = StructTrans (settle-process (hold b) d) (held-written b)
+started-written b d = StructTrans (settle-process (withItems b) d) (held-written b)
 
 -- reductions lead as far from a congruent process
 pub leads-congruent : {n : ℕ} {o p q : Process} → o ≅ p → Leads n p q → Leads n o q

@@ -8,7 +8,7 @@ use mathlib.Core.List.{_∷_}
 use mathlib.Core.Path.{_≡_}
 use mathlib.Core.Logic.{_⊎_}
 use lib.Dec.{eqb}
-use Rattle.read_messages.specs.Message.{Message, name, variable, enter, exit, opens, empty, path, mentions}
+use Rattle.read_messages.specs.Message.{Message, name, variable, enter, exit, opens, emptyMessage, path, mentions}
 use Rattle.read_messages.specs.Message as message
 use Rattle.read_rule_words.specs.Rule.{Names, termName, Rule, truth, negation, either, void, at, beside, some-name, sometime, somewhere, placed}
 
@@ -58,7 +58,7 @@ pub data _≅_ : Process → Process → Type 0 where
   StructParComm : {p q : Process} → p ‖ q ≅ q ‖ p
   StructParAssoc : {p q r : Process} → (p ‖ q) ‖ r ≅ p ‖ (q ‖ r)
   StructZeroPar : {p : Process} → p ‖ 𝟎 ≅ p
-  Structε : {p : Process} → action empty p ≅ p
+  Structε : {p : Process} → action emptyMessage p ≅ p
   StructPath : {m k : Message} {p : Process} → action (path m k) p ≅ action m (action k p)
 
 -- "Reduction": P → Q. `RedIO` is the paper's (Red I/O), `RedCong` its (Red ≡).

@@ -9,14 +9,14 @@ use Rattle.theory_calculus.specs.Calculus.{occurs}
 use Rattle.theory_calculus.specs.TreeProcess.{process}
 
 -- the body has the part k with that head and inside, and the last body is the rest
-pub data Part : Plain → ℕ → PlainHead → Plain → Plain → Type 0 where
-  front : {k : ℕ} {h : PlainHead} {i r : Plain} → Part (part k h i r) k h i r
-  behind : {k l : ℕ} {h g : PlainHead} {i j r q : Plain} → Part r k h i q → Part (part l g j r) k h i (part l g j q)
+pub data HasPart : Plain → ℕ → PlainHead → Plain → Plain → Type 0 where
+  front : {k : ℕ} {h : PlainHead} {i r : Plain} → HasPart (part k h i r) k h i r
+  behind : {k l : ℕ} {h g : PlainHead} {i j r q : Plain} → HasPart r k h i q → HasPart (part l g j r) k h i (part l g j q)
 
 pub data Reordered : Plain → Plain → Type 0 where
   nothing : Reordered close close
   -- a part stands somewhere in the other body, under any number
-  among : {k l : ℕ} {h : PlainHead} {i j r q c : Plain} → Part c l h j q → Reordered i j → Reordered r q → Reordered (part k h i r) c
+  among : {k l : ℕ} {h : PlainHead} {i j r q c : Plain} → HasPart c l h j q → Reordered i j → Reordered r q → Reordered (part k h i r) c
   -- a receipt, with another variable u, one that does not stand in it
-  receipt : {k l u v : ℕ} {i j r q c : Plain} → Part c l (Head.receipt u) j q → occurs u (process i) ≡ 0 →
+  receipt : {k l u v : ℕ} {i j r q c : Plain} → HasPart c l (Head.receipt u) j q → occurs u (process i) ≡ 0 →
       Reordered (substituteBody v (variable u) i) j → Reordered r q → Reordered (part k (Head.receipt v) i r) c

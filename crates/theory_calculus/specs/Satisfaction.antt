@@ -8,7 +8,7 @@ use mathlib.Core.Option.{some}
 use Rattle.read_messages.specs.Message.{Message, name}
 use Rattle.read_messages.specs.declared.Named.the-variants.{Called}
 use Rattle.read_scripts.specs.Tree.{ambient, close, part, PlainHead, Plain}
-use Rattle.theory_machine.specs.Moves.{Moved, headName}
+use Rattle.theory_machine.specs.Moves.{MoveMade, headName}
 use Rattle.theory_machine.specs.PlainMachine.{plain, move}
 use Rattle.read_rule_words.specs.Rule.{Names, termName, Rule, truth, negation, either, void, at, beside, some-name, sometime, somewhere, placed}
 
@@ -31,7 +31,7 @@ pub data Within : Plain → Plain → Type 0 where
 -- "some list of moves, the empty one too" leads from the first tree to the second
 pub data Reaches : Plain → Plain → Type 0 where
   stay : {b : Plain} → Reaches b b
-  go : {b c : Plain} (a t : ℕ) (m : Moved (List Message)) → move a t b ≡ some m → Reaches (m .body) c → Reaches b c
+  go : {b c : Plain} (a t : ℕ) (m : MoveMade (List Message)) → move a t b ≡ some m → Reaches (m .body) c → Reaches b c
 
 -- "just one top part, an AMB named n": the body is one part with that name, whose inside is c
 pub record Alone (n : ℕ) (b c : Plain) : Type 0 where

@@ -6,7 +6,7 @@ use mathlib.Core.Option.{Option, none, some}
 use mathlib.Core.Path.{_≡_, refl, sym, ap, _∙_, subst}
 use Rattle.read_messages.specs.Reading.{Cursor, refuse, got}
 use Rattle.read_scripts.specs.Script.{Script, readScript}
-use Rattle.theory_machine.specs.Moves.{Moved}
+use Rattle.theory_machine.specs.Moves.{MoveMade}
 use Rattle.base_slices.proofs.Tests.{byTest}
 use Rattle.theory_closures.specs.Closure.{Action, closureMove, unfoldMachine, ClosureMachine}
 use Rattle.theory_closures.proofs.Invariant.{move-good}
@@ -28,7 +28,7 @@ abbrev Leaves : (ClosureMachine → Type 0) → ClosureRan → Type 0
 Leaves Q (halted q i) = Unit {0}
 Leaves Q (moved m) = Q m
 
-made-good : (i : ℕ) (m : ClosureMachine) (x : Option (Moved Action)) (k : ClosureMachine → ClosureRan) → ((s : Moved Action) → x ≡ some s → Leaves GoodMachine (k (afterMove m s)))
+made-good : (i : ℕ) (m : ClosureMachine) (x : Option (MoveMade Action)) (k : ClosureMachine → ClosureRan) → ((s : MoveMade Action) → x ≡ some s → Leaves GoodMachine (k (afterMove m s)))
     → Leaves GoodMachine (ifMade i m x k)
 unfolding ifMade
 made-good i m none k f = tt

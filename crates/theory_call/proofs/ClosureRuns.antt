@@ -11,11 +11,11 @@ use Rattle.read_messages.proofs.Readings.{got-inj}
 use Rattle.read_scripts.specs.Tree.{Plain}
 use Rattle.read_scripts.specs.Script.{Script, readScript}
 use Rattle.read_scripts.specs.Measures.{receiptsIn, mostItems, movesBound}
-use Rattle.theory_machine.specs.Moves.{Moved}
+use Rattle.theory_machine.specs.Moves.{MoveMade}
 use Rattle.theory_machine.specs.PlainMachine.{Machine}
 use Rattle.base_slices.proofs.Tests.{byTest}
 use Rattle.theory_closures.specs.Closure.{Action, Bindings, closureMove, unfolded, plainNews, unfoldedMove, ClosureMachine, unfoldMachine}
-use Rattle.theory_closures.proofs.Tallies.{of}
+use Rattle.theory_closures.proofs.Tallies.{tallyOf}
 use Rattle.theory_closures.proofs.Invariant.{Good, move-good}
 use Rattle.theory_closures.proofs.Simulation.{unfold-move}
 use Rattle.theory_closures.proofs.Started.{closure-started, started-good}
@@ -35,15 +35,15 @@ as-many : (σ l : Bindings) → length (plainNews σ l) ≡ length l
 as-many σ [] = refl
 as-many σ (p ∷ l) = ap suc (as-many σ l)
 
-after-unfolded : (m : ClosureMachine) (s : Moved Action) → plain.afterMove (unfoldMachine m) (unfoldedMove (m .bindings) s) ≡ unfoldMachine (afterMove m s)
+after-unfolded : (m : ClosureMachine) (s : MoveMade Action) → plain.afterMove (unfoldMachine m) (unfoldedMove (m .bindings) s) ≡ unfoldMachine (afterMove m s)
 unfolding unfoldMachine unfoldedMove
 after-unfolded m s =
     let e : length (m .bindings) + length (plainNews (m .bindings) (s .news)) ≡ length (s .news ++ m .bindings) = omega (arith, as-many (m .bindings) (s .news), length-append (s .news) (m .bindings)) in
     ap (λ (k : ℕ). record { tree = unfolded (s .news ++ m .bindings) (s .body); receipts = k }) e
 
 -- a move, and what follows it
-made-unfolded : (i : ℕ) (m : ClosureMachine) (x : Option (Moved Action)) (k : Machine → Ran) (l : ClosureMachine → ClosureRan) →
-    ((s : Moved Action) → x ≡ some s → k (unfoldMachine (afterMove m s)) ≡ unfoldRan (l (afterMove m s))) →
+made-unfolded : (i : ℕ) (m : ClosureMachine) (x : Option (MoveMade Action)) (k : Machine → Ran) (l : ClosureMachine → ClosureRan) →
+    ((s : MoveMade Action) → x ≡ some s → k (unfoldMachine (afterMove m s)) ≡ unfoldRan (l (afterMove m s))) →
     plain.ifMade i (unfoldMachine m) (Option·map (unfoldedMove (m .bindings)) x) k ≡ unfoldRan (ifMade i m x l)
 unfolding plain.ifMade ifMade unfoldRan
 made-unfolded i m none k l f = refl
@@ -77,21 +77,21 @@ paid-more : (i l x y : ℕ) (r : Ran) → y + 1 ≤ x → Paid (suc i) l y r →
 paid-more i l x y (plain.halted q j) h p = omega arith
 paid-more i l x y (plain.moved m) h p = omega arith
 
-made-paid : (i l x : ℕ) (m : ClosureMachine) (o : Option (Moved Action)) (k : ClosureMachine → ClosureRan) →
-    ((s : Moved Action) → o ≡ some s → Paid i l x (unfoldRan (k (afterMove m s)))) → Paid i l x (unfoldRan (ifMade i m o k))
+made-paid : (i l x : ℕ) (m : ClosureMachine) (o : Option (MoveMade Action)) (k : ClosureMachine → ClosureRan) →
+    ((s : MoveMade Action) → o ≡ some s → Paid i l x (unfoldRan (k (afterMove m s)))) → Paid i l x (unfoldRan (ifMade i m o k))
 unfolding ifMade unfoldRan
 made-paid i l x m none k f = omega arith
 made-paid i l x m (some s) k f = f s refl
 
 module _ (s r n : ℕ) where
-  run-paid : (i : ℕ) (ws : List ℕ) (m : ClosureMachine) → Bounded s r (m .bindings) (m .tree) → Paid i (length ws) (of (budget (s ^ suc r)) (m .tree)) (unfoldRan (closureRun n i ws m))
+  run-paid : (i : ℕ) (ws : List ℕ) (m : ClosureMachine) → Bounded s r (m .bindings) (m .tree) → Paid i (length ws) (tallyOf (budget (s ^ suc r)) (m .tree)) (unfoldRan (closureRun n i ws m))
   unfolding closureRun unfoldRan
   run-paid i [] m x = omega arith
   run-paid i (w ∷ ws) m x = byTest (moveFits n w)
-      (λ t. rw t (made-paid i (length (w ∷ ws)) (of (budget (s ^ suc r)) (m .tree)) m (closureMove (m .bindings) (actor w) (target w) (m .tree)) (λ l. closureRun n (suc i) ws l)
+      (λ t. rw t (made-paid i (length (w ∷ ws)) (tallyOf (budget (s ^ suc r)) (m .tree)) m (closureMove (m .bindings) (actor w) (target w) (m .tree)) (λ l. closureRun n (suc i) ws l)
       (λ k e.
       let (y, c) = move-costs s r (m .bindings) (actor w) (target w) (m .tree) k e x in
-      paid-more i (length ws) (of (budget (s ^ suc r)) (m .tree)) (of (budget (s ^ suc r)) (k .body)) (unfoldRan (closureRun n (suc i) ws (afterMove m k))) c (run-paid (suc i) ws (afterMove m k) y))))
+      paid-more i (length ws) (tallyOf (budget (s ^ suc r)) (m .tree)) (tallyOf (budget (s ^ suc r)) (k .body)) (unfoldRan (closureRun n (suc i) ws (afterMove m k))) c (run-paid (suc i) ws (afterMove m k) y))))
       (λ t. rw t (omega arith))
 
 paid-within : (i l x y : ℕ) (r : Ran) → x ≤ y → Paid i l x r → Paid i l y r
@@ -103,7 +103,7 @@ pub moves-paid : (ws : List ℕ) (p : Script × Cursor) → readScript ws ≡ go
     Paid 0 (length moves) (movesBound (p .0)) (run n 0 moves (plain.begun (p .0)))
 moves-paid ws p e n moves =
     rw (started-unfolded ws p e n moves)
-    (paid-within 0 (length moves) (of (budget (mostItems (p .0) ^ suc (receiptsIn (p .0)))) (begun (p .0) .tree)) (movesBound (p .0)) (unfoldRan (closureRun n 0 moves (begun (p .0)))) (started-budget (p .0))
+    (paid-within 0 (length moves) (tallyOf (budget (mostItems (p .0) ^ suc (receiptsIn (p .0)))) (begun (p .0) .tree)) (movesBound (p .0)) (unfoldRan (closureRun n 0 moves (begun (p .0)))) (started-budget (p .0))
     (run-paid (mostItems (p .0)) (receiptsIn (p .0)) n 0 moves (begun (p .0)) (started-bounded ws p e)))
 
 -- THEOREM (the bound).

@@ -16,7 +16,7 @@ use Rattle.read_messages.specs.declared.MessageWord.the-variants.{Name, Variabl
 use Rattle.read_messages.proofs.Readings.{Next}
 use Rattle.read_messages.proofs.Cases as message
 use Rattle.read_scripts.specs.Tree.{Head, ambient, action, receipt, output, close, part, settle, bare}
-use Rattle.read_scripts.specs.Script.{Written, Script, readScript, holdHead, hold, started}
+use Rattle.read_scripts.specs.Script.{Written, Script, readScript, headWithItems, withItems, started}
 use Rattle.read_scripts.specs.Measures.{greatestName}
 use Rattle.read_scripts.proofs.Cases as body
 use Rattle.base_slices.proofs.Tests.{byTest}
@@ -156,8 +156,8 @@ body-said G = record {
       part-fits G c (output (m .0)) (m .1) (close, m .1) r (omega (arith, a .number, x .number)) (a .names) (none-fits G (m .1) (m .1) (a .low) refl) (f (a .low));
 }
 
-pub held-all : (P : ℕ → Type 0) (h : Head Message) → WrittenAll P h → HeadAll P (holdHead h)
-unfolding holdHead
+pub held-all : (P : ℕ → Type 0) (h : Head Message) → WrittenAll P h → HeadAll P (headWithItems h)
+unfolding headWithItems
 held-all P (ambient m) x = x
 held-all P (action m) x = items-all P m x
 held-all P (receipt v) x = tt
@@ -166,12 +166,12 @@ held-all P (output m) x = x
 -- THEOREM: in the tree that a script begins with, every part number is below the number of parts, and no name is above the
 -- greatest.
 pub script-fits : (ws : List ℕ) (p : Script × Cursor) → readScript ws ≡ got p → Fits (λ k. k < p .1 .number) (λ n. n ≤ greatestName ws) (started (p .0))
-unfolding started hold settle
+unfolding started withItems settle
 script-fits ws p e =
     let K : ℕ → Type 0 = λ k. k < p .1 .number in
     let P : ℕ → Type 0 = λ n. n ≤ greatestName ws in
-    settle-everywhere (Fit K P) bare (hold (p .0))
-    (map-everywhere (Inked K P) (Fit K P) (λ (w : Written). holdHead (w .head)) (λ k w x. (x .0, held-all P (w .head) (x .1))) (p .0)
+    settle-everywhere (Fit K P) bare (withItems (p .0))
+    (map-everywhere (Inked K P) (Fit K P) (λ (w : Written). headWithItems (w .head)) (λ k w x. (x .0, held-all P (w .head) (x .1))) (p .0)
     (body.script-case (SaidIf (greatestName ws)) (BodiedIf (greatestName ws)) (body-said (greatestName ws)) ws p e (omega arith) .fits))
 
 -- ---- the rule

@@ -8,19 +8,19 @@ use native.Mathlib.Omega.{arith}
 use lib.ListN.{length, length-append}
 use Rattle.read_messages.specs.Words.{kind, operand, word}
 use Rattle.read_messages.specs.Reading.{Cursor, Reading}
-use Rattle.read_messages.specs.Message.{Message, name, variable, enter, exit, opens, empty, path, items, mentions}
+use Rattle.read_messages.specs.Message.{Message, name, variable, enter, exit, opens, emptyMessage, path, items, mentions}
 use Rattle.read_scripts.specs.Tree.{Head, part, PlainHead, Plain}
-use Rattle.read_scripts.specs.Script.{Script, partWord, fits, guardedFrom, partFrom}
+use Rattle.read_scripts.specs.Script.{Script, partWord, partFits, guardedFrom, partFrom}
 use Rattle.read_scripts.specs.declared.PartWord.{PartWord}
 use Rattle.read_scripts.specs.declared.PartWord.the-variants.{Close, Ambient, Action, Receipt, Output, No}
-use Rattle.theory_written_trees.specs.Write.{Indices, writeMessage, whole, writeHead, within, writeInside, write, writePart}
+use Rattle.theory_written_trees.specs.Write.{Indices, writeMessage, oneMessage, writeHead, within, writeInside, write, writePart}
 use Rattle.theory_written_trees.proofs.Trees.{write-part}
 use Rattle.theory_calculus.specs.Calculus.{Process}
 use Rattle.theory_calculus.specs.TreeProcess.{prefix, piece}
 use Rattle.theory_calculus.specs.Written.{writtenPart}
 use Rattle.theory_calculus.proofs.Variables.{free}
-use Rattle.theory_calculus.proofs.Shapes.{Shape, nil, cell, place, chain, chain-append}
-use Rattle.theory_calculus.proofs.Congruences.{renamed, shape}
+use Rattle.theory_calculus.proofs.Shapes.{Shape, noCells, cell, place, chain, chain-append}
+use Rattle.theory_calculus.proofs.Congruences.{renamed, processShape}
 use Rattle.theory_decision.proofs.Fits.{MessageAll, ItemsAll}
 use Rattle.theory_call.specs.Nesting.{messageNesting, partNesting}
 use Rattle.base_slices.proofs.Tests.{eqb-same}
@@ -74,25 +74,25 @@ renamed-twice τ ρ σ (variable v) h = ap variable (h v (λ z. let x : _≡_ {A
 renamed-twice τ ρ σ (enter m) h = ap enter (renamed-twice τ ρ σ m h)
 renamed-twice τ ρ σ (exit m) h = ap exit (renamed-twice τ ρ σ m h)
 renamed-twice τ ρ σ (opens m) h = ap opens (renamed-twice τ ρ σ m h)
-renamed-twice τ ρ σ empty h = refl
+renamed-twice τ ρ σ emptyMessage h = refl
 renamed-twice τ ρ σ (path m k) h = ap₂ path (renamed-twice τ ρ σ m (λ v d. h v (λ z. d (omega arith)))) (renamed-twice τ ρ σ k (λ v d. h v (λ z. d (omega arith))))
 
 -- "several as PATH item rest; none as one EMPTY": the items one after the other, or the one message
-whole-shape : (n : ℕ) (σ : ℕ → ℕ) (is : List Message) (p : Process) → chain (items (renamed σ (whole is))) (shape n σ p) ≡ shape n σ (prefix is p)
-unfolding whole prefix shape renamed items chain
+whole-shape : (n : ℕ) (σ : ℕ → ℕ) (is : List Message) (p : Process) → chain (items (renamed σ (oneMessage is))) (processShape n σ p) ≡ processShape n σ (prefix is p)
+unfolding oneMessage prefix processShape renamed items chain
 whole-shape n σ [] p = refl
 whole-shape n σ (i ∷ []) p = refl
 whole-shape n σ (i ∷ (j ∷ is)) p =
-    chain-append (items (renamed σ i)) (items (renamed σ (whole (j ∷ is)))) (shape n σ p) ∙ ap (chain (items (renamed σ i))) (whole-shape n σ (j ∷ is) p)
+    chain-append (items (renamed σ i)) (items (renamed σ (oneMessage (j ∷ is)))) (processShape n σ p) ∙ ap (chain (items (renamed σ i))) (whole-shape n σ (j ∷ is) p)
 
-pub whole-free : (v : ℕ) (is : List Message) (p : Process) → free v (prefix is p) ≡ mentions v (whole is) + free v p
-unfolding whole prefix free mentions
+pub whole-free : (v : ℕ) (is : List Message) (p : Process) → free v (prefix is p) ≡ mentions v (oneMessage is) + free v p
+unfolding oneMessage prefix free mentions
 whole-free v [] p = omega arith
 whole-free v (i ∷ []) p = refl
 whole-free v (i ∷ (j ∷ is)) p = omega (arith, whole-free v (j ∷ is) p)
 
-pub whole-all : (P : ℕ → Type 0) (is : List Message) → ItemsAll P is → MessageAll P (whole is)
-unfolding whole
+pub whole-all : (P : ℕ → Type 0) (is : List Message) → ItemsAll P is → MessageAll P (oneMessage is)
+unfolding oneMessage
 whole-all P [] x = tt
 whole-all P (i ∷ []) x = x .0
 whole-all P (i ∷ (j ∷ is)) x = (x .0, whole-all P (j ∷ is) (x .1))
@@ -115,18 +115,18 @@ pub record Guarded (h : PlainHead) (m : Message) : Type 0 where
   pub says : PartWord
   pub worded : partWord own ≡ says
   pub parted : IsPart says
-  pub fitted : fits says ≡ true
+  pub fitted : partFits says ≡ true
   pub makes : Message → Head Message
   pub reads : (read : Cursor → Reading (Message × Cursor)) (inside : List ℕ → Cursor → Reading (Script × Cursor)) (around : List ℕ) (i : ℕ) (c : Cursor)
       → partFrom read inside around says i c ≡ guardedFrom makes read inside around i c
   pub writes : (ix : Indices) (i : ℕ) (b : Plain) → writePart ix i h b ≡ (own ∷ writeMessage ix m) ++ write ix (i + length (own ∷ writeMessage ix m)) b
-  pub shaped : (n : ℕ) (ρ σ τ : ℕ → ℕ) (p q : Process) → ((v : ℕ) → ¬ (mentions v m ≡ 0) → ρ (τ v) ≡ σ v) → shape n ρ p ≡ shape n σ q
-      → shape n ρ (writtenPart (makes (renamed τ m)) p) ≡ shape n σ (piece h q)
+  pub shaped : (n : ℕ) (ρ σ τ : ℕ → ℕ) (p q : Process) → ((v : ℕ) → ¬ (mentions v m ≡ 0) → ρ (τ v) ≡ σ v) → processShape n ρ p ≡ processShape n σ q
+      → processShape n ρ (writtenPart (makes (renamed τ m)) p) ≡ processShape n σ (piece h q)
   pub frees : (v : ℕ) (p : Process) → free v (piece h p) ≡ mentions v m + free v p
   pub nests : (n : ℕ) → partNesting h n ≡ max (messageNesting m) (suc n)
 
 pub ambient-guarded : (m : Message) → Guarded (Head.ambient m) m
-unfolding partWord kind operand word fits partFrom writePart writeHead writeInside within shape writtenPart piece free partNesting
+unfolding partWord kind operand word partFits partFrom writePart writeHead writeInside within processShape writtenPart piece free partNesting
 ambient-guarded m = record {
   own = word 1 0;
   says = Ambient;
@@ -136,13 +136,13 @@ ambient-guarded m = record {
   makes = Head.ambient;
   reads = λ read inside around i c. refl;
   writes = λ ix i b. refl;
-  shaped = λ n ρ σ τ p q a e. ap₂ (λ (z : Message) (t : Shape). cell (place z) t nil) (renamed-twice τ ρ σ m a) e;
+  shaped = λ n ρ σ τ p q a e. ap₂ (λ (z : Message) (t : Shape). cell (place z) t noCells) (renamed-twice τ ρ σ m a) e;
   frees = λ v p. refl;
   nests = λ n. refl;
 }
 
-pub action-guarded : (is : List Message) → Guarded (Head.action is) (whole is)
-unfolding partWord kind operand word fits partFrom writePart writeHead writeInside within shape writtenPart piece partNesting
+pub action-guarded : (is : List Message) → Guarded (Head.action is) (oneMessage is)
+unfolding partWord kind operand word partFits partFrom writePart writeHead writeInside within processShape writtenPart piece partNesting
 action-guarded is = record {
   own = word 2 0;
   says = Action;
@@ -152,7 +152,7 @@ action-guarded is = record {
   makes = Head.action;
   reads = λ read inside around i c. refl;
   writes = λ ix i b. refl;
-  shaped = λ n ρ σ τ p q a e. ap₂ (λ (z : Message) (t : Shape). chain (items z) t) (renamed-twice τ ρ σ (whole is) a) e ∙ whole-shape n σ is q;
+  shaped = λ n ρ σ τ p q a e. ap₂ (λ (z : Message) (t : Shape). chain (items z) t) (renamed-twice τ ρ σ (oneMessage is) a) e ∙ whole-shape n σ is q;
   frees = λ v p. whole-free v is p;
   nests = λ n. refl;
 }

@@ -12,14 +12,14 @@ use lib.ListN.{length, length-append, take}
 use borrow.Author.Tests.{leb-true, leb-false, le-leb}
 use Rattle.read_messages.specs.Words.{kind, operand, word, nameFits, member}
 use Rattle.read_messages.specs.Reading.{Cursor, cursor, Reading, refuse, got, _>>=_, ask, takeWord, nextWord, nextPart, isEmpty}
-use Rattle.read_messages.specs.Message.{Message, name, variable, enter, exit, opens, empty, path, mentions}
-use Rattle.read_messages.specs.ReadMessage.{ifZero, messageKind, messageWord, fits, bound, messageFrom, readMessage}
+use Rattle.read_messages.specs.Message.{Message, name, variable, enter, exit, opens, emptyMessage, path, mentions}
+use Rattle.read_messages.specs.ReadMessage.{ifZero, messageKind, messageWord, wordFits, bound, messageFrom, readMessage}
 use Rattle.read_messages.specs.declared.MessageWord.{MessageWord}
 use Rattle.read_messages.specs.declared.MessageWord.the-variants.{Name, Variable, Enter, Exit, Open, Empty, Path, Unfit}
 use Rattle.read_messages.proofs.Readings.{refuse≢got, bind-all, bind-got, bind-refuse, got-all, ask-yes, ask-no}
 use Rattle.read_messages.proofs.Cases as message
 use Rattle.read_scripts.specs.Tree.{Head, close, part, parts, bare, settle, PlainHead, Plain}
-use Rattle.read_scripts.specs.Script.{Written, Script, partWord, partFrom, orClose, readBody, readScript, holdHead, hold, started}
+use Rattle.read_scripts.specs.Script.{Written, Script, partWord, partFrom, orClose, readBody, readScript, headWithItems, withItems, started}
 use Rattle.read_scripts.specs.Script as script
 use Rattle.read_scripts.specs.declared.PartWord.{PartWord}
 use Rattle.read_scripts.specs.declared.PartWord.the-variants.{Close, Receipt, Output}
@@ -115,10 +115,10 @@ body-sound = record {
 
 -- THEOREM: every name in the tree that a script begins with is 1 to 255.
 pub script-sound : (ws : List ℕ) (p : Script × Cursor) → readScript ws ≡ got p → Fits Any Sound (started (p .0))
-unfolding started hold settle
+unfolding started withItems settle
 script-sound ws p e =
-    settle-everywhere (Fit Any Sound) bare (hold (p .0))
-    (map-everywhere (Inked Any Sound) (Fit Any Sound) (λ (w : Written). holdHead (w .head)) (λ k w x. (tt, held-all Sound (w .head) (x .1))) (p .0)
+    settle-everywhere (Fit Any Sound) bare (withItems (p .0))
+    (map-everywhere (Inked Any Sound) (Fit Any Sound) (λ (w : Written). headWithItems (w .head)) (λ k w x. (tt, held-all Sound (w .head) (x .1))) (p .0)
     (body.script-case SoundMessage SoundBody body-sound ws p e))
 
 -- ---- judgements
@@ -161,7 +161,7 @@ judged-word n c w ws k e h = subst (Judged n) (sym (bind-got (nextWord 5 c) k (w
 -- ---- messages
 
 -- a message whose first word is known to fit and to be bound
-message-first : (f nest n : ℕ) → nest ≤ n → (around : List ℕ) (c : Cursor) (w : ℕ) (ws : List ℕ) → c .left ≡ w ∷ ws → length (c .left) ≤ f → fits (messageWord w) ≡ true → bound around (messageWord w) ≡ true
+message-first : (f nest n : ℕ) → nest ≤ n → (around : List ℕ) (c : Cursor) (w : ℕ) (ws : List ℕ) → c .left ≡ w ∷ ws → length (c .left) ≤ f → wordFits (messageWord w) ≡ true → bound around (messageWord w) ≡ true
     → ((g : ℕ) (d : Cursor) → d .left ≡ ws → length (d .left) ≤ g → nest ≤ 64 → Judged n (messageFrom (readMessage g (suc nest) around) (messageWord w) d))
     → Judged n (readMessage f nest around c)
 unfolding readMessage
@@ -169,7 +169,7 @@ message-first zero nest n o around c w ws e l t u h = absurd (let z : ⊥ = omeg
 message-first (suc f) nest n o around c w ws e l t u h =
     let s : length ws ≤ f = omega (arith, ap length e) in
     judged-word n c w ws _ e
-    (judged-asked n 2 (c .index) (fits (messageWord w)) _ t
+    (judged-asked n 2 (c .index) (wordFits (messageWord w)) _ t
     (judged-asked n 3 (c .index) (bound around (messageWord w)) _ u
     (judged-then nest n n (omega arith) (ask 4 (c .index) (leb nest 64)) _ (judged-level nest (c .index))
     (λ _ _ m. h f (cursor (suc (c .index)) (c .number) ws) refl s m))))
@@ -180,7 +180,7 @@ sound-message m x = message-more Sound Fitting sound-fits m x
 -- THEOREM: the words of a message whose variables' receipts stand around are judged by its nesting.
 message-only : (ix : Indices) → Small ix → (around : List ℕ) (m : Message) → MessageAll Sound m → ((v : ℕ) → ¬ (mentions v m ≡ 0) → member (newIndex ix v) around ≡ true)
     → (f nest : ℕ) (c : Cursor) (rest : List ℕ) → c .left ≡ writeMessage ix m ++ rest → length (c .left) ≤ f → Judged (nest + messageNesting m) (readMessage f nest around c)
-unfolding writeMessage messageFrom fits bound mentions messageNesting
+unfolding writeMessage messageFrom wordFits bound mentions messageNesting
 message-only ix s around (name n) a b f nest c rest e l =
     let z : messageWord (word 8 n) ≡ Name n = name-word n (sound-fits n a) ∙ rw a in
     message-first f nest (nest + messageNesting (name n)) (omega arith) around c (word 8 n) rest e l (rw z refl) (rw z refl) (λ g d dl k o. rw z (passed (omega arith)))
@@ -197,8 +197,8 @@ message-only ix s around (exit m) a b f nest c rest e l =
 message-only ix s around (opens m) a b f nest c rest e l =
     message-first f nest (nest + messageNesting (opens m)) (omega arith) around c (word 12 0) (writeMessage ix m ++ rest) e l (rw open-word refl) (rw open-word refl)
     (λ g d dl k o. rw open-word (judged-last (suc nest + messageNesting m) _ (omega arith) (readMessage g (suc nest) around d) (λ p. (opens (p .0), p .1)) (message-only ix s around m a b g (suc nest) d rest dl k)))
-message-only ix s around empty a b f nest c rest e l =
-    message-first f nest (nest + messageNesting empty) (omega arith) around c (word 13 0) rest e l (rw empty-word refl) (rw empty-word refl) (λ g d dl k o. rw empty-word (passed (omega arith)))
+message-only ix s around emptyMessage a b f nest c rest e l =
+    message-first f nest (nest + messageNesting emptyMessage) (omega arith) around c (word 13 0) rest e l (rw empty-word refl) (rw empty-word refl) (λ g d dl k o. rw empty-word (passed (omega arith)))
 message-only ix s around (path m n) a b f nest c rest e l =
     message-first f nest (nest + messageNesting (path m n)) (omega arith) around c (word 14 0) (writeMessage ix m ++ (writeMessage ix n ++ rest))
     (e ∙ ap (λ (o : List ℕ). word 14 0 ∷ o) (append-assoc (writeMessage ix m) (writeMessage ix n) rest)) l (rw path-word refl) (rw path-word refl)
@@ -223,17 +223,17 @@ close-judged n w c k e l = rw e (passed l)
 
 -- a body whose first word is known to fit
 close-first : (f nest : ℕ) (around : List ℕ) (c : Cursor) (ws : List ℕ) → c .left ≡ word 0 0 ∷ ws → length (c .left) ≤ f → Judged (nest + 0) (readBody f nest around c)
-unfolding readBody script.fits
+unfolding readBody script.partFits
 close-first zero nest around c ws e l = absurd (let z : ⊥ = omega (arith, ap length e) in z)
 close-first (suc f) nest around c ws e l =
     judged-word (nest + 0) c (word 0 0) ws _ e
-    (judged-asked (nest + 0) 2 (c .index) (script.fits (partWord (word 0 0))) _ (ap script.fits close-word)
+    (judged-asked (nest + 0) 2 (c .index) (script.partFits (partWord (word 0 0))) _ (ap script.partFits close-word)
     (judged-then nest 0 (nest + 0) (omega arith) (ask 4 (c .index) (leb nest 64)) _ (judged-level nest (c .index))
     (λ _ _ m. close-judged 0 (partWord (word 0 0)) (cursor (suc (c .index)) (c .number) ws) _ close-word (omega arith))))
 
 -- a is the greatest nesting of the part's words behind its own, b of the words behind the part
 part-first : (f nest a b n : ℕ) → n ≡ max nest (max a b) → (around : List ℕ) (c : Cursor) (w : ℕ) (ws : List ℕ) → c .left ≡ w ∷ ws → length (c .left) ≤ f
-    → (W : PartWord) → partWord w ≡ W → IsPart W → script.fits W ≡ true
+    → (W : PartWord) → partWord w ≡ W → IsPart W → script.partFits W ≡ true
     → ((g : ℕ) (d : Cursor) → d .left ≡ ws → d .index ≡ suc (c .index) → length (d .left) ≤ g
     → Judged a (partFrom (readMessage g nest around) (readBody g (suc nest)) around W (c .index) d)
     × ((x : (Written × Script) × Cursor) → partFrom (readMessage g nest around) (readBody g (suc nest)) around W (c .index) d ≡ got x → Judged b (readBody g nest around (x .1))))
@@ -245,7 +245,7 @@ part-first (suc f) nest a b n o around c w ws e l W t k fit h =
     let d : Cursor = cursor (suc (c .index)) (c .number) ws in
     let H = h f (nextPart d) refl refl s in
     judged-word n c w ws _ e
-    (judged-asked n 2 (c .index) (script.fits (partWord w)) _ (ap script.fits t ∙ fit)
+    (judged-asked n 2 (c .index) (script.partFits (partWord w)) _ (ap script.partFits t ∙ fit)
     (judged-then nest (max a b) n o (ask 4 (c .index) (leb nest 64)) _ (judged-level nest (c .index))
     (λ _ _ m. subst (Judged (max a b)) (sym (part-all (partWord w) d _ (subst IsPart (sym t) k)))
     (judged-then a b (max a b) refl (partFrom (readMessage f nest around) (readBody f (suc nest)) around (partWord w) (c .index) (nextPart d)) _
@@ -328,7 +328,7 @@ receipt-scoped ix around v i p sc u d = byTest (eqb v u)
     (λ t. subst (λ (o : ℕ). member o (i ∷ around) ≡ true) (sym (new-miss v u i ix t)) (member-more (newIndex ix u) i around (sc u (λ z. d (sym (free-other v u p t) ∙ z)))))
 
 receipt-only : (v k : ℕ) (b r : Plain) → AnyBack b → BodyOnly b → BodyOnly r → BodyOnly (part k (Head.receipt v) b r)
-unfolding process piece free partFrom script.fits nesting partNesting partWord kind operand word
+unfolding process piece free partFrom script.partFits nesting partNesting partWord kind operand word
 receipt-only v k b r A B R ix s around sc f nest c i rest ei e l n =
     part-first f nest (suc nest + nesting b) (nest + nesting r) _ deep around c (word 3 0) (inner ++ (outer ++ rest)) (L .spelled) n Receipt refl tt refl
     (λ g d dl di dn.
@@ -372,7 +372,7 @@ receipt-only v k b r A B R ix s around sc f nest c i rest ei e l n =
 
 -- an output
 output-only : (m : Message) → MessageAll Sound m → (k : ℕ) (b r : Plain) → BodyOnly r → BodyOnly (part k (Head.output m) b r)
-unfolding process piece free partFrom script.fits nesting partNesting partWord kind operand word
+unfolding process piece free partFrom script.partFits nesting partNesting partWord kind operand word
 output-only m names k b r R ix s around sc f nest c i rest ei e l n =
     part-first f nest (nest + messageNesting m) (nest + nesting r) _ deep around c (word 4 0) (writeMessage ix m ++ (outer ++ rest)) (L .spelled) n Output refl tt refl
     (λ g d dl di dn. (

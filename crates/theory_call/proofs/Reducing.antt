@@ -12,7 +12,7 @@ use Rattle.read_messages.specs.Reading.{Cursor, got}
 use Rattle.read_messages.proofs.Readings.{got-inj}
 use Rattle.read_messages.specs.Message.{Message}
 use Rattle.read_scripts.specs.Script.{Script, readScript}
-use Rattle.theory_machine.specs.Moves.{Moved}
+use Rattle.theory_machine.specs.Moves.{MoveMade}
 use Rattle.theory_machine.specs.PlainMachine.{move, Machine}
 use Rattle.base_slices.proofs.Tests.{byTest}
 use Rattle.theory_calculus.specs.Calculus.{StructRefl, StructSymm}
@@ -69,14 +69,14 @@ none-before : (n i q : ℕ) (ws : List ℕ) (m : Machine) → Before n i ws m (h
 unfolding run
 none-before n i q ws m = (0, omega arith, (omega arith, m, refl))
 
-one-before : (n i w : ℕ) (ws : List ℕ) (m : Machine) (s : Moved (List Message)) → moveFits n w ≡ true → move (actor w) (target w) (m .tree) ≡ some s
+one-before : (n i w : ℕ) (ws : List ℕ) (m : Machine) (s : MoveMade (List Message)) → moveFits n w ≡ true → move (actor w) (target w) (m .tree) ≡ some s
     → (x : Ran) → Before n (suc i) ws (afterMove m s) x → Before n i (w ∷ ws) m x
 unfolding run ifMade
 one-before n i w ws m s t e (halted q j) (k, d, (l, r, h)) = (suc k, omega arith, (omega arith, r, rw (t, e) h))
 one-before n i w ws m s t e (moved l) x = tt
 
-made-before : (n i w : ℕ) (ws : List ℕ) (m : Machine) → moveFits n w ≡ true → ((s : Moved (List Message)) → Before n (suc i) ws (afterMove m s) (run n (suc i) ws (afterMove m s)))
-    → (o : Option (Moved (List Message))) → move (actor w) (target w) (m .tree) ≡ o → Before n i (w ∷ ws) m (ifMade i m o (λ l. run n (suc i) ws l))
+made-before : (n i w : ℕ) (ws : List ℕ) (m : Machine) → moveFits n w ≡ true → ((s : MoveMade (List Message)) → Before n (suc i) ws (afterMove m s) (run n (suc i) ws (afterMove m s)))
+    → (o : Option (MoveMade (List Message))) → move (actor w) (target w) (m .tree) ≡ o → Before n i (w ∷ ws) m (ifMade i m o (λ l. run n (suc i) ws l))
 unfolding ifMade
 made-before n i w ws m t f none e = none-before n i 16 (w ∷ ws) m
 made-before n i w ws m t f (some s) e = one-before n i w ws m s t e (run n (suc i) ws (afterMove m s)) (f s)

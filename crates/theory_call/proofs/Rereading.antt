@@ -8,8 +8,8 @@ use native.Mathlib.Omega.{arith}
 use lib.ListN.{length, drop, getD, length-append}
 use Rattle.read_messages.specs.Words.{kind, operand, word, nameFits}
 use Rattle.read_messages.specs.Reading.{Cursor, Reading, got, _>>=_}
-use Rattle.read_messages.specs.Message.{Message, name, variable, enter, exit, opens, empty, path}
-use Rattle.read_messages.specs.ReadMessage.{messageWord, fits, messageFrom, readMessage}
+use Rattle.read_messages.specs.Message.{Message, name, variable, enter, exit, opens, emptyMessage, path}
+use Rattle.read_messages.specs.ReadMessage.{messageWord, wordFits, messageFrom, readMessage}
 use Rattle.read_messages.specs.declared.MessageWord.the-variants.{Name, Variable, Enter, Exit, Open, Empty, Path, Unfit}
 use Rattle.read_messages.proofs.Readings.{refuse≢got, bind-all, got-all}
 use Rattle.read_messages.proofs.Laws.{message-all}
@@ -67,7 +67,7 @@ same-rest e = ap (λ (l : List ℕ). drop 1 l) e
 
 -- a message whose first word is known
 message-first : (P : Message × Cursor → Type 0) (f nest : ℕ) (around : List ℕ) (c : Cursor) (w : ℕ) (ws : List ℕ) → c .left ≡ w ∷ ws
-    → ((g : ℕ) (d : Cursor) → d .left ≡ ws → d .index ≡ suc (c .index) → fits (messageWord w) ≡ true → (p : Message × Cursor) → messageFrom (readMessage g (suc nest) around) (messageWord w) d ≡ got p → P p)
+    → ((g : ℕ) (d : Cursor) → d .left ≡ ws → d .index ≡ suc (c .index) → wordFits (messageWord w) ≡ true → (p : Message × Cursor) → messageFrom (readMessage g (suc nest) around) (messageWord w) d ≡ got p → P p)
     → (p : Message × Cursor) → readMessage f nest around c ≡ got p → P p
 message-first P zero nest around c w ws e h = λ p x. unfold readMessage in refuse≢got x
 message-first P (suc f) nest around c w ws e h =
@@ -75,7 +75,7 @@ message-first P (suc f) nest around c w ws e h =
     (λ q b r x.
     let z : w ∷ ws ≡ q .0 ∷ q .1 .left = sym e ∙ b .next .words in
     let u : q .0 ≡ w = sym (same-head z) in
-    h f (q .1) (sym (same-rest z)) (b .next .index) (subst (λ (v : ℕ). fits (messageWord v) ≡ true) u (b .fit)) r
+    h f (q .1) (sym (same-rest z)) (b .next .index) (subst (λ (v : ℕ). wordFits (messageWord v) ≡ true) u (b .fit)) r
     (subst (λ (v : ℕ). messageFrom (readMessage f (suc nest) around) (messageWord v) (q .1) ≡ got r) u x))
 
 -- the cursor stands n words behind the index i, before these words
@@ -107,7 +107,7 @@ module _ (ix : Indices) (i : ℕ) (rest : List ℕ) where
 -- THEOREM: what is read of a message that was written, whatever stands behind it.
 pub message-back : (ix : Indices) → Small ix → (m : Message) → MessageAll Fitting m → (f nest : ℕ) (around : List ℕ) (c : Cursor) (rest : List ℕ) → c .left ≡ writeMessage ix m ++ rest
     → (p : Message × Cursor) → readMessage f nest around c ≡ got p → MessageBack ix m (c .index) rest p
-unfolding writeMessage renamed messageFrom fits
+unfolding writeMessage renamed messageFrom wordFits
 message-back ix s (name n) a f nest around c rest e =
     message-first (MessageBack ix (name n) (c .index) rest) f nest around c (word 8 n) rest e
     (λ g d l j t. byTest (nameFits n)
@@ -126,9 +126,9 @@ message-back ix s (exit m) a f nest around c rest e =
 message-back ix s (opens m) a f nest around c rest e =
     message-first (MessageBack ix (opens m) (c .index) rest) f nest around c (word 12 0) (writeMessage ix m ++ rest) e
     (λ g d l j t p x. one-back ix (c .index) rest opens m refl refl (readMessage g (suc nest) around) d j (message-back ix s m a g (suc nest) around d rest l) p (rw open-word at x))
-message-back ix s empty a f nest around c rest e =
-    message-first (MessageBack ix empty (c .index) rest) f nest around c (word 13 0) rest e
-    (λ g d l j t p x. leaf-back ix (c .index) rest empty refl empty refl d l j p (rw empty-word at x))
+message-back ix s emptyMessage a f nest around c rest e =
+    message-first (MessageBack ix emptyMessage (c .index) rest) f nest around c (word 13 0) rest e
+    (λ g d l j t p x. leaf-back ix (c .index) rest emptyMessage refl emptyMessage refl d l j p (rw empty-word at x))
 message-back ix s (path m k) a f nest around c rest e =
     message-first (MessageBack ix (path m k) (c .index) rest) f nest around c (word 14 0) (writeMessage ix m ++ (writeMessage ix k ++ rest))
     (e ∙ ap (λ (l : List ℕ). word 14 0 ∷ l) (append-assoc (writeMessage ix m) (writeMessage ix k) rest))

@@ -13,8 +13,8 @@ use Rattle.read_messages.specs.Reading.{Cursor, cursor, Reading, got, ask, next
 use Rattle.read_messages.specs.Message.{Message}
 use Rattle.read_messages.specs.ReadMessage.{readMessage}
 use Rattle.read_messages.proofs.Readings.{refuse≢got, bind-all, got-all, next}
-use Rattle.read_scripts.specs.Tree.{Head, close, part, total, parts, PlainHead, Plain}
-use Rattle.read_scripts.specs.Script.{Written, Script, partWord, fits, partFrom, orClose, readBody, readScript}
+use Rattle.read_scripts.specs.Tree.{Head, close, part, totalOver, parts, PlainHead, Plain}
+use Rattle.read_scripts.specs.Script.{Written, Script, partWord, partFits, partFrom, orClose, readBody, readScript}
 use Rattle.read_scripts.specs.declared.PartWord.{PartWord}
 use Rattle.read_scripts.specs.declared.PartWord.the-variants.{Close, Ambient, Action, Receipt, Output, No}
 use Rattle.read_scripts.specs.Measures.{greatestName}
@@ -26,9 +26,9 @@ use Rattle.theory_calculus.specs.Calculus.{Process, 𝟎, _‖_, input, _≅_}
 use Rattle.theory_calculus.specs.TreeProcess.{piece, process}
 use Rattle.theory_calculus.specs.Written.{writtenPart, written}
 use Rattle.theory_calculus.proofs.Variables.{eqb-flip, free, free-other}
-use Rattle.theory_calculus.proofs.Shapes.{Shape, nil, cell, hear, say, _⊕_, same-eq}
+use Rattle.theory_calculus.proofs.Shapes.{Shape, noCells, cell, hear, say, _⧺_, same-eq}
 use Rattle.theory_calculus.proofs.Substitutions.{Closed}
-use Rattle.theory_calculus.proofs.Congruences.{renamed, bound, bound-same, bound-other, own, shape, complete, top, top-below}
+use Rattle.theory_calculus.proofs.Congruences.{renamed, bound, bound-same, bound-other, own, processShape, complete, highest, top-below}
 use Rattle.theory_calculus.proofs.Kept.{Good, good-move}
 use Rattle.theory_decision.proofs.Fits.{MessageAll, Fits, fits-more, move-fits}
 use Rattle.theory_call.specs.Call.{Call, begun}
@@ -65,7 +65,7 @@ unfolding readBody
 close-first P zero nest around c ws e h = λ p x. refuse≢got x
 close-first P (suc f) nest around c ws e h =
     bind-all P (nextWord 5 c) _
-    (λ q x. bind-all P (ask 2 (c .index) (fits (partWord (q .0)))) _
+    (λ q x. bind-all P (ask 2 (c .index) (partFits (partWord (q .0)))) _
     (λ _ _. bind-all P (ask 4 (c .index) (leb nest 64)) _
     (λ _ _.
     let n = next 5 c q x in
@@ -80,7 +80,7 @@ unfolding readBody
 part-first P zero nest around c w ws e W t k h = λ p x. refuse≢got x
 part-first P (suc f) nest around c w ws e W t k h =
     bind-all P (nextWord 5 c) _
-    (λ q x. bind-all P (ask 2 (c .index) (fits (partWord (q .0)))) _
+    (λ q x. bind-all P (ask 2 (c .index) (partFits (partWord (q .0)))) _
     (λ _ _. bind-all P (ask 4 (c .index) (leb nest 64)) _
     (λ _ _ p y.
     let n = next 5 c q x in
@@ -105,7 +105,7 @@ alike-less i j ix ρ σ p q l f a v d = let x = a v (λ z. d (f v z)) in let y :
 pub record Reread (ix : Indices) (i : ℕ) (b : Plain) (rest : List ℕ) (p : Script × Cursor) : Type 0 where
   pub behind : Back i (length (write ix i b)) rest (p .1)
   pub few : parts (p .0) ≤ parts b
-  pub says : (n : ℕ) (ρ σ : ℕ → ℕ) → Alike i ix ρ σ (process b) → shape n ρ (written (p .0)) ≡ shape n σ (process b)
+  pub says : (n : ℕ) (ρ σ : ℕ → ℕ) → Alike i ix ρ σ (process b) → processShape n ρ (written (p .0)) ≡ processShape n σ (process b)
 
 abbrev pub BodyBack : Indices → Plain → Type 0
 BodyBack ix b = (f nest : ℕ) (around : List ℕ) (c : Cursor) (i : ℕ) (rest : List ℕ) → c .index ≡ i → c .left ≡ write ix i b ++ rest → i + length (c .left) ≤ 268435456
@@ -116,33 +116,33 @@ abbrev pub AnyBack : Plain → Type 0
 AnyBack b = (ix : Indices) → Small ix → BodyBack ix b
 
 close-back : AnyBack close
-unfolding write process shape written total
+unfolding write process processShape written totalOver
 close-back ix s f nest around c i rest ei e l =
     close-first (Reread ix i close rest) f nest around c rest e
     (λ d x y. record { behind = record { left = x; index = omega (arith, y, ei) }; few = omega arith; says = λ n ρ σ a. refl })
 
 -- the shape of a part and of the parts beside it
 beside-says : (k : ℕ) (h : PlainHead) (b r : Plain) (ix : Indices) (i o : ℕ) → i ≤ o → (p q : Process)
-    → ((n : ℕ) (ρ σ : ℕ → ℕ) → Alike i ix ρ σ (piece h (process b)) → shape n ρ p ≡ shape n σ (piece h (process b)))
-    → ((n : ℕ) (ρ σ : ℕ → ℕ) → Alike o ix ρ σ (process r) → shape n ρ q ≡ shape n σ (process r))
-    → (n : ℕ) (ρ σ : ℕ → ℕ) → Alike i ix ρ σ (process (part k h b r)) → shape n ρ (p ‖ q) ≡ shape n σ (process (part k h b r))
-unfolding process shape free
+    → ((n : ℕ) (ρ σ : ℕ → ℕ) → Alike i ix ρ σ (piece h (process b)) → processShape n ρ p ≡ processShape n σ (piece h (process b)))
+    → ((n : ℕ) (ρ σ : ℕ → ℕ) → Alike o ix ρ σ (process r) → processShape n ρ q ≡ processShape n σ (process r))
+    → (n : ℕ) (ρ σ : ℕ → ℕ) → Alike i ix ρ σ (process (part k h b r)) → processShape n ρ (p ‖ q) ≡ processShape n σ (process (part k h b r))
+unfolding process processShape free
 beside-says k h b r ix i o l p q x y n ρ σ a =
-    ap₂ _⊕_ (x n ρ σ (alike-less i i ix ρ σ (piece h (process b)) (piece h (process b) ‖ process r) (omega arith) (λ v z. omega arith) a))
+    ap₂ _⧺_ (x n ρ σ (alike-less i i ix ρ σ (piece h (process b)) (piece h (process b) ‖ process r) (omega arith) (λ v z. omega arith) a))
     (y n ρ σ (alike-less i o ix ρ σ (process r) (piece h (process b) ‖ process r) l (λ v z. omega arith) a))
 
 -- a part that has a message and a body: an ambient, an action
 module _ {h : PlainHead} {m : Message} (G : Guarded h m) where
   guarded-says : (b : Plain) (ix : Indices) (i j : ℕ) → i ≤ j → (x : Message) → x ≡ renamed (newIndex ix) m → (p : Process)
-      → ((n : ℕ) (ρ σ : ℕ → ℕ) → Alike j ix ρ σ (process b) → shape n ρ p ≡ shape n σ (process b))
-      → (n : ℕ) (ρ σ : ℕ → ℕ) → Alike i ix ρ σ (piece h (process b)) → shape n ρ (writtenPart (G .makes x) p) ≡ shape n σ (piece h (process b))
+      → ((n : ℕ) (ρ σ : ℕ → ℕ) → Alike j ix ρ σ (process b) → processShape n ρ p ≡ processShape n σ (process b))
+      → (n : ℕ) (ρ σ : ℕ → ℕ) → Alike i ix ρ σ (piece h (process b)) → processShape n ρ (writtenPart (G .makes x) p) ≡ processShape n σ (piece h (process b))
   guarded-says b ix i j l x e p f n ρ σ a =
-      ap (λ (z : Message). shape n ρ (writtenPart (G .makes z) p)) e
+      ap (λ (z : Message). processShape n ρ (writtenPart (G .makes z) p)) e
       ∙ G .shaped n ρ σ (newIndex ix) p (process b) (λ v d. a v (λ z. d (omega (arith, G .frees v (process b)))) .1)
       (f n ρ σ (alike-less i j ix ρ σ (process b) (piece h (process b)) l (λ v z. omega (arith, G .frees v (process b))) a))
 
   guarded-back : MessageAll Fitting m → (k : ℕ) (b r : Plain) → AnyBack b → AnyBack r → AnyBack (part k h b r)
-  unfolding written total
+  unfolding written totalOver
   guarded-back names k b r B R ix s f nest around c i rest ei e l =
       part-first (Reread ix i (part k h b r) rest) f nest around c (G .own) (writeMessage ix m ++ (inner ++ (outer ++ rest))) (L .spelled) (G .says) (G .worded) (G .parted)
       (λ g d dl di x xe.
@@ -201,15 +201,15 @@ receipt-alike v i j n ix ρ σ p l a u d = byTest (eqb v u)
     (omega (arith, e), ap (bound ρ i n) e ∙ bound-other ρ i n (newIndex ix u) w ∙ x .1 ∙ sym (bound-other σ v n u (eqb-flip v u t))))
 
 receipt-says : (v : ℕ) (b : Plain) (ix : Indices) (i j : ℕ) → i < j → (x : ℕ) → x ≡ i → (p : Process)
-    → ((n : ℕ) (ρ σ : ℕ → ℕ) → Alike j ((v, i) ∷ ix) ρ σ (process b) → shape n ρ p ≡ shape n σ (process b))
-    → (n : ℕ) (ρ σ : ℕ → ℕ) → Alike i ix ρ σ (piece (Head.receipt v) (process b)) → shape n ρ (writtenPart (Head.receipt x) p) ≡ shape n σ (piece (Head.receipt v) (process b))
-unfolding piece writtenPart shape
+    → ((n : ℕ) (ρ σ : ℕ → ℕ) → Alike j ((v, i) ∷ ix) ρ σ (process b) → processShape n ρ p ≡ processShape n σ (process b))
+    → (n : ℕ) (ρ σ : ℕ → ℕ) → Alike i ix ρ σ (piece (Head.receipt v) (process b)) → processShape n ρ (writtenPart (Head.receipt x) p) ≡ processShape n σ (piece (Head.receipt v) (process b))
+unfolding piece writtenPart processShape
 receipt-says v b ix i j l x e p f n ρ σ a =
-    ap (λ (z : ℕ). cell (hear n) (shape (suc n) (bound ρ z n) p) nil) e
-    ∙ ap (λ (z : Shape). cell (hear n) z nil) (f (suc n) (bound ρ i n) (bound σ v n) (receipt-alike v i j n ix ρ σ (process b) l a))
+    ap (λ (z : ℕ). cell (hear n) (processShape (suc n) (bound ρ z n) p) noCells) e
+    ∙ ap (λ (z : Shape). cell (hear n) z noCells) (f (suc n) (bound ρ i n) (bound σ v n) (receipt-alike v i j n ix ρ σ (process b) l a))
 
 receipt-back : (v k : ℕ) (b r : Plain) → AnyBack b → AnyBack r → AnyBack (part k (Head.receipt v) b r)
-unfolding written partFrom total partWord kind operand word
+unfolding written partFrom totalOver partWord kind operand word
 receipt-back v k b r B R ix s f nest around c i rest ei e l =
     part-first (Reread ix i (part k h b r) rest) f nest around c (word 3 0) (inner ++ (outer ++ rest)) (L .spelled) Receipt refl tt
     (λ g d dl di x xe.
@@ -254,13 +254,13 @@ receipt-back v k b r B R ix s f nest around c i rest ei e l =
 
 -- an output
 output-says : (m : Message) (b : Plain) (ix : Indices) (i : ℕ) (x : Message) → x ≡ renamed (newIndex ix) m → (p : Process)
-    → (n : ℕ) (ρ σ : ℕ → ℕ) → Alike i ix ρ σ (piece (Head.output m) (process b)) → shape n ρ (writtenPart (Head.output x) p) ≡ shape n σ (piece (Head.output m) (process b))
-unfolding piece writtenPart shape free
+    → (n : ℕ) (ρ σ : ℕ → ℕ) → Alike i ix ρ σ (piece (Head.output m) (process b)) → processShape n ρ (writtenPart (Head.output x) p) ≡ processShape n σ (piece (Head.output m) (process b))
+unfolding piece writtenPart processShape free
 output-says m b ix i x e p n ρ σ a =
-    ap (λ (z : Message). cell (say (renamed ρ z)) nil nil) e ∙ ap (λ (z : Message). cell (say z) nil nil) (renamed-twice (newIndex ix) ρ σ m (λ v d. a v d .1))
+    ap (λ (z : Message). cell (say (renamed ρ z)) noCells noCells) e ∙ ap (λ (z : Message). cell (say z) noCells noCells) (renamed-twice (newIndex ix) ρ σ m (λ v d. a v d .1))
 
 output-back : (m : Message) → MessageAll Fitting m → (k : ℕ) (b r : Plain) → AnyBack r → AnyBack (part k (Head.output m) b r)
-unfolding written partFrom total partWord kind operand word
+unfolding written partFrom totalOver partWord kind operand word
 output-back m names k b r R ix s f nest around c i rest ei e l =
     part-first (Reread ix i (part k h b r) rest) f nest around c (word 4 0) (writeMessage ix m ++ (outer ++ rest)) (L .spelled) Output refl tt
     (λ g d dl di x xe.
@@ -311,7 +311,7 @@ read-back K b x o =
     (λ _ _. got-all P q
     (let few : 0 + length ws ≤ 268435456 = omega (arith, short ws u e₁) in
     let y = body-back K b x [] (λ v. let z : 0 < 268435456 = omega arith in z) (length ws) 0 [] (cursor 0 0 ws) 0 [] refl (sym (append-nil ws)) few q e₂ in
-    let n : ℕ = top (written (q .0)) + top (process b) in
+    let n : ℕ = highest (written (q .0)) + highest (process b) in
     complete n (top-below (written (q .0)) n (omega arith)) (top-below (process b) n (omega arith)) (same-eq (y .says n own own (λ v d. absurd (d (o v))))))))))
   where
     ws : List ℕ

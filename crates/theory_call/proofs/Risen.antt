@@ -6,7 +6,7 @@ use mathlib.Core.Path.{_≡_, sym, ap, _∙_}
 use lib.ListN.{take}
 use Rattle.read_messages.specs.Reading.{Cursor, got}
 use Rattle.read_scripts.specs.Tree.{bare, settle}
-use Rattle.read_scripts.specs.Script.{Written, Script, readScript, holdHead, hold, started}
+use Rattle.read_scripts.specs.Script.{Written, Script, readScript, headWithItems, withItems, started}
 use Rattle.read_scripts.proofs.Tabled.{script-tabled}
 use Rattle.theory_machine.specs.PlainMachine.{Machine}
 use Rattle.theory_decision.specs.Rising.{Rises}
@@ -18,8 +18,8 @@ use Rattle.theory_call.proofs.Entering.{start-reads}
 
 -- THEOREM: the tree that a script begins with rises.
 pub script-rises : (ws : List ℕ) (p : Script × Cursor) → readScript ws ≡ got p → Rises 0 (started (p .0))
-unfolding started hold settle
-script-rises ws p e = settle-rises 0 bare (hold (p .0)) (map-rises 0 (λ (w : Written). holdHead (w .head)) (p .0) (numbered-rises 0 (p .0) (script-tabled ws p e .numbered)))
+unfolding started withItems settle
+script-rises ws p e = settle-rises 0 bare (withItems (p .0)) (map-rises 0 (λ (w : Written). headWithItems (w .head)) (p .0) (numbered-rises 0 (p .0) (script-tabled ws p e .numbered)))
 
 -- THEOREM: and so after every list that is made.
 pub list-rises : (ws : List ℕ) (p : Script × Cursor) → readScript ws ≡ got p → (n : ℕ) (moves : List ℕ) (m : Machine) → run n 0 moves (begun (p .0)) ≡ moved m → Rises 0 (m .tree)

@@ -7,8 +7,8 @@ use native.Mathlib.Omega.{arith}
 use lib.ListN.{take}
 use Rattle.read_messages.specs.Message.{Message}
 use Rattle.read_scripts.specs.Tree.{parts, settle, bare}
-use Rattle.read_scripts.specs.Script.{Written, Script, holdHead, hold, started}
-use Rattle.theory_machine.specs.Moves.{Moved}
+use Rattle.read_scripts.specs.Script.{Written, Script, headWithItems, withItems, started}
+use Rattle.theory_machine.specs.Moves.{MoveMade}
 use Rattle.theory_machine.specs.PlainMachine.{move, Machine, weightOf}
 use Rattle.base_slices.proofs.Tests.{byTest}
 use Rattle.theory_machine.proofs.Sums.{map-total, settle-total, weight}
@@ -23,11 +23,11 @@ moved-is e = cc
 
 -- a move that was made, and the run behind it
 pub record Made (n i w : ℕ) (ws : List ℕ) (m l : Machine) : Type 0 where
-  pub result : Moved (List Message)
+  pub result : MoveMade (List Message)
   pub makes : move (actor w) (target w) (m .tree) ≡ some result
   pub goes : run n (suc i) ws (afterMove m result) ≡ moved l
 
-made-inv : (n i w : ℕ) (ws : List ℕ) (m l : Machine) (o : Option (Moved (List Message))) → move (actor w) (target w) (m .tree) ≡ o
+made-inv : (n i w : ℕ) (ws : List ℕ) (m l : Machine) (o : Option (MoveMade (List Message))) → move (actor w) (target w) (m .tree) ≡ o
     → ifMade i m o (λ k. run n (suc i) ws k) ≡ moved l → Made n i w ws m l
 unfolding ifMade
 made-inv n i w ws m l none e x = halted≢moved x
@@ -45,7 +45,7 @@ unfolding run
 run-none n i m l e = moved-is e
 
 -- THEOREM: what every move keeps, a list of moves keeps.
-pub run-keeps : (Q : Machine → Type 0) → ((a t : ℕ) (m : Machine) (s : Moved (List Message)) → Q m → move a t (m .tree) ≡ some s → Q (afterMove m s))
+pub run-keeps : (Q : Machine → Type 0) → ((a t : ℕ) (m : Machine) (s : MoveMade (List Message)) → Q m → move a t (m .tree) ≡ some s → Q (afterMove m s))
     → (n i : ℕ) (ws : List ℕ) (m l : Machine) → Q m → run n i ws m ≡ moved l → Q l
 run-keeps Q keep n i [] m l x e = subst Q (run-none n i m l e) x
 run-keeps Q keep n i (w ∷ ws) m l x e =
@@ -59,8 +59,8 @@ run-weight n i ws m l b h e =
     run-keeps (λ k. parts (k .tree) + 2 * k .receipts ≤ b) (λ a t k s x y. omega (arith, weight a t (k .tree) s y)) n i ws m l h e
 
 started-parts : (b : Script) → parts (started b) ≤ parts b
-unfolding started hold settle
-started-parts b = omega (arith, settle-total (λ i h. 1) bare (hold b), map-total (λ i h. 1) (λ (w : Written). holdHead (w .head)) b)
+unfolding started withItems settle
+started-parts b = omega (arith, settle-total (λ i h. 1) bare (withItems b), map-total (λ i h. 1) (λ (w : Written). headWithItems (w .head)) b)
 
 begun-weight : (b : Script) → weightOf (begun b) ≤ parts b
 unfolding weightOf

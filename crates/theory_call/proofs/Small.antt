@@ -22,7 +22,7 @@ use Rattle.read_rules.specs.Ruled.{Ruled}
 use Rattle.read_rules.specs.RuleTable.{vacant, tabulate}
 use Rattle.read_rules.specs.declared.RuleTable.{RuleTable}
 use Rattle.read_rules.proofs.Tabled.{rule-tabled}
-use Rattle.theory_machine.specs.Moves.{Moved}
+use Rattle.theory_machine.specs.Moves.{MoveMade}
 use Rattle.theory_machine.specs.PlainMachine.{move, Machine, weightOf}
 use Rattle.base_slices.proofs.Tests.{byTest}
 use Rattle.theory_decision.specs.Walk.{Space, Count, Walked, stopped, says, Setting, onYes, onNo, turned, ifAny, firstYes, look, counted, walk, walkFrom}
@@ -128,7 +128,7 @@ abbrev Halts : ℕ → Ran → Type 0
 Halts x (halted q i) = i ≤ x
 Halts x (moved m) = Unit {0}
 
-made-halts : (x i : ℕ) (m : Machine) (o : Option (Moved (List Message))) (k : Machine → Ran) → i ≤ x → ((l : Machine) → Halts x (k l)) → Halts x (ifMade i m o k)
+made-halts : (x i : ℕ) (m : Machine) (o : Option (MoveMade (List Message))) (k : Machine → Ran) → i ≤ x → ((l : Machine) → Halts x (k l)) → Halts x (ifMade i m o k)
 unfolding ifMade
 made-halts x i m none k h f = h
 made-halts x i m (some s) k h f = f _

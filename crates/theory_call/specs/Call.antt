@@ -11,7 +11,7 @@ use Rattle.read_messages.specs.Reading.{Cursor, Reading, refuse, got, _>>=_, as
 use Rattle.read_messages.specs.Message.{Message}
 use Rattle.read_scripts.specs.Script.{Script, readScript, started}
 use Rattle.read_scripts.specs.Measures.{greatestName}
-use Rattle.theory_machine.specs.Moves.{Moved}
+use Rattle.theory_machine.specs.Moves.{MoveMade}
 use Rattle.theory_machine.specs.PlainMachine.{move, Machine, weightOf}
 use Rattle.theory_written_trees.specs.Write.{write}
 use Rattle.read_rule_words.specs.Rule.{Rule, greatestRuleName}
@@ -68,11 +68,11 @@ unfoldable pub moveFits : (n : ℕ) → ℕ → Bool
 moveFits n w = eqb (kind w) 1 && (ltb (operand w) 65536 && (ltb (actor w) n && ltb (target w) n))
 
 -- the machine after a move that was made
-abbrev pub afterMove : Machine → Moved (List Message) → Machine
+abbrev pub afterMove : Machine → MoveMade (List Message) → Machine
 afterMove m s = record { tree = s .body; receipts = m .receipts + length (s .news) }
 
 -- question 16: "Can the plain machine make it now?", and what follows if it can
-unfoldable pub ifMade : (place : ℕ) → Machine → Option (Moved (List Message)) → (Machine → Ran) → Ran
+unfoldable pub ifMade : (place : ℕ) → Machine → Option (MoveMade (List Message)) → (Machine → Ran) → Ran
 ifMade i m none k = halted 16 i
 ifMade i m (some s) k = k (afterMove m s)
 

@@ -5,7 +5,7 @@ use mathlib.Core.Bool.{cond}
 use mathlib.Core.List.{List, [], _∷_, _++_}
 use mathlib.Core.Option.{Option, none, some}
 use Rattle.read_scripts.specs.Script.{Script}
-use Rattle.theory_machine.specs.Moves.{Moved}
+use Rattle.theory_machine.specs.Moves.{MoveMade}
 use Rattle.theory_closures.specs.Closure.{Action, settleUnder, closureMove, ClosureMachine, unfoldMachine, closureOf}
 use Rattle.theory_call.specs.Call.{Ran, actor, target, moveFits}
 use Rattle.theory_call.specs.Call as plain
@@ -15,10 +15,10 @@ pub data ClosureRan : Type 0 where
   moved : ClosureMachine → ClosureRan
 
 -- the machine after a move that was made: its receipt is the newest binding
-abbrev pub afterMove : ClosureMachine → Moved Action → ClosureMachine
+abbrev pub afterMove : ClosureMachine → MoveMade Action → ClosureMachine
 afterMove m s = record { tree = s .body; bindings = s .news ++ m .bindings }
 
-unfoldable pub ifMade : (place : ℕ) → ClosureMachine → Option (Moved Action) → (ClosureMachine → ClosureRan) → ClosureRan
+unfoldable pub ifMade : (place : ℕ) → ClosureMachine → Option (MoveMade Action) → (ClosureMachine → ClosureRan) → ClosureRan
 ifMade i m none k = halted 16 i
 ifMade i m (some s) k = k (afterMove m s)
 

@@ -38,8 +38,8 @@ refuses q i m v = record { verdict = refused q i; moves = m; visits = v; deepest
 abbrev W : List ℕ
 W = 0x10000000 ∷ 0x80000001 ∷ 0x20000000 ∷ 0xA0000000 ∷ 0x80000002 ∷ 0x00000000 ∷ 0x00000000 ∷ 0x10000000 ∷ 0x80000002 ∷ 0x00000000 ∷ 0x00000000 ∷ []
 
-abbrev nil : List ℕ
-nil = 0 ∷ []
+abbrev noWords : List ℕ
+noWords = 0 ∷ []
 
 abbrev onlyOne : List ℕ
 onlyOne = 0x10000000 ∷ 0x80000001 ∷ 0 ∷ 0 ∷ []
@@ -55,8 +55,8 @@ guarded = 0x40000000 ∷ 0xD0000000 ∷ 0x30000000 ∷ 0x20000000 ∷ 0x90000002
 
 abbrev pub table : List (Call × Answer × ℕ)
 table =
-    (row nil [] (0x30000000 ∷ []) 100, gives true 0 1 1 0 1 nil, 0)
-    ∷ (row nil [] (0x50000000 ∷ 0x30000000 ∷ 0x30000000 ∷ []) 100, gives true 0 3 2 0 1 nil, 0)
+    (row noWords [] (0x30000000 ∷ []) 100, gives true 0 1 1 0 1 noWords, 0)
+    ∷ (row noWords [] (0x50000000 ∷ 0x30000000 ∷ 0x30000000 ∷ []) 100, gives true 0 3 2 0 1 noWords, 0)
     ∷ (row onlyOne [] (0x30000000 ∷ []) 100, gives false 0 1 1 1 4 onlyOne, 0)
     ∷ (row onlyOne [] (0x40000001 ∷ 0x30000000 ∷ []) 100, gives true 0 2 2 1 4 onlyOne, 0)
     ∷ (row onlyOne [] (0x50000000 ∷ 0x30000000 ∷ 0x30000000 ∷ []) 100, gives false 0 4 2 1 4 onlyOne, 0)

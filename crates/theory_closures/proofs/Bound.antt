@@ -10,21 +10,21 @@ use native.Mathlib.Nat.{pow-zero, pow-succ', mul-assoc, mul-le-mul-right, pow-le
 use lib.Dec.{eqb, ltb}
 use lib.ListN.{length, length-append, drop}
 use borrow.Author.Tests.{eq-eqb, leb-false}
-use Rattle.read_messages.specs.Message.{Message, name, variable, enter, exit, opens, empty, path, items, firstItem, substitute}
+use Rattle.read_messages.specs.Message.{Message, name, variable, enter, exit, opens, emptyMessage, path, items, firstItem, substitute}
 use Rattle.read_messages.specs.declared.First.{First}
 use Rattle.read_messages.specs.declared.First.the-variants.{Nothing}
 use Rattle.read_messages.specs.Reading.{Cursor, got}
-use Rattle.read_scripts.specs.Tree.{Head, ambient, action, receipt, output, Body, close, part, oneIf, total, timesIn, greatest, put, merge, mapHeads, noItems}
+use Rattle.read_scripts.specs.Tree.{Head, ambient, action, receipt, output, Body, close, part, oneIf, totalOver, timesIn, greatest, put, mergeParts, mapHeads, noItems}
 use Rattle.read_scripts.specs.Script.{Script, readScript}
 use Rattle.read_scripts.specs.Measures.{receiptsIn, actionsIn, mostItems, movesBound, isReceipt, isAction, itemsOf}
 use Rattle.theory_closures.specs.Resolve.{resolve}
-use Rattle.theory_machine.specs.Bodies.{find, removePart, alter}
-use Rattle.theory_machine.specs.Moves.{Moved, firstOf, spend, moveHere}
+use Rattle.theory_machine.specs.Bodies.{findPart, removePart, alter}
+use Rattle.theory_machine.specs.Moves.{MoveMade, firstOf, spend, moveHere}
 use Rattle.base_slices.proofs.Tests.{byTest}
 use Rattle.theory_machine.proofs.Inversion.{headName-inv, Here, by-open, by-receive, by-enter, by-exit, here-inv, Makes, now, inner, outer, found}
 use Rattle.theory_machine.proofs.Sums.{find-removePart, find-total, apart, entered-target, by-numbers, made-total, settle-total}
 use Rattle.theory_closures.specs.Closure.{Action, ClosureHead, Closure, Bindings, itemsLeft, viewUnder, allSpent, settleUnder, closureMove, wholeHead, closureOf}
-use Rattle.theory_closures.proofs.Tallies.{Tally, of, of-removePart, of-find, of-put, of-merge, of-alter, of-spent, of-settle, Step, spends, takes, closure-inv, move-step}
+use Rattle.theory_closures.proofs.Tallies.{Tally, tallyOf, of-removePart, of-find, of-put, of-merge, of-alter, of-spent, of-settle, TallyStep, spends, takes, closure-inv, move-step}
 use Rattle.theory_closures.proofs.Simulation.{none-left}
 use Rattle.theory_closures.proofs.Started.{script-distinct}
 
@@ -45,7 +45,7 @@ long-substitute s v r (variable u) h l = byTest (eqb u v) (λ t. rw t (omega ari
 long-substitute s v r (enter m) h l = omega arith
 long-substitute s v r (exit m) h l = omega arith
 long-substitute s v r (opens m) h l = omega arith
-long-substitute s v r empty h l = omega arith
+long-substitute s v r emptyMessage h l = omega arith
 long-substitute s v r (path m k) h l = omega (
   arith,
   length-append (items (substitute v r m)) (items (substitute v r k)),
@@ -105,18 +105,18 @@ asks σ h f e d = active σ h (λ z. d (z ∙ e))
 
 -- ---- a part that is found stays where others are put
 
-find-put : {H : Type 0} (a n : ℕ) (g : H) (s b : Body H) → eqb a n ≡ false → find a (put n g s b) ≡ find a b
-unfolding find put
+find-put : {H : Type 0} (a n : ℕ) (g : H) (s b : Body H) → eqb a n ≡ false → findPart a (put n g s b) ≡ findPart a b
+unfolding findPart put
 find-put a n g s close d = rw d
 find-put a n g s (part i h b r) d = byTest (ltb n i)
     (λ t. rw (t, d))
     (λ t. byTest (eqb n i) (λ u. rw (t, u)) (λ u. rw (t, u) (ap (cond (eqb a i) (some (h, b))) (find-put a n g s r d))))
 
-find-merge : {H : Type 0} (a : ℕ) (b c : Body H) → timesIn a b ≡ 0 → find a (merge b c) ≡ find a c
-unfolding merge total
+find-merge : {H : Type 0} (a : ℕ) (b c : Body H) → timesIn a b ≡ 0 → findPart a (mergeParts b c) ≡ findPart a c
+unfolding mergeParts totalOver
 find-merge a close c z = refl
 find-merge a (part i h b r) c z =
-    find-put a i h b (merge r c) (byTest (eqb a i) (λ t. absurd (omega (arith, rw t at z))) (λ t. t)) ∙ find-merge a r c (omega arith)
+    find-put a i h b (mergeParts r c) (byTest (eqb a i) (λ t. absurd (omega (arith, rw t at z))) (λ t. t)) ∙ find-merge a r c (omega arith)
 
 -- ---- the tallies of the bound
 
@@ -184,7 +184,7 @@ module _ (s r : ℕ) (σ : Bindings) (small : Small s σ) (few : length σ ≤ r
   B = s ^ suc r
 
   -- the actor is found, and its message has at most s items
-  spent-costs : (n : ℕ) (b c : Closure) (h : ClosureHead) → find n b ≡ some (h, c) → Active σ h → longIn h ≤ s → of (budget B) (spend (viewUnder σ) n b) + 1 ≤ of (budget B) b
+  spent-costs : (n : ℕ) (b c : Closure) (h : ClosureHead) → findPart n b ≡ some (h, c) → Active σ h → longIn h ≤ s → tallyOf (budget B) (spend (viewUnder σ) n b) + 1 ≤ tallyOf (budget B) b
   unfolding B
   spent-costs n b c h e x l =
       let a = x .held in
@@ -192,19 +192,19 @@ module _ (s r : ℕ) (σ : Bindings) (small : Small s σ) (few : length σ ≤ r
       omega (arith, of-spent (budget B) σ n b a c (found e (x .same)))
 
   -- a part of a tree whose messages have at most s items has one
-  found-short : (n : ℕ) (b c : Closure) (h : ClosureHead) → find n b ≡ some (h, c) → of (excess s) b ≡ 0 → (longIn h ≤ s) × (of (excess s) c ≡ 0)
+  found-short : (n : ℕ) (b c : Closure) (h : ClosureHead) → findPart n b ≡ some (h, c) → tallyOf (excess s) b ≡ 0 → (longIn h ≤ s) × (tallyOf (excess s) c ≡ 0)
   found-short n b c h e z = let f = of-find (excess s) n b (h, c) e in (omega arith, omega arith)
 
-  here-costs : (a t : ℕ) (b c : Closure) (news : Bindings) → Here (viewUnder σ) a t b c news → of (excess s) b ≡ 0 → Distinct b → of (budget B) c + 1 ≤ of (budget B) b
+  here-costs : (a t : ℕ) (b c : Closure) (news : Bindings) → Here (viewUnder σ) a t b c news → tallyOf (excess s) b ≡ 0 → Distinct b → tallyOf (budget B) c + 1 ≤ tallyOf (budget B) b
   here-costs a t b c news (by-open x e) z d =
       let k = asks σ (x .doer) _ (x .asked) (λ w. let q : _≡_ {A = ℕ} 0 1 = cc in omega arith) in
       let g = headName-inv (viewUnder σ) (x .goal) (x .place) (x .named) in
       let n : eqb a t ≡ false = apart a t b (x .actor) (x .target) (λ w. action≢ambient (sym (k .same) ∙ ap (λ (p : ClosureHead × Closure). p .0) w ∙ g .1)) in
-      let f : find a (removePart t b) ≡ some (x .doer, x .after) = find-removePart a t b n ∙ x .actor in
+      let f : findPart a (removePart t b) ≡ some (x .doer, x .after) = find-removePart a t b n ∙ x .actor in
       let l : timesIn a (x .room) ≡ 0 = omega (arith, ap oneIf (eq-eqb a a refl), find-total (λ i h. oneIf (eqb a i)) t b _ (x .target), find-total (λ i h. oneIf (eqb a i)) a (removePart t b) _ f, d a) in
       rw (x .result) (omega (
         arith,
-        spent-costs a (merge (x .room) (removePart t b)) (x .after) (x .doer) (find-merge a (x .room) (removePart t b) l ∙ f) k (found-short a b (x .after) (x .doer) (x .actor) z .0),
+        spent-costs a (mergeParts (x .room) (removePart t b)) (x .after) (x .doer) (find-merge a (x .room) (removePart t b) l ∙ f) k (found-short a b (x .after) (x .doer) (x .actor) z .0),
         of-merge (budget B) (x .room) (removePart t b),
         of-find (budget B) t b _ (x .target),
       ))
@@ -236,8 +236,8 @@ module _ (s r : ℕ) (σ : Bindings) (small : Small s σ) (few : length σ ≤ r
         of-find (budget B) (x .mover) (x .room) _ (x .around),
       ))
 
-  makes-costs : (a t : ℕ) {b c : Closure} {news : Bindings} → Makes (viewUnder σ) (moveHere (viewUnder σ) a t) b c news → of (excess s) b ≡ 0 → Distinct b → of (budget B) c + 1 ≤ of (budget B) b
-  unfolding of total
+  makes-costs : (a t : ℕ) {b c : Closure} {news : Bindings} → Makes (viewUnder σ) (moveHere (viewUnder σ) a t) b c news → tallyOf (excess s) b ≡ 0 → Distinct b → tallyOf (budget B) c + 1 ≤ tallyOf (budget B) b
+  unfolding tallyOf totalOver
   makes-costs a t (now {b} m e) z d = here-costs a t b (m .body) (m .news) (here-inv (viewUnder σ) a t b m e) z d
   makes-costs a t (inner e x) z d = omega (arith, makes-costs a t x (omega arith) (λ j. omega (arith, d j)))
   makes-costs a t (outer x) z d = omega (arith, makes-costs a t x (omega arith) (λ j. omega (arith, d j)))
@@ -245,11 +245,11 @@ module _ (s r : ℕ) (σ : Bindings) (small : Small s σ) (few : length σ ≤ r
 -- ---- the state of a run whose script has r receipts and messages of at most s items
 pub record Bounded (s r : ℕ) (σ : Bindings) (b : Closure) : Type 0 where
   pub small : Small s σ
-  pub short : of (excess s) b ≡ 0
-  pub few : of receiving b + length σ ≤ r
+  pub short : tallyOf (excess s) b ≡ 0
+  pub few : tallyOf receiving b + length σ ≤ r
   pub distinct : Distinct b
 
-bounded-step : (s r : ℕ) (σ : Bindings) (b c : Closure) (news : Bindings) → Distinct c → Step b c news → Bounded s r σ b → Bounded s r (news ++ σ) c
+bounded-step : (s r : ℕ) (σ : Bindings) (b c : Closure) (news : Bindings) → Distinct c → TallyStep b c news → Bounded s r σ b → Bounded s r (news ++ σ) c
 bounded-step s r σ b c news d (spends e l) x = rw e (record { small = x .small; short = omega (arith, x .short, l (excess s)); few = omega (arith, x .few, l receiving); distinct = d })
 bounded-step s r σ b c news d (takes y) x = rw (y .told) (record {
   small = (omega (arith, x .short, y .law (excess s)), x .small);
@@ -259,8 +259,8 @@ bounded-step s r σ b c news d (takes y) x = rw (y .told) (record {
 })
 
 -- THEOREM: a move takes one from the budget.
-pub move-costs : (s r : ℕ) (σ : Bindings) (a t : ℕ) (b : Closure) (m : Moved Action) → closureMove σ a t b ≡ some m → Bounded s r σ b →
-    Bounded s r (m .news ++ σ) (m .body) × (of (budget (s ^ suc r)) (m .body) + 1 ≤ of (budget (s ^ suc r)) b)
+pub move-costs : (s r : ℕ) (σ : Bindings) (a t : ℕ) (b : Closure) (m : MoveMade Action) → closureMove σ a t b ≡ some m → Bounded s r σ b →
+    Bounded s r (m .news ++ σ) (m .body) × (tallyOf (budget (s ^ suc r)) (m .body) + 1 ≤ tallyOf (budget (s ^ suc r)) b)
 unfolding B
 move-costs s r σ a t b m e x =
     let y = closure-inv σ a t b m e in
@@ -274,7 +274,7 @@ move-costs s r σ a t b m e x =
       bounded-step s r σ b (m .body) (m .news) k (move-step σ a t b m e) x,
       omega (
         arith,
-        ap (of (budget (s ^ suc r))) (y .settled),
+        ap (tallyOf (budget (s ^ suc r))) (y .settled),
         of-settle (budget (s ^ suc r)) (m .news ++ σ) c,
         makes-costs s r σ (x .small) (omega (arith, x .few)) a t (y .makes) (x .short) (x .distinct),
       ),
@@ -289,18 +289,18 @@ head-start n (action m) = (omega arith, refl, refl)
 head-start n (receipt v) = (omega arith, refl, refl)
 head-start n (output m) = (omega arith, refl, refl)
 
-pub budget-start : (n : ℕ) (b : Script) → of (budget n) (closureOf b) ≡ receiptsIn b + actionsIn b * n
-unfolding of closureOf mapHeads receiptsIn actionsIn total
+pub budget-start : (n : ℕ) (b : Script) → tallyOf (budget n) (closureOf b) ≡ receiptsIn b + actionsIn b * n
+unfolding tallyOf closureOf mapHeads receiptsIn actionsIn totalOver
 budget-start n close = omega arith
 budget-start n (part i w b r) = omega (arith, head-start n (w .head) .0, budget-start n b, budget-start n r)
 
-receiving-start : (b : Script) → of receiving (closureOf b) ≡ receiptsIn b
-unfolding of closureOf mapHeads receiptsIn total
+receiving-start : (b : Script) → tallyOf receiving (closureOf b) ≡ receiptsIn b
+unfolding tallyOf closureOf mapHeads receiptsIn totalOver
 receiving-start close = refl
 receiving-start (part i w b r) = omega (arith, head-start 0 (w .head) .1, receiving-start b, receiving-start r)
 
-short-start : (s : ℕ) (b : Script) → mostItems b ≤ s → of (excess s) (closureOf b) ≡ 0
-unfolding of closureOf mapHeads mostItems greatest
+short-start : (s : ℕ) (b : Script) → mostItems b ≤ s → tallyOf (excess s) (closureOf b) ≡ 0
+unfolding tallyOf closureOf mapHeads mostItems greatest
 short-start s close l = refl
 short-start s (part i w b r) l = omega (arith, head-start 0 (w .head) .2, short-start s b (omega arith), short-start s r (omega arith))
 
@@ -315,7 +315,7 @@ started-bounded ws p e =
       distinct = λ j. omega (arith, settle-total (λ i h. oneIf (eqb j i)) (allSpent []) b, script-distinct ws p e j);
     }
 
-pub started-budget : (b : Script) → of (budget (mostItems b ^ suc (receiptsIn b))) (settleUnder [] (closureOf b)) ≤ movesBound b
+pub started-budget : (b : Script) → tallyOf (budget (mostItems b ^ suc (receiptsIn b))) (settleUnder [] (closureOf b)) ≤ movesBound b
 unfolding movesBound
 started-budget b =
     let n : ℕ = mostItems b ^ suc (receiptsIn b) in

@@ -4,7 +4,7 @@ use mathlib.Core.Bool.{true, false}
 use mathlib.Core.List.{List, [], _∷_}
 use mathlib.Core.Path.{_≡_, refl}
 use lib.Dec.{eqb}
-use Rattle.read_messages.specs.Message.{Message, name, variable, enter, exit, opens, empty, path, substitute}
+use Rattle.read_messages.specs.Message.{Message, name, variable, enter, exit, opens, emptyMessage, path, substitute}
 use Rattle.theory_closures.specs.Resolve.{resolve}
 
 -- what the bindings do to each kind of message
@@ -29,7 +29,7 @@ unfolding resolve substitute
 resolve-opens [] m = refl
 resolve-opens (b ∷ σ) m = resolve-opens σ (substitute (b .0) (b .1) m)
 
-pub resolve-empty : (σ : List (ℕ × Message)) → resolve σ empty ≡ empty
+pub resolve-empty : (σ : List (ℕ × Message)) → resolve σ emptyMessage ≡ emptyMessage
 unfolding resolve substitute
 resolve-empty [] = refl
 resolve-empty (b ∷ σ) = resolve-empty σ

@@ -11,18 +11,18 @@ use lib.ListN.{length, drop}
 use borrow.Author.Tests.{le-leb, lt-leb}
 use Rattle.read_messages.specs.Message.{Message, items, nameOf, firstItem, substitute, mentions}
 use Rattle.read_messages.specs.declared.Named.the-variants.{Called}
-use Rattle.read_scripts.specs.Tree.{ambient, action, receipt, output, close, part, oneIf, total, merge, mapHeads, noItems, bare, settle, PlainHead, Plain}
+use Rattle.read_scripts.specs.Tree.{ambient, action, receipt, output, close, part, oneIf, totalOver, mergeParts, mapHeads, noItems, bare, settle, PlainHead, Plain}
 use Rattle.theory_closures.specs.Resolve.{resolve}
 use Rattle.base_slices.proofs.Tests.{eqb-same}
 use Rattle.read_scripts.proofs.Numbers.{one-none}
 use Rattle.read_scripts.proofs.Scopes.{receives}
 use Rattle.theory_closures.proofs.Substitution.{New, substitute-fresh, resolve-substitute, items-substitute}
-use Rattle.theory_machine.specs.Bodies.{find, removePart}
-use Rattle.theory_machine.specs.Moves.{Moved, headName, moveHere, anywhere}
+use Rattle.theory_machine.specs.Bodies.{findPart, removePart}
+use Rattle.theory_machine.specs.Moves.{MoveMade, headName, moveHere, anywhere}
 use Rattle.theory_machine.specs.PlainMachine.{rest, substituteHead, substituteBody, plain, settledBy, move}
 use Rattle.theory_machine.proofs.Naturality.{renamed-same, asked-same, mapHead, isAmbient-map, Translates, named-map, merge-map, settle-map, receive-map, here-map, anywhere-map}
 use Rattle.theory_closures.specs.Closure.{Action, ClosureHead, Closure, Bindings, itemsLeft, viewUnder, allSpent, settleUnder, settledUnder, closureMove, unfoldHead, unfolded, plainNews, unfoldedMove}
-use Rattle.theory_closures.proofs.Tallies.{of, of-removePart, of-find, of-part, named-open, Step, spends, takes, makes-step}
+use Rattle.theory_closures.proofs.Tallies.{tallyOf, of-removePart, of-find, of-part, named-open, TallyStep, spends, takes, makes-step}
 use Rattle.theory_closures.proofs.Invariant.{mentions-fresh, mentionsIn, spentIn, receipts, loose, Good, good-inside, good-rest, bound-received}
 
 -- Unfolding is a change of heads as Naturality has them.
@@ -78,12 +78,12 @@ module _ (v : ℕ) (r : Message) (σ : Bindings) where
   still-head (receipt u) z = refl
   still-head (output m) z = ap output (still m z)
 
-  still-body : (b : Closure) → of (receipts v) b ≡ 0 → of (loose v) b ≡ 0 → mapHeads (U ((v, r) ∷ σ)) b ≡ mapHeads (U σ) b
-  unfolding mapHeads of
+  still-body : (b : Closure) → tallyOf (receipts v) b ≡ 0 → tallyOf (loose v) b ≡ 0 → mapHeads (U ((v, r) ∷ σ)) b ≡ mapHeads (U σ) b
+  unfolding mapHeads tallyOf
   still-body close c z = refl
   still-body (part i h b s) c z =
       let o : receives v h ≡ false = one-none (receives v h) (omega arith) in
-      let w : mentionsIn v h + (of (loose v) b + of (loose v) s) ≡ 0 = rw o at z in
+      let w : mentionsIn v h + (tallyOf (loose v) b + tallyOf (loose v) s) ≡ 0 = rw o at z in
       rw (still-head h (omega arith), still-body b (omega arith) (omega arith), still-body s (omega arith) (omega arith))
 
   -- inside its receipt: it substitutes
@@ -99,28 +99,28 @@ module _ (v : ℕ) (r : Message) (σ : Bindings) where
     filled-head (receipt u) z = refl
     filled-head (output m) z = ap output (filled m)
 
-    filled-body : (b : Closure) → total (λ k h. spentIn h) b ≡ 0 → mapHeads (U ((v, r) ∷ σ)) b ≡ substituteBody v (resolve σ r) (mapHeads (U σ) b)
-    unfolding mapHeads total substituteBody
+    filled-body : (b : Closure) → totalOver (λ k h. spentIn h) b ≡ 0 → mapHeads (U ((v, r) ∷ σ)) b ≡ substituteBody v (resolve σ r) (mapHeads (U σ) b)
+    unfolding mapHeads totalOver substituteBody
     filled-body close z = refl
     filled-body (part i h b s) z = rw (filled-head h (omega arith), filled-body b (omega arith), filled-body s (omega arith))
 
 -- what a move comes to, unfolded
-abbrev K : Bindings → Moved Action → Moved (List Message)
+abbrev K : Bindings → MoveMade Action → MoveMade (List Message)
 K σ m = record { body = mapHeads (U (m .news ++ σ)) (m .body); news = plainNews σ (m .news) }
 
 module _ (σ : Bindings) where
   -- a receipt that is made
-  received : (a v : ℕ) (m : Message) (b s : Closure) → Good σ b → find a b ≡ some (receipt v, s) → (t : ℕ) →
-      merge (substituteBody v (resolve σ m) (mapHeads (U σ) s)) (mapHeads (U σ) (removePart t (removePart a b))) ≡ mapHeads (U ((v, m) ∷ σ)) (merge s (removePart t (removePart a b)))
+  received : (a v : ℕ) (m : Message) (b s : Closure) → Good σ b → findPart a b ≡ some (receipt v, s) → (t : ℕ) →
+      mergeParts (substituteBody v (resolve σ m) (mapHeads (U σ) s)) (mapHeads (U σ) (removePart t (removePart a b))) ≡ mapHeads (U ((v, m) ∷ σ)) (mergeParts s (removePart t (removePart a b)))
   received a v m b s G e t =
       let f = of-find (receipts v) a b (receipt v, s) e in
       let k : oneIf (eqb v v) ≡ 1 = ap oneIf (eqb-same v) in
-      let n : 1 ≤ of (receipts v) b = omega arith in
-      let c : of (receipts v) (removePart t (removePart a b)) ≡ 0 = omega (arith, G .once v, of-removePart (receipts v) t (removePart a b)) in
-      let l : total (λ i h. spentIn h) s + of (loose v) (removePart a b) ≤ of (loose v) b = omega (arith, rw (eqb-same v) at (of-find (loose v) a b (receipt v, s) e)) in
-      let z : of (loose v) (removePart t (removePart a b)) ≡ 0 = omega (arith, G .apart v n, of-removePart (loose v) t (removePart a b)) in
-      let o : total (λ i h. spentIn h) s ≡ 0 = omega (arith, G .apart v n) in
-      ap₂ merge (sym (filled-body v m σ (G .new v n) s o)) (sym (still-body v m σ (removePart t (removePart a b)) c z)) ∙ merge-map (U ((v, m) ∷ σ)) s (removePart t (removePart a b))
+      let n : 1 ≤ tallyOf (receipts v) b = omega arith in
+      let c : tallyOf (receipts v) (removePart t (removePart a b)) ≡ 0 = omega (arith, G .once v, of-removePart (receipts v) t (removePart a b)) in
+      let l : totalOver (λ i h. spentIn h) s + tallyOf (loose v) (removePart a b) ≤ tallyOf (loose v) b = omega (arith, rw (eqb-same v) at (of-find (loose v) a b (receipt v, s) e)) in
+      let z : tallyOf (loose v) (removePart t (removePart a b)) ≡ 0 = omega (arith, G .apart v n, of-removePart (loose v) t (removePart a b)) in
+      let o : totalOver (λ i h. spentIn h) s ≡ 0 = omega (arith, G .apart v n) in
+      ap₂ mergeParts (sym (filled-body v m σ (G .new v n) s o)) (sym (still-body v m σ (removePart t (removePart a b)) c z)) ∙ merge-map (U ((v, m) ∷ σ)) s (removePart t (removePart a b))
 
   here : (a t : ℕ) (b : Closure) → Good σ b → moveHere plain a t (mapHeads (U σ) b) ≡ Option·map (K σ) (moveHere (viewUnder σ) a t b)
   here a t b G =
@@ -129,7 +129,7 @@ module _ (σ : Bindings) where
       (λ v m s c e _. ap (λ (d : Plain). record { body = d; news = (v, resolve σ m) ∷ [] }) (received a v m b s G e t)))
 
   -- what stands around or beside a move unfolds as before
-  around : (i n : ℕ) (h : ClosureHead) (b c r : Closure) (news : Bindings) → headName (viewUnder σ) h ≡ Called n → Good σ (part i h b r) → Step b c news →
+  around : (i n : ℕ) (h : ClosureHead) (b c r : Closure) (news : Bindings) → headName (viewUnder σ) h ≡ Called n → Good σ (part i h b r) → TallyStep b c news →
       (U σ h ≡ U (news ++ σ) h) × (mapHeads (U σ) r ≡ mapHeads (U (news ++ σ)) r)
   around i n h b c r news e G (spends q l) = rw q (refl, refl)
   around i n h b c r news e G (takes x) =
@@ -141,9 +141,9 @@ module _ (σ : Bindings) where
       let w = G .apart v (omega arith) in
       rw (x .told) (sym (still-head v (x .sent) σ h (omega arith)), sym (still-body v (x .sent) σ r (omega arith) (omega arith)))
 
-  beside : (i : ℕ) (h : ClosureHead) (b r c : Closure) (news : Bindings) → Good σ (part i h b r) → Step r c news →
+  beside : (i : ℕ) (h : ClosureHead) (b r c : Closure) (news : Bindings) → Good σ (part i h b r) → TallyStep r c news →
       (U σ h ≡ U (news ++ σ) h) × (mapHeads (U σ) b ≡ mapHeads (U (news ++ σ)) b)
-  unfolding of
+  unfolding tallyOf
   beside i h b r c news G (spends q l) = rw q (refl, refl)
   beside i h b r c news G (takes x) =
       let v = x .bound in
@@ -151,7 +151,7 @@ module _ (σ : Bindings) where
       let z = G .once v in
       let w = G .apart v (omega arith) in
       let o : receives v h ≡ false = one-none (receives v h) (omega arith) in
-      let u : mentionsIn v h + (of (loose v) b + of (loose v) r) ≡ 0 = rw o at w in
+      let u : mentionsIn v h + (tallyOf (loose v) b + tallyOf (loose v) r) ≡ 0 = rw o at w in
       rw (x .told) (sym (still-head v (x .sent) σ h (omega arith)), sym (still-body v (x .sent) σ b (omega arith) (omega arith)))
 
   unfold-anywhere : (a t : ℕ) (b : Closure) → Good σ b → anywhere plain (moveHere plain a t) (mapHeads (U σ) b) ≡ Option·map (K σ) (anywhere (viewUnder σ) (moveHere (viewUnder σ) a t) b)
@@ -182,7 +182,7 @@ unfolding settle
 settle-unfolded σ b =
     ap settle (unfolded-map σ b) ∙ settle-map (U σ) bare (allSpent σ) (bare-spent σ) (isAmbient-map (itemsLeft σ) (resolve σ)) b ∙ sym (unfolded-map σ (settleUnder σ b))
 
-settled-move : (σ : Bindings) (x : Option (Moved Action)) → settledBy (Option·map (K σ) x) ≡ Option·map (unfoldedMove σ) (settledUnder σ x)
+settled-move : (σ : Bindings) (x : Option (MoveMade Action)) → settledBy (Option·map (K σ) x) ≡ Option·map (unfoldedMove σ) (settledUnder σ x)
 unfolding settledBy settledUnder unfoldedMove
 settled-move σ none = refl
 settled-move σ (some m) = ap (λ (d : Plain). some (record { body = d; news = plainNews σ (m .news) }))

@@ -8,8 +8,8 @@ use lib.Dec.{eqb}
 use Rattle.read_messages.specs.Reading.{Cursor, got}
 use Rattle.read_messages.specs.Message.{Message}
 use Rattle.read_messages.proofs.Cases as message
-use Rattle.read_scripts.specs.Tree.{Head, ambient, action, receipt, output, close, part, oneIf, total, timesIn, mapHeads, settle}
-use Rattle.read_scripts.specs.Script.{Written, Script, readScript, holdHead, hold, started}
+use Rattle.read_scripts.specs.Tree.{Head, ambient, action, receipt, output, close, part, oneIf, totalOver, timesIn, mapHeads, settle}
+use Rattle.read_scripts.specs.Script.{Written, Script, readScript, headWithItems, withItems, started}
 use Rattle.read_scripts.proofs.Cases as body
 use Rattle.read_scripts.proofs.Numbers.{numbered-range}
 use Rattle.read_scripts.proofs.Scopes.{receives, uses, receiptsOf, looseIn, script-bound}
@@ -18,22 +18,22 @@ use Rattle.theory_closures.specs.Resolve.{resolve}
 use Rattle.theory_closures.proofs.Substitution.{New}
 use Rattle.theory_machine.proofs.Sums.{map-total}
 use Rattle.theory_closures.specs.Closure.{itemsLeft, settleUnder, unfoldHead, unfolded, wholeHead, closureOf}
-use Rattle.theory_closures.proofs.Tallies.{of}
+use Rattle.theory_closures.proofs.Tallies.{tallyOf}
 use Rattle.theory_closures.proofs.Invariant.{mentionsIn, spentIn, receipts, loose, Good, good-settled}
 use Rattle.theory_closures.proofs.Simulation.{settle-unfolded}
 
 -- ---- what it unfolds to
 
-held : (h : Head Message) → unfoldHead [] (wholeHead h) ≡ holdHead h
-unfolding unfoldHead wholeHead holdHead itemsLeft resolve
+held : (h : Head Message) → unfoldHead [] (wholeHead h) ≡ headWithItems h
+unfolding unfoldHead wholeHead headWithItems itemsLeft resolve
 held (ambient m) = refl
 held (action m) = refl
 held (receipt v) = refl
 held (output m) = refl
 
 -- THEOREM: the script's closure unfolds to the tree that the plain machine holds, and settled to the one it starts with.
-pub closure-held : (b : Script) → unfolded [] (closureOf b) ≡ hold b
-unfolding unfolded closureOf hold mapHeads
+pub closure-held : (b : Script) → unfolded [] (closureOf b) ≡ withItems b
+unfolding unfolded closureOf withItems mapHeads
 closure-held close = refl
 closure-held (part i w b r) = rw (held (w .head), closure-held b, closure-held r)
 
@@ -51,18 +51,18 @@ head-whole v (receipt u) = (refl, refl, refl)
 head-whole v (output m) = (refl, refl, refl)
 
 -- nothing is spent in the script's closure, and its variables are the script's
-none-spent : (b : Script) → total (λ k h. spentIn h) (closureOf b) ≡ 0
-unfolding closureOf mapHeads total
+none-spent : (b : Script) → totalOver (λ k h. spentIn h) (closureOf b) ≡ 0
+unfolding closureOf mapHeads totalOver
 none-spent close = refl
 none-spent (part k w b r) = omega (arith, head-whole 0 (w .head) .2, none-spent b, none-spent r)
 
-closure-receipts : (v : ℕ) (b : Script) → of (receipts v) (closureOf b) ≡ receiptsOf v b
-unfolding closureOf mapHeads total of
+closure-receipts : (v : ℕ) (b : Script) → tallyOf (receipts v) (closureOf b) ≡ receiptsOf v b
+unfolding closureOf mapHeads totalOver tallyOf
 closure-receipts v close = refl
 closure-receipts v (part k w b r) = rw (head-whole v (w .head) .0) (omega (arith, closure-receipts v b, closure-receipts v r))
 
-closure-loose : (v : ℕ) (b : Script) → of (loose v) (closureOf b) ≡ looseIn v b
-unfolding closureOf mapHeads of looseIn
+closure-loose : (v : ℕ) (b : Script) → tallyOf (loose v) (closureOf b) ≡ looseIn v b
+unfolding closureOf mapHeads tallyOf looseIn
 closure-loose v close = refl
 closure-loose v (part k w b r) = rw (head-whole v (w .head) .0, head-whole v (w .head) .1, closure-loose v b, closure-loose v r, none-spent b)
 

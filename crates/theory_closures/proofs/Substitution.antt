@@ -5,7 +5,7 @@ use mathlib.Core.List.{List, [], _∷_, _++_, append-assoc, append-nil}
 use mathlib.Core.Path.{_≡_, refl, sym, ap, _∙_}
 use lib.Dec.{eqb}
 use borrow.Author.Tests.{eq-eqb, ne-eqb, eqb-true, eqb-false}
-use Rattle.read_messages.specs.Message.{Message, name, variable, enter, exit, opens, empty, path, items, substitute, substituteItems}
+use Rattle.read_messages.specs.Message.{Message, name, variable, enter, exit, opens, emptyMessage, path, items, substitute, substituteItems}
 use Rattle.theory_closures.specs.Resolve.{resolve}
 use Rattle.base_slices.proofs.Tests.{byTest}
 use Rattle.theory_closures.proofs.Resolving.{substitute-hit, substitute-miss}
@@ -17,7 +17,7 @@ Fresh v (variable u) = u ≡ v → ⊥
 Fresh v (enter m) = Fresh v m
 Fresh v (exit m) = Fresh v m
 Fresh v (opens m) = Fresh v m
-Fresh v empty = Unit {0}
+Fresh v emptyMessage = Unit {0}
 Fresh v (path m k) = Fresh v m × Fresh v k
 
 -- the variable is new to the bindings
@@ -38,7 +38,7 @@ substitute-fresh v r (variable u) h = miss v u r h
 substitute-fresh v r (enter m) h = ap enter (substitute-fresh v r m h)
 substitute-fresh v r (exit m) h = ap exit (substitute-fresh v r m h)
 substitute-fresh v r (opens m) h = ap opens (substitute-fresh v r m h)
-substitute-fresh v r empty h = refl
+substitute-fresh v r emptyMessage h = refl
 substitute-fresh v r (path m k) h = rw (substitute-fresh v r m (h .0), substitute-fresh v r k (h .1))
 
 pub substitute-twice : (u v : ℕ) (n r m : Message) → (u ≡ v → ⊥) → Fresh v n → substitute u n (substitute v r m) ≡ substitute v (substitute u n r) (substitute u n m)
@@ -56,7 +56,7 @@ substitute-twice u v n r (variable x) d h =
 substitute-twice u v n r (enter m) d h = ap enter (substitute-twice u v n r m d h)
 substitute-twice u v n r (exit m) d h = ap exit (substitute-twice u v n r m d h)
 substitute-twice u v n r (opens m) d h = ap opens (substitute-twice u v n r m d h)
-substitute-twice u v n r empty d h = refl
+substitute-twice u v n r emptyMessage d h = refl
 substitute-twice u v n r (path m k) d h = rw (substitute-twice u v n r m d h, substitute-twice u v n r k d h)
 
 -- a message under one binding more is the message under the others with the resolved message substituted
@@ -80,6 +80,6 @@ items-substitute v r (variable u) = sym (append-nil (items (substitute v r (vari
 items-substitute v r (enter m) = refl
 items-substitute v r (exit m) = refl
 items-substitute v r (opens m) = refl
-items-substitute v r empty = refl
+items-substitute v r emptyMessage = refl
 items-substitute v r (path m k) =
     ap (λ l. l ++ items (substitute v r k)) (items-substitute v r m) ∙ ap (λ l. substituteItems v r (items m) ++ l) (items-substitute v r k) ∙ sym (substituteItems-append v r (items m) (items k))

@@ -10,9 +10,9 @@ use lib.Dec.{eqb, ltb}
 use borrow.Author.Tests.{eqb-true}
 use Rattle.read_messages.specs.Message.{Message}
 use Rattle.read_messages.specs.declared.Named.the-variants.{Called}
-use Rattle.read_scripts.specs.Tree.{ambient, action, receipt, output, isAmbient, close, part, total, put, merge, settleBy}
-use Rattle.theory_machine.specs.Bodies.{find, removePart, alter}
-use Rattle.theory_machine.specs.Moves.{Moved, headName, spentHead, spend, moveHere, anywhere}
+use Rattle.read_scripts.specs.Tree.{ambient, action, receipt, output, isAmbient, close, part, totalOver, put, mergeParts, settleBy}
+use Rattle.theory_machine.specs.Bodies.{findPart, removePart, alter}
+use Rattle.theory_machine.specs.Moves.{MoveMade, headName, spentHead, spend, moveHere, anywhere}
 use Rattle.base_slices.proofs.Tests.{byTest}
 use Rattle.theory_machine.proofs.Options.{some-is, none≢some}
 use Rattle.theory_machine.proofs.Inversion.{headName-inv, Here, by-open, by-receive, by-enter, by-exit, here-inv, Makes, now, inner, outer, anywhere-inv}
@@ -28,32 +28,32 @@ pub record Tally : Type 0 where
   pub spends : (k : ℕ) (a : Action) → own k (action (spentOne a)) ≤ own k (action a)
 
 module _ (T : Tally) where
-  unfoldable pub of : Closure → ℕ
-  of close = 0
-  of (part i h b r) = T .own i h + (cond (T .shut h) (total (T .guarded) b) (of b) + of r)
+  unfoldable pub tallyOf : Closure → ℕ
+  tallyOf close = 0
+  tallyOf (part i h b r) = T .own i h + (cond (T .shut h) (totalOver (T .guarded) b) (tallyOf b) + tallyOf r)
 
   -- one part by itself
   abbrev pub alone : ℕ → ClosureHead → Closure → ℕ
-  alone i h b = T .own i h + cond (T .shut h) (total (T .guarded) b) (of b)
+  alone i h b = T .own i h + cond (T .shut h) (totalOver (T .guarded) b) (tallyOf b)
 
-  pub open-inside : (h : ClosureHead) (b : Closure) → T .shut h ≡ false → cond (T .shut h) (total (T .guarded) b) (of b) ≡ of b
+  pub open-inside : (h : ClosureHead) (b : Closure) → T .shut h ≡ false → cond (T .shut h) (totalOver (T .guarded) b) (tallyOf b) ≡ tallyOf b
   open-inside h b e = rw e
 
-  pub of-part : (i : ℕ) (h : ClosureHead) (b r : Closure) → T .shut h ≡ false → of (part i h b r) ≡ T .own i h + (of b + of r)
-  unfolding of
+  pub of-part : (i : ℕ) (h : ClosureHead) (b r : Closure) → T .shut h ≡ false → tallyOf (part i h b r) ≡ T .own i h + (tallyOf b + tallyOf r)
+  unfolding tallyOf
   of-part i h b r e = rw e
 
   -- an ambient with a name is not shut
   pub named-open : (σ : Bindings) (h : ClosureHead) (n : ℕ) → headName (viewUnder σ) h ≡ Called n → T .shut h ≡ false
   named-open σ h n e = let x = headName-inv (viewUnder σ) h n e in ap (T .shut) (x .1) ∙ T .ambients (x .0)
 
-  pub of-removePart : (a : ℕ) (b : Closure) → of (removePart a b) ≤ of b
-  unfolding removePart of
+  pub of-removePart : (a : ℕ) (b : Closure) → tallyOf (removePart a b) ≤ tallyOf b
+  unfolding removePart tallyOf
   of-removePart a close = omega arith
   of-removePart a (part i h b r) = byTest (eqb a i) (λ t. rw t (omega (arith, of-removePart a r))) (λ t. rw t (omega (arith, of-removePart a r)))
 
-  pub of-find : (a : ℕ) (b : Closure) (p : ClosureHead × Closure) → find a b ≡ some p → alone a (p .0) (p .1) + of (removePart a b) ≤ of b
-  unfolding find removePart of
+  pub of-find : (a : ℕ) (b : Closure) (p : ClosureHead × Closure) → findPart a b ≡ some p → alone a (p .0) (p .1) + tallyOf (removePart a b) ≤ tallyOf b
+  unfolding findPart removePart tallyOf
   of-find a close p e = none≢some e
   of-find a (part i h b r) p e = byTest (eqb a i)
       (λ t.
@@ -61,21 +61,21 @@ module _ (T : Tally) where
       rw (t, ← q, eqb-true a i t) (omega (arith, of-removePart i r)))
       (λ t. rw t (omega (arith, of-find a r p (rw t at e))))
 
-  pub of-put : (n : ℕ) (g : ClosureHead) (s b : Closure) → of (put n g s b) ≤ alone n g s + of b
-  unfolding put of
+  pub of-put : (n : ℕ) (g : ClosureHead) (s b : Closure) → tallyOf (put n g s b) ≤ alone n g s + tallyOf b
+  unfolding put tallyOf
   of-put n g s close = omega arith
   of-put n g s (part i h b r) = byTest (ltb n i) (λ t. rw t (omega arith))
       (λ t. byTest (eqb n i) (λ u. rw (t, u) (omega arith)) (λ u. rw (t, u) (omega (arith, of-put n g s r))))
 
-  pub of-merge : (b c : Closure) → of (merge b c) ≤ of b + of c
-  unfolding merge of
+  pub of-merge : (b c : Closure) → tallyOf (mergeParts b c) ≤ tallyOf b + tallyOf c
+  unfolding mergeParts tallyOf
   of-merge close c = omega arith
-  of-merge (part i h b r) c = omega (arith, of-put i h b (merge r c), of-merge r c)
+  of-merge (part i h b r) c = omega (arith, of-put i h b (mergeParts r c), of-merge r c)
 
   -- the inside of one part that is not shut is altered
-  pub of-alter : (n : ℕ) (G : Closure → Closure) (b : Closure) (p : ClosureHead × Closure) → find n b ≡ some p → T .shut (p .0) ≡ false →
-      of (alter n (λ e. e) G b) + of (p .1) ≡ of b + of (G (p .1))
-  unfolding find alter of
+  pub of-alter : (n : ℕ) (G : Closure → Closure) (b : Closure) (p : ClosureHead × Closure) → findPart n b ≡ some p → T .shut (p .0) ≡ false →
+      tallyOf (alter n (λ e. e) G b) + tallyOf (p .1) ≡ tallyOf b + tallyOf (G (p .1))
+  unfolding findPart alter tallyOf
   of-alter n G close p e s = none≢some e
   of-alter n G (part i h b r) p e s = byTest (eqb n i)
       (λ t.
@@ -92,15 +92,15 @@ module _ (T : Tally) where
     spent-less k (receipt v) b = omega arith
     spent-less k (output m) b = omega arith
 
-    of-spend : (n : ℕ) (b : Closure) → of (spend (viewUnder σ) n b) ≤ of b
-    unfolding alter of
+    of-spend : (n : ℕ) (b : Closure) → tallyOf (spend (viewUnder σ) n b) ≤ tallyOf b
+    unfolding alter tallyOf
     of-spend n close = omega arith
     of-spend n (part i h b r) = byTest (eqb n i) (λ t. rw t (omega (arith, spent-less i h b))) (λ t. rw t (omega (arith, of-spend n r)))
 
     -- exactly, where the actor is found
-    pub of-spent : (n : ℕ) (b : Closure) (a : Action) (s : Closure) → find n b ≡ some (action a, s) →
-        of (spend (viewUnder σ) n b) + T .own n (action a) ≡ of b + T .own n (action (spentOne a))
-    unfolding find alter of spentHead
+    pub of-spent : (n : ℕ) (b : Closure) (a : Action) (s : Closure) → findPart n b ≡ some (action a, s) →
+        tallyOf (spend (viewUnder σ) n b) + T .own n (action a) ≡ tallyOf b + T .own n (action (spentOne a))
+    unfolding findPart alter tallyOf spentHead
     of-spent n close a s e = none≢some e
     of-spent n (part i h b r) a s e = byTest (eqb n i)
         (λ t.
@@ -123,8 +123,8 @@ module _ (T : Tally) where
     ambient-open (receipt v) e = absurd (false≢true e)
     ambient-open (output m) e = absurd (false≢true e)
 
-    pub of-settle : (b : Closure) → of (settleUnder σ b) ≤ of b
-    unfolding settleBy of
+    pub of-settle : (b : Closure) → tallyOf (settleUnder σ b) ≤ tallyOf b
+    unfolding settleBy tallyOf
     of-settle close = omega arith
     of-settle (part i h b r) = byTest (allSpent σ h)
         (λ t. rw t (omega (arith, open-inside h b (spent-open h t), of-merge (settleUnder σ b) (settleUnder σ r), of-settle b, of-settle r)))
@@ -141,18 +141,18 @@ pub record Takes (b c : Closure) (news : Bindings) : Type 0 where
   pub inner : Closure
   pub idle : Closure
   pub told : news ≡ (bound, sent) ∷ []
-  pub law : (T : Tally) → of T c + (alone T taker (receipt bound) inner + alone T giver (output sent) idle) ≤ of T b + of T inner
+  pub law : (T : Tally) → tallyOf T c + (alone T taker (receipt bound) inner + alone T giver (output sent) idle) ≤ tallyOf T b + tallyOf T inner
 
 -- A move spends an item, and no tally rises; or a receipt is made.
-pub data Step (b c : Closure) (news : Bindings) : Type 0 where
-  spends : news ≡ [] → ((T : Tally) → of T c ≤ of T b) → Step b c news
-  takes : Takes b c news → Step b c news
+pub data TallyStep (b c : Closure) (news : Bindings) : Type 0 where
+  spends : news ≡ [] → ((T : Tally) → tallyOf T c ≤ tallyOf T b) → TallyStep b c news
+  takes : Takes b c news → TallyStep b c news
 
 module _ (σ : Bindings) where
-  pub here-step : (a t : ℕ) (b c : Closure) (news : Bindings) → Here (viewUnder σ) a t b c news → Step b c news
+  pub here-step : (a t : ℕ) (b c : Closure) (news : Bindings) → Here (viewUnder σ) a t b c news → TallyStep b c news
   here-step a t b c news (by-open x e) = spends e (λ T. rw (x .result) (omega (
     arith,
-    of-spend T σ a (merge (x .room) (removePart t b)),
+    of-spend T σ a (mergeParts (x .room) (removePart t b)),
     of-merge T (x .room) (removePart t b),
     of-find T t b _ (x .target),
     open-inside T (x .goal) (x .room) (named-open T σ (x .goal) (x .place) (x .named)),
@@ -192,7 +192,7 @@ module _ (σ : Bindings) where
   )))
 
 -- a step in a body is a step of what stands around it, and settling afterwards changes nothing in that
-lift : (b c d e : Closure) (news : Bindings) → ((T : Tally) → of T e + of T b ≤ of T d + of T c) → Step b c news → Step d e news
+lift : (b c d e : Closure) (news : Bindings) → ((T : Tally) → tallyOf T e + tallyOf T b ≤ tallyOf T d + tallyOf T c) → TallyStep b c news → TallyStep d e news
 lift b c d e news f (spends q l) = spends q (λ T. omega (arith, l T, f T))
 lift b c d e news f (takes x) = takes (record {
   taker = x .taker;
@@ -207,30 +207,30 @@ lift b c d e news f (takes x) = takes (record {
 
 module _ (σ : Bindings) (a t : ℕ) where
   -- THEOREM: what a move does to every tally, before the closure is settled and after.
-  pub makes-step : {b c : Closure} {news : Bindings} → Makes (viewUnder σ) (moveHere (viewUnder σ) a t) b c news → Step b c news
-  unfolding of
+  pub makes-step : {b c : Closure} {news : Bindings} → Makes (viewUnder σ) (moveHere (viewUnder σ) a t) b c news → TallyStep b c news
+  unfolding tallyOf
   makes-step (now {b} m e) = here-step σ a t b (m .body) (m .news) (here-inv (viewUnder σ) a t b m e)
   makes-step (inner {k} {n} {h} {b} {c} {r} {news} e x) = lift b c (part k h b r) (part k h c r) news
       (λ T. omega (arith, open-inside T h b (named-open T σ h n e), open-inside T h c (named-open T σ h n e))) (makes-step x)
   makes-step (outer {k} {h} {b} {c} {r} {news} x) = lift r c (part k h b r) (part k h b c) news (λ T. omega arith) (makes-step x)
 
   -- a closure move that is made: the step, and then the closure is settled under the bindings that hold after it
-  pub record Moves (b : Closure) (m : Moved Action) : Type 0 where
+  pub record Moves (b : Closure) (m : MoveMade Action) : Type 0 where
     pub before : Closure
     pub makes : Makes (viewUnder σ) (moveHere (viewUnder σ) a t) b before (m .news)
     pub settled : m .body ≡ settleUnder (m .news ++ σ) before
 
-  settled-inv : (b : Closure) (x : Option (Moved Action)) → anywhere (viewUnder σ) (moveHere (viewUnder σ) a t) b ≡ x → (m : Moved Action) → settledUnder σ x ≡ some m → Moves b m
+  settled-inv : (b : Closure) (x : Option (MoveMade Action)) → anywhere (viewUnder σ) (moveHere (viewUnder σ) a t) b ≡ x → (m : MoveMade Action) → settledUnder σ x ≡ some m → Moves b m
   unfolding settledUnder
   settled-inv b none q m e = none≢some e
   settled-inv b (some l) q m e = subst (Moves b) (some-is e) (record { before = l .body; makes = anywhere-inv (viewUnder σ) (moveHere (viewUnder σ) a t) b l q; settled = refl })
 
-  pub closure-inv : (b : Closure) (m : Moved Action) → closureMove σ a t b ≡ some m → Moves b m
+  pub closure-inv : (b : Closure) (m : MoveMade Action) → closureMove σ a t b ≡ some m → Moves b m
   unfolding closureMove
   closure-inv b m e = settled-inv b (anywhere (viewUnder σ) (moveHere (viewUnder σ) a t) b) refl m e
 
-  pub move-step : (b : Closure) (m : Moved Action) → closureMove σ a t b ≡ some m → Step b (m .body) (m .news)
+  pub move-step : (b : Closure) (m : MoveMade Action) → closureMove σ a t b ≡ some m → TallyStep b (m .body) (m .news)
   move-step b m e =
       let x = closure-inv b m e in
       lift b (x .before) b (m .body) (m .news)
-      (λ T. omega (arith, of-settle T (m .news ++ σ) (x .before), ap (of T) (x .settled))) (makes-step (x .makes))
+      (λ T. omega (arith, of-settle T (m .news ++ σ) (x .before), ap (tallyOf T) (x .settled))) (makes-step (x .makes))

@@ -11,7 +11,7 @@ use Rattle.read_messages.specs.Message.{Message, items, nameOf, firstItem}
 use Rattle.read_scripts.specs.Tree.{Head, ambient, action, receipt, output, Body, mapHeads, settleBy, PlainHead, Plain}
 use Rattle.read_scripts.specs.Script.{Script}
 use Rattle.theory_closures.specs.Resolve.{resolve}
-use Rattle.theory_machine.specs.Moves.{View, Moved, moveHere, anywhere}
+use Rattle.theory_machine.specs.Moves.{View, MoveMade, moveHere, anywhere}
 use Rattle.theory_machine.specs.PlainMachine.{Machine}
 
 -- an action as it is held: how many of its items are spent, and its message
@@ -52,12 +52,12 @@ abbrev pub settleUnder : Bindings → Closure → Closure
 settleUnder σ b = settleBy (allSpent σ) b
 
 -- what a move comes to is settled under the bindings that then hold
-unfoldable pub settledUnder : Bindings → Option (Moved Action) → Option (Moved Action)
+unfoldable pub settledUnder : Bindings → Option (MoveMade Action) → Option (MoveMade Action)
 settledUnder σ none = none
 settledUnder σ (some m) = some (record { body = settleUnder (m .news ++ σ) (m .body); news = m .news })
 
 -- the closure after the move (a, t), where the machine can make it
-unfoldable pub closureMove : Bindings → (actor target : ℕ) → Closure → Option (Moved Action)
+unfoldable pub closureMove : Bindings → (actor target : ℕ) → Closure → Option (MoveMade Action)
 closureMove σ a t b = settledUnder σ (anywhere (viewUnder σ) (moveHere (viewUnder σ) a t) b)
 
 -- The plain tree that a closure stands for.
@@ -76,7 +76,7 @@ plainNews σ [] = []
 plainNews σ (p ∷ l) = (p .0, resolve σ (p .1)) ∷ plainNews σ l
 
 -- what the plain machine makes of the same move
-unfoldable pub unfoldedMove : Bindings → Moved Action → Moved (List Message)
+unfoldable pub unfoldedMove : Bindings → MoveMade Action → MoveMade (List Message)
 unfoldedMove σ m = record { body = unfolded (m .news ++ σ) (m .body); news = plainNews σ (m .news) }
 
 -- the closure machine, and the plain machine that it stands for: the receipts made are the bindings

@@ -9,21 +9,21 @@ use Rattle.read_messages.specs.Message.{Message, name, mentions}
 use Rattle.read_messages.specs.declared.Named.the-variants.{Called}
 use Rattle.read_scripts.specs.Tree.{ambient, action, receipt, output, close, part, mapHeads, Plain}
 use Rattle.theory_closures.proofs.Resolving.{resolve-name}
-use Rattle.theory_machine.specs.Moves.{Moved, headName, isNamed, sameName}
+use Rattle.theory_machine.specs.Moves.{MoveMade, headName, isNamed, sameName}
 use Rattle.theory_machine.specs.PlainMachine.{plain}
 use Rattle.base_slices.proofs.Tests.{byTest}
 use Rattle.theory_machine.proofs.Inversion.{isNamed-inv, sameName-inv}
 use Rattle.read_rule_words.specs.Rule.{Rule}
 use Rattle.theory_calculus.specs.Satisfaction.{wrapped}
 use Rattle.theory_closures.specs.Closure.{Action, ClosureHead, Closure, Bindings, viewUnder, closureMove, unfoldHead, unfolded, unfoldedMove, ClosureMachine}
-use Rattle.theory_closures.proofs.Tallies.{Tally, of}
+use Rattle.theory_closures.proofs.Tallies.{Tally, tallyOf}
 use Rattle.theory_closures.proofs.Invariant.{Good, good-less, good-inside, good-rest, move-good}
 use Rattle.theory_closures.proofs.Simulation.{unfold-move}
 use Rattle.theory_decision.specs.Walk.{Setting, walkFrom}
 use Rattle.theory_decision.specs.PlainWalk.{bodyAfter, plainSpace}
 use Rattle.theory_decision.specs.PlainWalk as plain-walk
 use Rattle.theory_decision.specs.ClosureWalk.{isVoid, withEither, divisions, beside, only, insides, machineAfter, nexts, shares, closureSpace}
-use Rattle.theory_decision.proofs.Related.{Both, neither, found, RelatedLists, nil, more, lists-map, lists-more, order-call_lists, Related, walk-related}
+use Rattle.theory_decision.proofs.Related.{Both, neither, found, RelatedLists, noneLeft, oneMore, lists-map, lists-more, order-lists, Related, walk-related}
 
 -- a closure with the invariant, and the tree that it unfolds to
 abbrev pub Unfolds : ClosureMachine → Plain → Type 0
@@ -56,38 +56,38 @@ only-unfolded σ n (part k h b (part k₁ h₁ b₁ r)) G = neither
 
 insides-unfolded : (σ : Bindings) (b : Closure) → Good σ b → RelatedLists Unfolds (insides σ b) (plain-walk.insides (unfolded σ b))
 unfolding insides plain-walk.insides unfolded mapHeads
-insides-unfolded σ close G = nil
+insides-unfolded σ close G = noneLeft
 insides-unfolded σ (part k h b r) G =
     let p = insides-unfolded σ r (good-rest σ k h b r G) in
     rw (unfold-name σ h) (byTest (isNamed (headName (viewUnder σ) h))
-    (λ t. rw t (more (good-inside σ k _ h b r (isNamed-inv (headName (viewUnder σ) h) t .1) G, refl) p))
+    (λ t. rw t (oneMore (good-inside σ k _ h b r (isNamed-inv (headName (viewUnder σ) h) t .1) G, refl) p))
     (λ t. rw t p))
 
 -- a share and the rest of a closure, and of the tree: together they count what the closure counts
 record Shares (σ : Bindings) (b : Closure) (d : Closure × Closure) (e : Plain × Plain) : Type 0 where
   share : unfolded σ (d .0) ≡ e .0
   others : unfolded σ (d .1) ≡ e .1
-  counts : (T : Tally) → of T (d .0) + of T (d .1) ≡ of T b
+  counts : (T : Tally) → tallyOf T (d .0) + tallyOf T (d .1) ≡ tallyOf T b
 
 either-unfolded : (σ : Bindings) (k : ℕ) (h : ClosureHead) (i b : Closure) {l : List (Closure × Closure)} {m : List (Plain × Plain)} → RelatedLists (Shares σ b) l m →
     RelatedLists (Shares σ (part k h i b)) (withEither k h i l) (plain-walk.withEither k (unfoldHead σ h) (unfolded σ i) m)
-unfolding withEither plain-walk.withEither unfolded mapHeads of
-either-unfolded σ k h i b nil = nil
-either-unfolded σ k h i b (more {a = d} {b = e} x p) =
+unfolding withEither plain-walk.withEither unfolded mapHeads tallyOf
+either-unfolded σ k h i b noneLeft = noneLeft
+either-unfolded σ k h i b (oneMore {a = d} {b = e} x p) =
     let right : Shares σ (part k h i b) (d .0, part k h i (d .1)) (e .0, part k (unfoldHead σ h) (unfolded σ i) (e .1))
     = record { share = x .share; others = ap (part k (unfoldHead σ h) (unfolded σ i)) (x .others); counts = λ T. omega (arith, x .counts T) } in
     let left : Shares σ (part k h i b) (part k h i (d .0), d .1) (part k (unfoldHead σ h) (unfolded σ i) (e .0), e .1)
     = record { share = ap (part k (unfoldHead σ h) (unfolded σ i)) (x .share); others = x .others; counts = λ T. omega (arith, x .counts T) } in
-    more right (more left (either-unfolded σ k h i b p))
+    oneMore right (oneMore left (either-unfolded σ k h i b p))
 
 divisions-unfolded : (σ : Bindings) (b : Closure) → RelatedLists (Shares σ b) (divisions b) (plain-walk.divisions (unfolded σ b))
-unfolding divisions plain-walk.divisions unfolded mapHeads of
+unfolding divisions plain-walk.divisions unfolded mapHeads tallyOf
 divisions-unfolded σ close =
     let none-left : Shares σ close (close, close) (close, close) = record { share = refl; others = refl; counts = λ T. omega arith } in
-    more none-left nil
+    oneMore none-left noneLeft
 divisions-unfolded σ (part k h b r) = either-unfolded σ k h b r (divisions-unfolded σ r)
 
-after-unfolded : (σ : Bindings) (x : Option (Moved Action)) → ((s : Moved Action) → x ≡ some s → Good (s .news ++ σ) (s .body)) →
+after-unfolded : (σ : Bindings) (x : Option (MoveMade Action)) → ((s : MoveMade Action) → x ≡ some s → Good (s .news ++ σ) (s .body)) →
     Both Unfolds (machineAfter σ x) (bodyAfter (Option·map (unfoldedMove σ) x))
 unfolding unfoldedMove
 after-unfolded σ none f = neither
@@ -100,7 +100,7 @@ nexts-unfolded limit σ b G = order-lists Unfolds limit _ _
 
 -- PLACED
 good-wrapped : (σ : Bindings) (k n : ℕ) (b : Closure) → Good σ b → Good σ (part k (ambient (name n)) b close)
-unfolding of mentions
+unfolding tallyOf mentions
 good-wrapped σ k n b G = record {
   once = λ v. omega (arith, G .once v);
   apart = λ v i. omega (arith, G .apart v (omega arith));

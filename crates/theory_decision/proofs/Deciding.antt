@@ -9,11 +9,11 @@ use mathlib.Core.Option.{Option, none, some}
 use native.Mathlib.Omega.{arith}
 use lib.Dec.{eqb, ltb}
 use lib.ListN.{length}
-use Rattle.base_sets.specs.Sets.{span}
+use Rattle.base_sets.specs.Sets.{numbersFrom}
 use borrow.Author.Tests.{eqb-true, eqb-false, eq-eqb, ne-eqb, ltb-true, ltb-false}
 use Rattle.read_messages.specs.Message.{Message}
 use Rattle.read_scripts.specs.Tree.{close, part, Plain}
-use Rattle.theory_machine.specs.Moves.{Moved}
+use Rattle.theory_machine.specs.Moves.{MoveMade}
 use Rattle.theory_machine.specs.PlainMachine.{move}
 use Rattle.base_slices.proofs.Tests.{byTest}
 use Rattle.theory_machine.proofs.Options.{some-is, none≢some}
@@ -96,7 +96,7 @@ within-cases : (P : Plain → Type 0) {b c : Plain} → Within b c → P c → P
 within-cases P here p = inl p
 within-cases P (deeper {c = c} {d = d} i w) p = inr (c, in-insides i, (d, w, p))
 
-reach-cases : (P : Plain → Type 0) (l : Plain → List Plain) {b c : Plain} → ((a t : ℕ) (m : Moved (List Message)) → move a t b ≡ some m → List·Memᴰ (m .body) (l b)) →
+reach-cases : (P : Plain → Type 0) (l : Plain → List Plain) {b c : Plain} → ((a t : ℕ) (m : MoveMade (List Message)) → move a t b ≡ some m → List·Memᴰ (m .body) (l b)) →
     Reaches b c → P c → P b ⊎ Some (λ (d : Plain). (x : Plain) × Reaches d x × P x) (l b)
 reach-cases P l f stay p = inl p
 reach-cases P l f (go {b = b} {c = c} a t m e r) p = inr (m .body, f a t m e, (c, r, p))
@@ -160,7 +160,7 @@ pub record Known (limit : ℕ) (s : Setting) (e : Names) (r : Rule) (b : Plain) 
 
 module _ (limit : ℕ) (s : Setting) where
   -- A name that is not among the first G + d may be exchanged for the last of them.
-  fresh : (e : Names) (r : Rule) (b : Plain) → Known limit s e r b → (i m : ℕ) → 1 ≤ m → Sat (s .parts) ((i, m) ∷ e) r b → Some (λ (x : ℕ). Sat (s .parts) ((i, x) ∷ e) r b) (span 1 (lastName s e))
+  fresh : (e : Names) (r : Rule) (b : Plain) → Known limit s e r b → (i m : ℕ) → 1 ≤ m → Sat (s .parts) ((i, m) ∷ e) r b → Some (λ (x : ℕ). Sat (s .parts) ((i, x) ∷ e) r b) (numbersFrom 1 (lastName s e))
   unfolding renameNames
   fresh e r b K i m h S =
       let F : ℕ = lastName s e in
@@ -187,7 +187,7 @@ module _ (limit : ℕ) (s : Setting) where
   known-next : (e : Names) (r : Rule) (b c : Plain) → Known limit s e r b → Next b c → Known limit s e r c
   known-next e r b c K (a, t, m, q, p) = known-tree e r b c K (subst (Fits _ _) (sym p) (move-fits _ _ a t b m q (K .tree) .2))
 
-  known-chosen : (e : Names) (i : ℕ) (r : Rule) (b : Plain) → Known limit s e r b → (m : ℕ) → List·Memᴰ m (span 1 (lastName s e)) → Known limit s ((i, m) ∷ e) r b
+  known-chosen : (e : Names) (i : ℕ) (r : Rule) (b : Plain) → Known limit s e r b → (m : ℕ) → List·Memᴰ m (numbersFrom 1 (lastName s e)) → Known limit s ((i, m) ∷ e) r b
   known-chosen e i r b K m p =
       let h = of-span 1 _ m p in
       let up : (n : ℕ) → n ≤ s .greatest + length e → n ≤ s .greatest + length ((i, m) ∷ e) = λ n q. omega arith in
@@ -224,7 +224,7 @@ module _ (limit : ℕ) (s : Setting) where
   look-right v g e (some-name i r) b K k a m q =
       let K₁ = known-rule e _ r b K (K .rule) in
       iff (λ z. (z .0, of-span 1 _ (z .0) (z .1) .0, z .2)) (λ z. fresh e r b K₁ i (z .0) (z .1) (z .2))
-      (firstYes-right (λ x. Sat (s .parts) ((i, x) ∷ e) r b) _ (span 1 (lastName s e)) (λ x w n. g ((i, x) ∷ e) r b (known-chosen e i r b K₁ x w) n) k a m q)
+      (firstYes-right (λ x. Sat (s .parts) ((i, x) ∷ e) r b) _ (numbersFrom 1 (lastName s e)) (λ x w n. g ((i, x) ∷ e) r b (known-chosen e i r b K₁ x w) n) k a m q)
   look-right v g e (sometime i r) b K k a m q =
       iff (λ z. elim z [ inl x ↦ (b, stay, x) | inr y ↦ (y .2 .0, of-next (of-nexts limit b (y .0) (y .1)) (y .2 .1), y .2 .2) ])
       (λ z. reach-cases (Sat (s .parts) e r) (nexts limit) (in-nexts limit _ b (K .tree)) (z .1) (z .2))

@@ -5,9 +5,9 @@ use mathlib.Core.List.{List, [], _∷_, _++_}
 use mathlib.Core.Path.{_≡_, refl, ap, ap₂, subst}
 use mathlib.Core.Option.{some}
 use lib.Dec.{eqb}
-use Rattle.read_messages.specs.Message.{Message, name, variable, enter, exit, opens, empty, path, items, substitute, substituteItems}
+use Rattle.read_messages.specs.Message.{Message, name, variable, enter, exit, opens, emptyMessage, path, items, substitute, substituteItems}
 use Rattle.read_scripts.specs.Tree.{ambient, action, receipt, output, PlainHead, Plain}
-use Rattle.theory_machine.specs.Moves.{Moved, spentHead}
+use Rattle.theory_machine.specs.Moves.{MoveMade, spentHead}
 use Rattle.theory_machine.specs.PlainMachine.{rest, substituteHead, substituteBody, plain, move}
 use Rattle.base_slices.proofs.Tests.{byTest}
 use Rattle.theory_machine.proofs.Naturality.{mapHead}
@@ -23,7 +23,7 @@ MessageAll P (variable v) = Unit {0}
 MessageAll P (enter m) = MessageAll P m
 MessageAll P (exit m) = MessageAll P m
 MessageAll P (opens m) = MessageAll P m
-MessageAll P empty = Unit {0}
+MessageAll P emptyMessage = Unit {0}
 MessageAll P (path m k) = MessageAll P m × MessageAll P k
 
 abbrev pub ItemsAll : (ℕ → Type 0) → List Message → Type 0
@@ -77,7 +77,7 @@ module _ (P : ℕ → Type 0) where
   items-all (enter m) x = (x, tt)
   items-all (exit m) x = (x, tt)
   items-all (opens m) x = (x, tt)
-  items-all empty x = tt
+  items-all emptyMessage x = tt
   items-all (path m k) x = append-all (items m) (items k) (items-all m (x .0)) (items-all k (x .1))
 
   substitute-all : (v : ℕ) (r m : Message) → MessageAll P r → MessageAll P m → MessageAll P (substitute v r m)
@@ -87,7 +87,7 @@ module _ (P : ℕ → Type 0) where
   substitute-all v r (enter m) y x = substitute-all v r m y x
   substitute-all v r (exit m) y x = substitute-all v r m y x
   substitute-all v r (opens m) y x = substitute-all v r m y x
-  substitute-all v r empty y x = tt
+  substitute-all v r emptyMessage y x = tt
   substitute-all v r (path m k) y x = (substitute-all v r m y (x .0), substitute-all v r k y (x .1))
 
   substituteItems-all : (v : ℕ) (r : Message) (l : List Message) → MessageAll P r → ItemsAll P l → ItemsAll P (substituteItems v r l)
@@ -124,7 +124,7 @@ module _ (K P : ℕ → Type 0) where
   }
 
   -- the move's numbers are numbers of the tree, and the tree is kept
-  pub move-fits : (a t : ℕ) (b : Plain) (m : Moved (List Message)) → move a t b ≡ some m → Fits K P b → K a × K t × Fits K P (m .body)
+  pub move-fits : (a t : ℕ) (b : Plain) (m : MoveMade (List Message)) → move a t b ≡ some m → Fits K P b → K a × K t × Fits K P (m .body)
   move-fits a t b m e x =
       let (y, z, u) = move-everywhere (Fit K P) keeps a t b m e x in
       (y .1 .0, z .1 .0, u)
@@ -164,7 +164,7 @@ module _ (P Q : ℕ → Type 0) (f : (n : ℕ) → P n → Q n) where
   message-more (enter m) x = message-more m x
   message-more (exit m) x = message-more m x
   message-more (opens m) x = message-more m x
-  message-more empty x = tt
+  message-more emptyMessage x = tt
   message-more (path m k) x = (message-more m (x .0), message-more k (x .1))
 
   items-more : (l : List Message) → ItemsAll P l → ItemsAll Q l
@@ -209,7 +209,7 @@ module _ (P : ℕ → Type 0) (f : ℕ → ℕ) (s : (n : ℕ) → P n → f n �
   message-still (enter m) x = ap enter (message-still m x)
   message-still (exit m) x = ap exit (message-still m x)
   message-still (opens m) x = ap opens (message-still m x)
-  message-still empty x = refl
+  message-still emptyMessage x = refl
   message-still (path m k) x = ap₂ path (message-still m (x .0)) (message-still k (x .1))
 
   items-still : (l : List Message) → ItemsAll P l → renameItems f l ≡ l

@@ -7,12 +7,12 @@ use mathlib.Core.Logic.{_⊎_, inl, inr}
 use mathlib.Core.Option.{Option, none, some}
 use native.Mathlib.Omega.{arith}
 use lib.Dec.{eqb}
-use Rattle.base_sets.specs.Sets.{span}
+use Rattle.base_sets.specs.Sets.{numbersFrom}
 use borrow.Author.Tests.{eqb-true, eqb-false, eq-eqb}
 use Rattle.read_messages.specs.Message.{Message}
 use Rattle.read_messages.specs.declared.Named.the-variants.{Called}
 use Rattle.read_scripts.specs.Tree.{close, part, PlainHead, Plain}
-use Rattle.theory_machine.specs.Moves.{Moved, headName, isNamed, sameName}
+use Rattle.theory_machine.specs.Moves.{MoveMade, headName, isNamed, sameName}
 use Rattle.theory_machine.specs.PlainMachine.{plain, move}
 use Rattle.base_slices.proofs.Tests.{byTest}
 use Rattle.theory_machine.proofs.Options.{some-is, none≢some, cond-inv}
@@ -24,15 +24,15 @@ use Rattle.theory_decision.proofs.Fits.{Fits, move-fits}
 
 -- ranges
 
-pub in-span : (from n m : ℕ) → from ≤ m → m < from + n → List·Memᴰ m (span from n)
-unfolding span
+pub in-span : (from n m : ℕ) → from ≤ m → m < from + n → List·Memᴰ m (numbersFrom from n)
+unfolding numbersFrom
 in-span from zero m l h = absurd (let w : ⊥ = omega arith in w)
 in-span from (suc n) m l h = byTest (eqb m from)
     (λ t. List·Memᴰ·head (eqb-true m from t))
     (λ t. List·Memᴰ·tail (in-span (suc from) n m (let d = eqb-false m from t in omega arith) (omega arith)))
 
-pub of-span : (from n m : ℕ) → List·Memᴰ m (span from n) → (from ≤ m) × (m < from + n)
-unfolding span
+pub of-span : (from n m : ℕ) → List·Memᴰ m (numbersFrom from n) → (from ≤ m) × (m < from + n)
+unfolding numbersFrom
 of-span from zero m i = absurd (List·Memᴰ·not-nil i)
 of-span from (suc n) m i = elim (List·Memᴰ·cases-cons i) [
   | inl q ↦ (omega arith, omega arith)
@@ -95,9 +95,9 @@ module _ {S : Type 0} where
 -- what stands after one move
 
 abbrev pub Next : Plain → Plain → Type 0
-Next b c = (a : ℕ) × (t : ℕ) × (m : Moved (List Message)) × (move a t b ≡ some m) × (c ≡ m .body)
+Next b c = (a : ℕ) × (t : ℕ) × (m : MoveMade (List Message)) × (move a t b ≡ some m) × (c ≡ m .body)
 
-body-after : (x : Option (Moved (List Message))) (c : Plain) → bodyAfter x ≡ some c → (m : Moved (List Message)) × (x ≡ some m) × (c ≡ m .body)
+body-after : (x : Option (MoveMade (List Message))) (c : Plain) → bodyAfter x ≡ some c → (m : MoveMade (List Message)) × (x ≡ some m) × (c ≡ m .body)
 body-after none c e = none≢some e
 body-after (some m) c e = (m, refl, sym (some-is e))
 
@@ -109,7 +109,7 @@ of-nexts limit b c i =
     (x .0, x .1, y .0, y .1, y .2)
 
 -- Where every number is below the limit, every move is in the list.
-pub in-nexts : (limit : ℕ) (P : ℕ → Type 0) (b : Plain) → Fits (λ (k : ℕ). k < limit) P b → (a t : ℕ) (m : Moved (List Message)) → move a t b ≡ some m → List·Memᴰ (m .body) (nexts limit b)
+pub in-nexts : (limit : ℕ) (P : ℕ → Type 0) (b : Plain) → Fits (λ (k : ℕ). k < limit) P b → (a t : ℕ) (m : MoveMade (List Message)) → move a t b ≡ some m → List·Memᴰ (m .body) (nexts limit b)
 unfolding nexts
 in-nexts limit P b x a t m e =
     let z = move-fits (λ (k : ℕ). k < limit) P a t b m e x in

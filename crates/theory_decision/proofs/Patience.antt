@@ -11,7 +11,7 @@ use lib.Dec.{ltb}
 use borrow.Author.Tests.{ltb-true, lt-ltb}
 use Rattle.read_rule_words.specs.Rule.{Names, termName, Rule, truth, negation, either, void, at, beside, some-name, sometime, somewhere, placed, ruleIndex}
 use Rattle.base_slices.proofs.Tests.{byTest}
-use Rattle.base_sets.specs.Sets.{span}
+use Rattle.base_sets.specs.Sets.{numbersFrom}
 use Rattle.theory_decision.specs.Walk.{Space, Count, Walked, stopped, says, Setting, onYes, onNo, turned, ifAny, firstYes, lastName, look, counted, walk, walkFrom}
 
 -- no visits are left: question 18
@@ -69,7 +69,7 @@ module _ {S : Type 0} (space : Space S) (s : Setting) (p : ℕ) (more : s .patie
   look-kept f g h e (at i t r) b n = ifAny-kept (space .only (termName e t) b) _ _ n (λ c. h e r c n)
   look-kept f g h e (beside i r q) b n =
       firstYes-kept _ _ (λ d n₁. onYes-kept (f e r (d .0) n₁) (g e r (d .0) n₁) _ _ (h e r (d .0) n₁) (λ n₂. h e q (d .1) n₂)) (space .divisions b) n
-  look-kept f g h e (some-name i r) b n = firstYes-kept _ _ (λ m n₁. h ((i, m) ∷ e) r b n₁) (span 1 (lastName s e)) n
+  look-kept f g h e (some-name i r) b n = firstYes-kept _ _ (λ m n₁. h ((i, m) ∷ e) r b n₁) (numbersFrom 1 (lastName s e)) n
   look-kept f g h e (sometime i r) b n =
       onNo-kept (f e r b n) (g e r b n) _ _ (h e r b n) (λ n₁. firstYes-kept _ _ (λ c n₂. h e (sometime i r) c n₂) (space .nexts b) n₁)
   look-kept f g h e (somewhere i r) b n =

@@ -7,13 +7,13 @@ use mathlib.Core.Logic.{inl, inr, _↔_}
 use mathlib.Core.Option.{Option, none, some, Option·map}
 use lib.Dec.{eqb}
 use borrow.Author.Tests.{eqb-true, eqb-false, eq-eqb, ne-eqb}
-use Rattle.read_messages.specs.Message.{Message, name, variable, enter, exit, opens, empty, path, items, nameOf, substitute, substituteItems, asks, firstItem}
+use Rattle.read_messages.specs.Message.{Message, name, variable, enter, exit, opens, emptyMessage, path, items, nameOf, substitute, substituteItems, asks, firstItem}
 use Rattle.read_messages.specs.declared.Named.the-variants.{Called}
 use Rattle.read_scripts.specs.Tree.{ambient, action, receipt, output, close, part, mapHeads, PlainHead, Plain, noItems, bare, settle}
-use Rattle.theory_machine.specs.Moves.{Moved, headName, moveHere, anywhere}
+use Rattle.theory_machine.specs.Moves.{MoveMade, headName, moveHere, anywhere}
 use Rattle.theory_machine.specs.PlainMachine.{rest, substituteHead, substituteBody, plain, settledBy, move}
 use Rattle.base_slices.proofs.Tests.{byTest}
-use Rattle.theory_machine.proofs.Naturality.{mapHeads-twice, mapHeads-same, settle-map, renamed, asked, Injective, mapHead, isAmbient-map, Translates, headName-map, mapMoved, moved-map}
+use Rattle.theory_machine.proofs.Naturality.{mapHeads-twice, mapHeads-same, settle-map, renamed, asked, NamesApart, mapHead, isAmbient-map, Translates, headName-map, mapMoved, moved-map}
 use Rattle.read_rule_words.specs.Rule.{Term, constant, chosen, Rule, truth, negation, either, void, at, beside, some-name, sometime, somewhere, placed, Names, chosenName, termName}
 use Rattle.theory_calculus.specs.Satisfaction.{Divided, nothing, left, right, Inside, first, later, Within, here, deeper, Reaches, stay, go, Alone, wrapped, Sat}
 
@@ -25,7 +25,7 @@ module _ (f : ℕ → ℕ) where
   renameMessage (enter m) = enter (renameMessage m)
   renameMessage (exit m) = exit (renameMessage m)
   renameMessage (opens m) = opens (renameMessage m)
-  renameMessage empty = empty
+  renameMessage emptyMessage = emptyMessage
   renameMessage (path m k) = path (renameMessage m) (renameMessage k)
 
   abbrev pub renameItems : List Message → List Message
@@ -57,7 +57,7 @@ module _ (f : ℕ → ℕ) where
   renameNames [] = []
   renameNames (p ∷ e) = (p .0, f (p .1)) ∷ renameNames e
 
-  abbrev pub renameMoved : Moved (List Message) → Moved (List Message)
+  abbrev pub renameMoved : MoveMade (List Message) → MoveMade (List Message)
   renameMoved = mapMoved renameHead renameMessage
 
 -- there and back again
@@ -69,7 +69,7 @@ module _ (f g : ℕ → ℕ) (back : (n : ℕ) → g (f n) ≡ n) where
   message-back (enter m) = ap enter (message-back m)
   message-back (exit m) = ap exit (message-back m)
   message-back (opens m) = ap opens (message-back m)
-  message-back empty = refl
+  message-back emptyMessage = refl
   message-back (path m k) = ap₂ path (message-back m) (message-back k)
 
   items-back : (l : List Message) → renameItems g (renameItems f l) ≡ l
@@ -86,7 +86,7 @@ module _ (f g : ℕ → ℕ) (back : (n : ℕ) → g (f n) ≡ n) where
   tree-back : (b : Plain) → renameTree g (renameTree f b) ≡ b
   tree-back b = mapHeads-twice (renameHead g) (renameHead f) (λ h. h) (λ h. h) head-back b ∙ mapHeads-same (λ h. h) (λ h. refl) _ ∙ mapHeads-same (λ h. h) (λ h. refl) b
 
-  injective : Injective f
+  injective : NamesApart f
   injective m n = byTest (eqb m n)
       (λ t. eq-eqb (f m) (f n) (ap f (eqb-true m n t)) ∙ sym t)
       (λ t. ne-eqb (f m) (f n) (λ e. eqb-false m n t (sym (back m) ∙ ap g e ∙ back n)) ∙ sym t)
@@ -99,7 +99,7 @@ module _ (f : ℕ → ℕ) where
   nameOf-rename (enter m) = refl
   nameOf-rename (exit m) = refl
   nameOf-rename (opens m) = refl
-  nameOf-rename empty = refl
+  nameOf-rename emptyMessage = refl
   nameOf-rename (path m k) = refl
 
   asks-rename : (i : Message) → asks (renameMessage f i) ≡ asked f (asks i)
@@ -109,7 +109,7 @@ module _ (f : ℕ → ℕ) where
   asks-rename (enter m) = rw (nameOf-rename m)
   asks-rename (exit m) = rw (nameOf-rename m)
   asks-rename (opens m) = rw (nameOf-rename m)
-  asks-rename empty = refl
+  asks-rename emptyMessage = refl
   asks-rename (path m k) = refl
 
   first-rename : (l : List Message) → firstItem (renameItems f l) ≡ asked f (firstItem l)
@@ -133,7 +133,7 @@ module _ (f : ℕ → ℕ) where
   items-rename (enter m) = refl
   items-rename (exit m) = refl
   items-rename (opens m) = refl
-  items-rename empty = refl
+  items-rename emptyMessage = refl
   items-rename (path m k) = rw (items-rename m, items-rename k, rename-append)
 
   substitute-rename : (v : ℕ) (r m : Message) → substitute v (renameMessage f r) (renameMessage f m) ≡ renameMessage f (substitute v r m)
@@ -143,7 +143,7 @@ module _ (f : ℕ → ℕ) where
   substitute-rename v r (enter m) = ap enter (substitute-rename v r m)
   substitute-rename v r (exit m) = ap exit (substitute-rename v r m)
   substitute-rename v r (opens m) = ap opens (substitute-rename v r m)
-  substitute-rename v r empty = refl
+  substitute-rename v r emptyMessage = refl
   substitute-rename v r (path m k) = ap₂ path (substitute-rename v r m) (substitute-rename v r k)
 
   substituteItems-rename : (v : ℕ) (r : Message) (l : List Message) → substituteItems v (renameMessage f r) (renameItems f l) ≡ renameItems f (substituteItems v r l)
@@ -177,7 +177,7 @@ module _ (f : ℕ → ℕ) where
   unfolding settle
   settle-rename b = settle-map (renameHead f) bare bare bare-rename (isAmbient-map (renameItems f) (renameMessage f)) b
 
-  settled-rename : (x : Option (Moved (List Message))) → settledBy (Option·map (renameMoved f) x) ≡ Option·map (renameMoved f) (settledBy x)
+  settled-rename : (x : Option (MoveMade (List Message))) → settledBy (Option·map (renameMoved f) x) ≡ Option·map (renameMoved f) (settledBy x)
   unfolding settledBy
   settled-rename none = refl
   settled-rename (some m) = ap some (rw (settle-rename (m .body)))

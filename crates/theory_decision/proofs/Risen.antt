@@ -12,11 +12,11 @@ use lib.Dec.{eqb, ltb}
 use lib.Pow.{pow-pos, pow-mono}
 use borrow.Author.Tests.{eqb-false, ltb-true, ltb-false}
 use Rattle.read_messages.specs.Message.{Message}
-use Rattle.base_sets.specs.Sets.{mask, Rising}
-use Rattle.read_scripts.specs.Tree.{Head, isAmbient, Body, close, part, tops, parts, put, merge, mapHeads, settleBy, bare, PlainHead, Plain, settle}
+use Rattle.base_sets.specs.Sets.{mask, RisingFrom}
+use Rattle.read_scripts.specs.Tree.{Head, isAmbient, Body, close, part, tops, parts, put, mergeParts, mapHeads, settleBy, bare, PlainHead, Plain, settle}
 use Rattle.read_scripts.specs.Represents.{Numbered}
-use Rattle.theory_machine.specs.Bodies.{find, removePart, alter}
-use Rattle.theory_machine.specs.Moves.{View, Moved, headName, isNamed, spentHead, spend, moveHere, inside, anywhere}
+use Rattle.theory_machine.specs.Bodies.{findPart, removePart, alter}
+use Rattle.theory_machine.specs.Moves.{View, MoveMade, headName, isNamed, spentHead, spend, moveHere, inside, anywhere}
 use Rattle.theory_machine.specs.PlainMachine.{substituteHead, substituteBody, plain, settledBy, move}
 use Rattle.base_slices.proofs.Tests.{byTest}
 use Rattle.theory_machine.proofs.Options.{some-is, none≢some, cond-inv, orElse-inv, onward-inv}
@@ -37,7 +37,7 @@ module _ {H : Type 0} where
   rises-down m n (part i h b r) l x = let k : n ≤ i = x .0 in (omega arith, x .1, x .2)
 
   -- the body's own numbers rise
-  pub rises-tops : (n : ℕ) (b : Body H) → Rises n b → Rising n (tops b)
+  pub rises-tops : (n : ℕ) (b : Body H) → Rises n b → RisingFrom n (tops b)
   unfolding tops
   rises-tops n close x = tt
   rises-tops n (part i h b r) x = (x .0, rises-tops (suc i) r (x .2))
@@ -49,12 +49,12 @@ module _ {H : Type 0} where
       (λ t. rw t (l, y, (ltb-true n i t, x .1, x .2)))
       (λ t. byTest (eqb n i) (λ u. rw (t, u) x) (λ u. rw (t, u) (x .0, x .1, put-rises (suc i) n g s r (past n i t u) y (x .2))))
 
-  pub merge-rises : (m : ℕ) (b c : Body H) → Rises m b → Rises m c → Rises m (merge b c)
-  unfolding merge
+  pub merge-rises : (m : ℕ) (b c : Body H) → Rises m b → Rises m c → Rises m (mergeParts b c)
+  unfolding mergeParts
   merge-rises m close c x y = y
   merge-rises m (part i h b r) c x y =
       let l : m ≤ i = x .0 in
-      put-rises m i h b (merge r c) l (x .1) (merge-rises m r c (rises-down m (suc i) r (omega arith) (x .2)) y)
+      put-rises m i h b (mergeParts r c) l (x .1) (merge-rises m r c (rises-down m (suc i) r (omega arith) (x .2)) y)
 
   pub removePart-rises : (m n : ℕ) (b : Body H) → Rises m b → Rises m (removePart n b)
   unfolding removePart
@@ -72,8 +72,8 @@ module _ {H : Type 0} where
       (λ t. rw t (x .0, g b (x .1), x .2))
       (λ t. rw t (x .0, x .1, alter-rises (suc i) n F G g r (x .2)))
 
-  pub find-rises : (m n : ℕ) (b : Body H) (p : H × Body H) → find n b ≡ some p → Rises m b → Rises 0 (p .1)
-  unfolding find
+  pub find-rises : (m n : ℕ) (b : Body H) (p : H × Body H) → findPart n b ≡ some p → Rises m b → Rises 0 (p .1)
+  unfolding findPart
   find-rises m n close p e x = none≢some e
   find-rises m n (part i h b r) p e x = byTest (eqb n i)
       (λ t. let q : (h, b) ≡ p = some-is (rw t at e) in subst (λ (y : H × Body H). Rises 0 (y .1)) q (x .1))
@@ -126,8 +126,8 @@ module _ {A : Type 0} (view : View A) (delivers : (v : ℕ) (m : Message) (b : B
       (alter-rises 0 t (λ g. g) (removePart (o .mover)) (removePart-rises 0 (o .mover)) b x))
 
   -- a rewriting g made inside the named ambients of a body leaves the body's own numbers
-  module _ (g : Body (Head A) → Option (Moved A)) (f : (s : Body (Head A)) (l : Moved A) → g s ≡ some l → Rises 0 s → Rises 0 (l .body)) where
-    within-rises : (n : ℕ) (b : Body (Head A)) (m : Moved A) → inside view g b ≡ some m → Rises n b → Rises n (m .body)
+  module _ (g : Body (Head A) → Option (MoveMade A)) (f : (s : Body (Head A)) (l : MoveMade A) → g s ≡ some l → Rises 0 s → Rises 0 (l .body)) where
+    within-rises : (n : ℕ) (b : Body (Head A)) (m : MoveMade A) → inside view g b ≡ some m → Rises n b → Rises n (m .body)
     unfolding inside
     within-rises n close m e x = none≢some e
     within-rises n (part i h b r) m e x = elim (orElse-inv _ _ m e) [
@@ -141,20 +141,20 @@ module _ {A : Type 0} (view : View A) (delivers : (v : ℕ) (m : Message) (b : B
           subst (λ (d : Body (Head A)). Rises n d) (sym (y .2)) (x .0, x .1, within-rises (suc i) r (y .0) (y .1) (x .2))
     ]
 
-    anywhere-rises : (b : Body (Head A)) (m : Moved A) → anywhere view g b ≡ some m → Rises 0 b → Rises 0 (m .body)
+    anywhere-rises : (b : Body (Head A)) (m : MoveMade A) → anywhere view g b ≡ some m → Rises 0 b → Rises 0 (m .body)
     anywhere-rises b m e x = elim (orElse-inv _ _ m e) [ inl u ↦ f b m u x | inr u ↦ within-rises 0 b m u x ]
 
 delivered-rises : (v : ℕ) (m : Message) (b : Plain) → Rises 0 b → Rises 0 (substituteBody v m b)
 unfolding substituteBody
 delivered-rises v m b x = map-rises 0 (substituteHead v m) b x
 
-settled-rises : (o : Option (Moved (List Message))) (m : Moved (List Message)) → ((l : Moved (List Message)) → o ≡ some l → Rises 0 (l .body)) → settledBy o ≡ some m → Rises 0 (m .body)
+settled-rises : (o : Option (MoveMade (List Message))) (m : MoveMade (List Message)) → ((l : MoveMade (List Message)) → o ≡ some l → Rises 0 (l .body)) → settledBy o ≡ some m → Rises 0 (m .body)
 unfolding settledBy settle
 settled-rises none m f e = none≢some e
-settled-rises (some l) m f e = subst (λ (k : Moved (List Message)). Rises 0 (k .body)) (some-is e) (settle-rises 0 bare (l .body) (f l refl))
+settled-rises (some l) m f e = subst (λ (k : MoveMade (List Message)). Rises 0 (k .body)) (some-is e) (settle-rises 0 bare (l .body) (f l refl))
 
 -- THEOREM: a move keeps every body in rising order.
-pub move-rises : (a t : ℕ) (b : Plain) (m : Moved (List Message)) → move a t b ≡ some m → Rises 0 b → Rises 0 (m .body)
+pub move-rises : (a t : ℕ) (b : Plain) (m : MoveMade (List Message)) → move a t b ≡ some m → Rises 0 b → Rises 0 (m .body)
 unfolding move
 move-rises a t b m e x =
     settled-rises (anywhere plain (moveHere plain a t) b) m
@@ -203,7 +203,7 @@ apart-less : (g k m n : ℕ) (l : List ℕ) → k ≤ g → m ≤ n → Apart g 
 apart-less g k m n [] u v a = tt
 apart-less g k m n (x ∷ l) u v a = let w : n ≤ x = a .0 in (omega arith, apart-less g k (x + k) (x + g) l u (omega arith) (a .1))
 
-apart-rising : (g n : ℕ) (l : List ℕ) → 1 ≤ g → Apart g n l → Rising n l
+apart-rising : (g n : ℕ) (l : List ℕ) → 1 ≤ g → Apart g n l → RisingFrom n l
 apart-rising g n [] u a = tt
 apart-rising g n (x ∷ l) u a = (a .0, apart-rising g (suc x) l u (apart-less g g (suc x) (x + g) l (omega arith) (omega arith) (a .1)))
 
@@ -221,7 +221,7 @@ either-apart k h b n (d ∷ l) a =
     let e : s + 2 ^ suc k ≡ 2 ^ k + s + 2 ^ k = omega (arith, pow-suc 2 k) in
     (u, (omega arith, subst (λ (x : ℕ). Apart (2 ^ k) x (sums (withEither k h b l))) e (either-apart k h b (s + 2 ^ suc k) l (a .1))))
 
-divisions-apart : (n : ℕ) (b : Plain) → Rising n (tops b) → Apart (2 ^ n) 0 (shareSums b)
+divisions-apart : (n : ℕ) (b : Plain) → RisingFrom n (tops b) → Apart (2 ^ n) 0 (shareSums b)
 unfolding divisions tops mask
 divisions-apart n close x = (omega arith, tt)
 divisions-apart n (part k h b r) x =
@@ -229,7 +229,7 @@ divisions-apart n (part k h b r) x =
     apart-less (2 ^ k) (2 ^ n) 0 0 (sums (withEither k h b (divisions r))) (pow-mono (x .0)) (omega arith) y
 
 -- THEOREM: "shares in rising order of the sum of 2^number over their parts": so the divisions of a body that rises.
-pub divisions-rise : (b : Plain) → Rises 0 b → Rising 0 (shareSums b)
+pub divisions-rise : (b : Plain) → Rises 0 b → RisingFrom 0 (shareSums b)
 divisions-rise b x = apart-rising (2 ^ 0) 0 (shareSums b) (pow-pos 0) (divisions-apart 0 b (rises-tops 0 b x))
 
 -- What the walk takes of a tree, through the space that it walks in and in no other way: all of it rises, and the shares come
@@ -240,7 +240,7 @@ pub record Taken (limit : ℕ) (b : Plain) : Type 0 where
   pub nexts : (c : Plain) → List·Memᴰ c (nexts limit b) → Rises 0 c
   pub insides : (c : Plain) → List·Memᴰ c (insides b) → Rises 0 c
   pub wrap : (k n : ℕ) → Rises 0 (wrapped k n b)
-  pub order : Rising 0 (shareSums b)
+  pub order : RisingFrom 0 (shareSums b)
 
 alone-rises : (n : ℕ) (b c : Plain) → Alone n b c → Rises 0 b → Rises 0 c
 alone-rises n b c a x = let y : Rises 0 (part (a .number) (a .head) c close) = subst (λ (d : Plain). Rises 0 d) (a .only) x in y .1

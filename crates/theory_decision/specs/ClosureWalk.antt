@@ -6,7 +6,7 @@ use mathlib.Core.Option.{Option, none, some}
 use Rattle.read_messages.specs.Message.{name}
 use Rattle.read_messages.specs.declared.Named.the-variants.{Called}
 use Rattle.read_scripts.specs.Tree.{ambient, close, part}
-use Rattle.theory_machine.specs.Moves.{Moved, headName, isNamed, sameName}
+use Rattle.theory_machine.specs.Moves.{MoveMade, headName, isNamed, sameName}
 use Rattle.theory_closures.specs.Closure.{Action, ClosureHead, Closure, Bindings, viewUnder, closureMove, ClosureMachine}
 use Rattle.theory_decision.specs.Walk.{Space, inOrder}
 
@@ -41,7 +41,7 @@ module _ (σ : Bindings) where
   insides (part k h b r) = cond (isNamed (headName (viewUnder σ) h)) (beside b ∷ insides r) (insides r)
 
   -- what stands after a move, with its receipt as the newest binding
-  abbrev pub machineAfter : Option (Moved Action) → Option ClosureMachine
+  abbrev pub machineAfter : Option (MoveMade Action) → Option ClosureMachine
   machineAfter none = none
   machineAfter (some m) = some (record { tree = m .body; bindings = m .news ++ σ })
 

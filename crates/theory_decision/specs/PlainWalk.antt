@@ -7,7 +7,7 @@ use Rattle.read_messages.specs.Message.{Message}
 use Rattle.read_messages.specs.declared.Named.the-variants.{Called}
 use Rattle.read_scripts.specs.Tree.{close, part}
 use Rattle.read_scripts.specs.Tree.{PlainHead, Plain}
-use Rattle.theory_machine.specs.Moves.{Moved, headName, isNamed, sameName}
+use Rattle.theory_machine.specs.Moves.{MoveMade, headName, isNamed, sameName}
 use Rattle.theory_machine.specs.PlainMachine.{plain, move}
 use Rattle.theory_calculus.specs.Satisfaction.{wrapped}
 use Rattle.theory_decision.specs.Walk.{Space, inOrder}
@@ -38,7 +38,7 @@ unfoldable pub insides : Plain → List Plain
 insides close = []
 insides (part k h b r) = cond (isNamed (headName plain h)) (b ∷ insides r) (insides r)
 
-abbrev pub bodyAfter : Option (Moved (List Message)) → Option Plain
+abbrev pub bodyAfter : Option (MoveMade (List Message)) → Option Plain
 bodyAfter none = none
 bodyAfter (some m) = some (m .body)
 

@@ -6,7 +6,7 @@ use mathlib.Core.List.{List, [], _∷_, _++_}
 use mathlib.Core.Option.{Option, none, some}
 use lib.ListN.{length}
 use lib.Dec.{ltb}
-use Rattle.base_sets.specs.Sets.{span}
+use Rattle.base_sets.specs.Sets.{numbersFrom}
 use Rattle.read_rule_words.specs.Rule.{Names, termName, Rule, truth, negation, either, void, at, beside, some-name, sometime, somewhere, placed, ruleIndex}
 
 -- What the walk asks of a process.
@@ -72,7 +72,7 @@ module _ {S : Type 0} (space : Space S) (s : Setting) where
   look visit e (void i) b n = says (space .isVoid b) n
   look visit e (at i t r) b n = ifAny (space .only (termName e t) b) (λ c. visit e r c n) n
   look visit e (beside i r q) b n = firstYes (λ d n₁. onYes (visit e r (d .0) n₁) (λ n₂. visit e q (d .1) n₂)) (space .divisions b) n
-  look visit e (some-name i r) b n = firstYes (λ m n₁. visit ((i, m) ∷ e) r b n₁) (span 1 (lastName s e)) n
+  look visit e (some-name i r) b n = firstYes (λ m n₁. visit ((i, m) ∷ e) r b n₁) (numbersFrom 1 (lastName s e)) n
   look visit e (sometime i r) b n = onNo (visit e r b n) (λ n₁. firstYes (λ c n₂. visit e (sometime i r) c n₂) (space .nexts b) n₁)
   look visit e (somewhere i r) b n = onNo (visit e r b n) (λ n₁. firstYes (λ c n₂. visit e (somewhere i r) c n₂) (space .insides b) n₁)
   look visit e (placed i j t r) b n = visit e r (space .wrap (s .parts + j) (termName e t) b) n
@@ -108,9 +108,9 @@ movesFrom make [] ts = []
 movesFrom make (a ∷ l) ts = movesTo (make a) ts ++ movesFrom make l ts
 
 unfoldable pub inOrder : {S : Type 0} → (limit : ℕ) → (make : (actor target : ℕ) → Option S) → List S
-inOrder limit make = movesFrom make (span 0 limit) (span 0 limit)
+inOrder limit make = movesFrom make (numbersFrom 0 limit) (numbersFrom 0 limit)
 
 -- To unfold this is to unfold every definition of this module: for a proof by computation.
 unfoldable pub computing : Unit {0}
-unfolding span onYes onNo turned ifAny firstYes look counted walk keep movesTo movesFrom inOrder
+unfolding numbersFrom onYes onNo turned ifAny firstYes look counted walk keep movesTo movesFrom inOrder
 computing = tt

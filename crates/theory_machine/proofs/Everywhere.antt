@@ -8,9 +8,9 @@ use mathlib.Core.Option.{some}
 use lib.Dec.{eqb, ltb}
 use borrow.Author.Tests.{eqb-true}
 use Rattle.read_messages.specs.Message.{Message}
-use Rattle.read_scripts.specs.Tree.{Head, receipt, output, isAmbient, Body, close, part, put, merge, mapHeads, settleBy, bare, Plain, settle}
-use Rattle.theory_machine.specs.Bodies.{find, removePart, alter}
-use Rattle.theory_machine.specs.Moves.{View, Moved, spentHead, spend, moveHere}
+use Rattle.read_scripts.specs.Tree.{Head, receipt, output, isAmbient, Body, close, part, put, mergeParts, mapHeads, settleBy, bare, Plain, settle}
+use Rattle.theory_machine.specs.Bodies.{findPart, removePart, alter}
+use Rattle.theory_machine.specs.Moves.{View, MoveMade, spentHead, spend, moveHere}
 use Rattle.theory_machine.specs.PlainMachine.{plain, move}
 use Rattle.base_slices.proofs.Tests.{byTest}
 use Rattle.theory_machine.proofs.Options.{some-is, none≢some}
@@ -38,8 +38,8 @@ more-everywhere Q R f close x = tt
 more-everywhere Q R f (part i h b r) x = (f i h (x .0), more-everywhere Q R f b (x .1), more-everywhere Q R f r (x .2))
 
 module _ {H : Type 0} (Q : ℕ → H → Type 0) where
-  pub find-everywhere : (n : ℕ) (b : Body H) (p : H × Body H) → find n b ≡ some p → Everywhere Q b → Q n (p .0) × Everywhere Q (p .1)
-  unfolding find
+  pub find-everywhere : (n : ℕ) (b : Body H) (p : H × Body H) → findPart n b ≡ some p → Everywhere Q b → Q n (p .0) × Everywhere Q (p .1)
+  unfolding findPart
   find-everywhere n close p e x = none≢some e
   find-everywhere n (part i h b r) p e x = byTest (eqb n i)
       (λ t.
@@ -58,10 +58,10 @@ module _ {H : Type 0} (Q : ℕ → H → Type 0) where
   put-everywhere n g s (part i h b r) q y x = byTest (ltb n i) (λ t. rw t (q, y, x))
       (λ t. byTest (eqb n i) (λ u. rw (t, u) x) (λ u. rw (t, u) (x .0, x .1, put-everywhere n g s r q y (x .2))))
 
-  pub merge-everywhere : (b c : Body H) → Everywhere Q b → Everywhere Q c → Everywhere Q (merge b c)
-  unfolding merge
+  pub merge-everywhere : (b c : Body H) → Everywhere Q b → Everywhere Q c → Everywhere Q (mergeParts b c)
+  unfolding mergeParts
   merge-everywhere close c x y = y
-  merge-everywhere (part i h b r) c x y = put-everywhere i h b (merge r c) (x .0) (x .1) (merge-everywhere r c (x .2) y)
+  merge-everywhere (part i h b r) c x y = put-everywhere i h b (mergeParts r c) (x .0) (x .1) (merge-everywhere r c (x .2) y)
 
   pub alter-everywhere : (n : ℕ) (F : H → H) (G : Body H → Body H) → ((k : ℕ) (h : H) → Q k h → Q k (F h)) → ((s : Body H) → Everywhere Q s → Everywhere Q (G s)) →
       (b : Body H) → Everywhere Q b → Everywhere Q (alter n F G b)
@@ -137,7 +137,7 @@ module _ {A : Type 0} (view : View A) (Q : ℕ → Head A → Type 0) (K : Keeps
   makes-everywhere a t (outer w) x = let (p, q, y) = makes-everywhere a t w (x .2) in (p, q, (x .0, x .1, y))
 
 -- the plain machine
-pub move-everywhere : (Q : ℕ → Head (List Message) → Type 0) → Keeps plain Q → (a t : ℕ) (b : Plain) (m : Moved (List Message)) → move a t b ≡ some m → Everywhere Q b →
+pub move-everywhere : (Q : ℕ → Head (List Message) → Type 0) → Keeps plain Q → (a t : ℕ) (b : Plain) (m : MoveMade (List Message)) → move a t b ≡ some m → Everywhere Q b →
     Held Q a × Held Q t × Everywhere Q (m .body)
 unfolding settle
 move-everywhere Q K a t b m e x =

@@ -9,12 +9,12 @@ use mathlib.Core.Option.{Option, none, some}
 use native.Mathlib.Omega.{arith}
 use lib.Dec.{eqb}
 use borrow.Author.Tests.{eqb-true, not-true}
-use Rattle.read_messages.specs.Message.{Message, name, variable, enter, exit, opens, empty, path, nameOf, asks, firstItem}
+use Rattle.read_messages.specs.Message.{Message, name, variable, enter, exit, opens, emptyMessage, path, nameOf, asks, firstItem}
 use Rattle.read_messages.specs.declared.Named.{Named}
 use Rattle.read_messages.specs.declared.Named.the-variants.{Called, Nameless}
-use Rattle.read_scripts.specs.Tree.{Head, ambient, action, receipt, output, Body, close, part, put, merge, Plain, settle}
-use Rattle.theory_machine.specs.Bodies.{find, removePart, alter}
-use Rattle.theory_machine.specs.Moves.{View, isNamed, isThat, sameName, toEnter, toExit, toOpen, Moved, variableOf, messageOf, quiet, headName, firstOf, spend, enterMove, exitMove, openMove, receiveMove, moveHere, inside, anywhere}
+use Rattle.read_scripts.specs.Tree.{Head, ambient, action, receipt, output, Body, close, part, put, mergeParts, Plain, settle}
+use Rattle.theory_machine.specs.Bodies.{findPart, removePart, alter}
+use Rattle.theory_machine.specs.Moves.{View, isNamed, isThat, sameName, toEnter, toExit, toOpen, MoveMade, variableOf, messageOf, quiet, headName, firstOf, spend, enterMove, exitMove, openMove, receiveMove, moveHere, inside, anywhere}
 use Rattle.theory_machine.specs.PlainMachine.{plain, settledBy, move}
 use Rattle.read_messages.specs.declared.First.{First}
 use Rattle.read_messages.specs.declared.First.the-variants.{Nothing, Enter, Exit, Open, Other}
@@ -81,8 +81,8 @@ module _ {A : Type 0} (view : View A) where
   pub headName-inv : (h : Head A) (n : ℕ) → headName view h ≡ Called n → (m : Message) × (h ≡ ambient m) × (view .named m ≡ Called n)
   unfolding headName
   headName-inv (ambient m) n e = (m, refl, e)
-  headName-inv (action a) n e = (empty, cc, cc)
-  headName-inv (receipt v) n e = (empty, cc, cc)
+  headName-inv (action a) n e = (emptyMessage, cc, cc)
+  headName-inv (receipt v) n e = (emptyMessage, cc, cc)
   headName-inv (output m) n e = (m, cc, cc)
 
   -- OPEN: the actor and the target, both in b
@@ -92,11 +92,11 @@ module _ {A : Type 0} (view : View A) where
     pub goal : Head A
     pub after : Body (Head A)
     pub room : Body (Head A)
-    pub actor : find a b ≡ some (doer, after)
-    pub target : find t b ≡ some (goal, room)
+    pub actor : findPart a b ≡ some (doer, after)
+    pub target : findPart t b ≡ some (goal, room)
     pub asked : firstOf view doer ≡ Open (Called place)
     pub named : headName view goal ≡ Called place
-    pub result : c ≡ spend view a (merge room (removePart t b))
+    pub result : c ≡ spend view a (mergeParts room (removePart t b))
 
   -- a receipt is made: the actor and the target, both in b
   pub record Received (a t : ℕ) (b c : Body (Head A)) (news : List (ℕ × Message)) : Type 0 where
@@ -104,10 +104,10 @@ module _ {A : Type 0} (view : View A) where
     pub sent : Message
     pub after : Body (Head A)
     pub idle : Body (Head A)
-    pub actor : find a b ≡ some (receipt bound, after)
-    pub target : find t b ≡ some (output sent, idle)
+    pub actor : findPart a b ≡ some (receipt bound, after)
+    pub target : findPart t b ≡ some (output sent, idle)
     pub told : news ≡ (bound, sent) ∷ []
-    pub result : c ≡ merge (view .delivered bound sent after) (removePart t (removePart a b))
+    pub result : c ≡ mergeParts (view .delivered bound sent after) (removePart t (removePart a b))
 
   -- IN and EXIT, by what the actor asks for: the target in b, the ambient that moves in the body that `home` says of the target's,
   -- and in it the actor
@@ -121,9 +121,9 @@ module _ {A : Type 0} (view : View A) where
     pub after : Body (Head A)
     pub goal : Head A
     pub room : Body (Head A)
-    pub target : find t b ≡ some (goal, room)
-    pub around : find mover (home room) ≡ some (shell, inside)
-    pub actor : find a inside ≡ some (doer, after)
+    pub target : findPart t b ≡ some (goal, room)
+    pub around : findPart mover (home room) ≡ some (shell, inside)
+    pub actor : findPart a inside ≡ some (doer, after)
     pub another : Apart mover
     pub shell-named : headName view shell ≡ Called own
     pub asked : firstOf view doer ≡ verb (Called place)
@@ -146,10 +146,10 @@ module _ {A : Type 0} (view : View A) where
     by-exit : Exited a t b c → news ≡ [] → Here a t b c news
 
   -- what a quiet move says of its body and its news
-  is-quiet : {b : Body (Head A)} {m : Moved A} → some (quiet b) ≡ some m → (m .body ≡ b) × (m .news ≡ [])
-  is-quiet e = let f = some-is e in (ap (λ (l : Moved A). l .body) (sym f), ap (λ (l : Moved A). l .news) (sym f))
+  is-quiet : {b : Body (Head A)} {m : MoveMade A} → some (quiet b) ≡ some m → (m .body ≡ b) × (m .news ≡ [])
+  is-quiet e = let f = some-is e in (ap (λ (l : MoveMade A). l .body) (sym f), ap (λ (l : MoveMade A). l .news) (sym f))
 
-  pub open-inv : (a t : ℕ) (b : Body (Head A)) (m : Moved A) → openMove view a t b ≡ some m → Here a t b (m .body) (m .news)
+  pub open-inv : (a t : ℕ) (b : Body (Head A)) (m : MoveMade A) → openMove view a t b ≡ some m → Here a t b (m .body) (m .news)
   unfolding openMove
   open-inv a t b m e =
       let x = bind-inv _ _ m e in
@@ -170,7 +170,7 @@ module _ {A : Type 0} (view : View A) where
         result = q .0;
       }) (q .1)
 
-  pub receive-inv : (a t : ℕ) (b : Body (Head A)) (m : Moved A) → receiveMove view a t b ≡ some m → Here a t b (m .body) (m .news)
+  pub receive-inv : (a t : ℕ) (b : Body (Head A)) (m : MoveMade A) → receiveMove view a t b ≡ some m → Here a t b (m .body) (m .news)
   unfolding receiveMove
   receive-inv a t b m e =
       let x = bind-inv _ _ m e in
@@ -185,13 +185,13 @@ module _ {A : Type 0} (view : View A) where
         idle = x .0 .1;
         actor = found (y .1) (variableOf-inv (y .0 .0) (z .0) (z .1));
         target = found (x .1) (messageOf-inv (x .0 .0) (w .0) (w .1));
-        told = ap (λ (l : Moved A). l .news) (sym f);
-        result = ap (λ (l : Moved A). l .body) (sym f);
+        told = ap (λ (l : MoveMade A). l .news) (sym f);
+        result = ap (λ (l : MoveMade A). l .body) (sym f);
       })
 
   module _ (verb : Named → First) (to : First → Named) (to-inv : (x : First) (n : ℕ) → to x ≡ Called n → x ≡ verb (Called n)) where
     carried : {a t : ℕ} {b c : Body (Head A)} {home : Body (Head A) → Body (Head A)} {Apart : ℕ → Type 0} {made : ℕ → Head A → Body (Head A) → Body (Head A)} (mover : ℕ) (x y z : Head A × Body (Head A))
-        → find t b ≡ some x → find mover (home (x .1)) ≡ some y → find a (y .1) ≡ some z → Apart mover → (isNamed (headName view (y .0)) && sameName (to (firstOf view (z .0))) (headName view (x .0))) ≡ true
+        → findPart t b ≡ some x → findPart mover (home (x .1)) ≡ some y → findPart a (y .1) ≡ some z → Apart mover → (isNamed (headName view (y .0)) && sameName (to (firstOf view (z .0))) (headName view (x .0))) ≡ true
         → c ≡ made mover (y .0) (y .1) → Carried a t b c verb home Apart made
     carried mover x y z target around actor another e result =
         let d = and-eq-true-iff (isNamed (headName view (y .0))) _ .0 e in
@@ -217,7 +217,7 @@ module _ {A : Type 0} (view : View A) where
           result = result;
         }
 
-  pub enter-inv : (a t : ℕ) (b : Body (Head A)) (m : Moved A) → enterMove view a t b ≡ some m → Here a t b (m .body) (m .news)
+  pub enter-inv : (a t : ℕ) (b : Body (Head A)) (m : MoveMade A) → enterMove view a t b ≡ some m → Here a t b (m .body) (m .news)
   unfolding enterMove
   enter-inv a t b m e =
       let x = bind-inv _ _ m e in
@@ -229,7 +229,7 @@ module _ {A : Type 0} (view : View A) where
       let q = is-quiet (w .2) in
       by-enter (carried Enter toEnter toEnter-inv (p .0) (x .0) (y .0) (z .0) (x .1) (y .1) (z .1) (not-true (eqb (p .0) t) (c .0)) (c .1) (q .0)) (q .1)
 
-  pub exit-inv : (a t : ℕ) (b : Body (Head A)) (m : Moved A) → exitMove view a t b ≡ some m → Here a t b (m .body) (m .news)
+  pub exit-inv : (a t : ℕ) (b : Body (Head A)) (m : MoveMade A) → exitMove view a t b ≡ some m → Here a t b (m .body) (m .news)
   unfolding exitMove
   exit-inv a t b m e =
       let x = bind-inv _ _ m e in
@@ -240,7 +240,7 @@ module _ {A : Type 0} (view : View A) where
       let q = is-quiet (w .2) in
       by-exit (carried Exit toExit toExit-inv (p .0) (x .0) (y .0) (z .0) (x .1) (y .1) (z .1) tt (check-inv _ (w .0) (w .1)) (q .0)) (q .1)
 
-  pub here-inv : (a t : ℕ) (b : Body (Head A)) (m : Moved A) → moveHere view a t b ≡ some m → Here a t b (m .body) (m .news)
+  pub here-inv : (a t : ℕ) (b : Body (Head A)) (m : MoveMade A) → moveHere view a t b ≡ some m → Here a t b (m .body) (m .news)
   unfolding moveHere
   here-inv a t b m e = elim (orElse-inv _ _ m e) [
     | inl x ↦ open-inv a t b m x
@@ -251,14 +251,14 @@ module _ {A : Type 0} (view : View A) where
   ]
 
   -- a rewriting g made in this body, or inside its named ambients at any depth
-  pub data Makes (g : Body (Head A) → Option (Moved A)) : Body (Head A) → Body (Head A) → List (ℕ × Message) → Type 0 where
-    now : {b : Body (Head A)} (m : Moved A) → g b ≡ some m → Makes g b (m .body) (m .news)
+  pub data Makes (g : Body (Head A) → Option (MoveMade A)) : Body (Head A) → Body (Head A) → List (ℕ × Message) → Type 0 where
+    now : {b : Body (Head A)} (m : MoveMade A) → g b ≡ some m → Makes g b (m .body) (m .news)
     inner : {k n : ℕ} {h : Head A} {b c r : Body (Head A)} {news : List (ℕ × Message)} → headName view h ≡ Called n → Makes g b c news →
         Makes g (part k h b r) (part k h c r) news
     outer : {k : ℕ} {h : Head A} {b c r : Body (Head A)} {news : List (ℕ × Message)} → Makes g r c news → Makes g (part k h b r) (part k h b c) news
 
-  module _ (g : Body (Head A) → Option (Moved A)) where
-    pub inside-inv : (b : Body (Head A)) (m : Moved A) → inside view g b ≡ some m → Makes g b (m .body) (m .news)
+  module _ (g : Body (Head A) → Option (MoveMade A)) where
+    pub inside-inv : (b : Body (Head A)) (m : MoveMade A) → inside view g b ≡ some m → Makes g b (m .body) (m .news)
     unfolding inside
     inside-inv close m e = none≢some e
     inside-inv (part i h b r) m e = elim (orElse-inv _ _ m e) [
@@ -273,7 +273,7 @@ module _ {A : Type 0} (view : View A) where
           subst₂ (λ (c : Body (Head A)) (k : List (ℕ × Message)). Makes g (part i h b r) c k) (sym (y .2)) (sym (y .3)) (outer (inside-inv r (y .0) (y .1)))
     ]
 
-    pub anywhere-inv : (b : Body (Head A)) (m : Moved A) → anywhere view g b ≡ some m → Makes g b (m .body) (m .news)
+    pub anywhere-inv : (b : Body (Head A)) (m : MoveMade A) → anywhere view g b ≡ some m → Makes g b (m .body) (m .news)
     anywhere-inv b m e = elim (orElse-inv _ _ m e) [ inl u ↦ now m u | inr u ↦ inside-inv b m u ]
 
 -- In the plain machine: i is c of the name that x says, if it says one.
@@ -288,7 +288,7 @@ is-name c (variable v) = tt
 is-name c (enter m) = tt
 is-name c (exit m) = tt
 is-name c (opens m) = tt
-is-name c empty = tt
+is-name c emptyMessage = tt
 is-name c (path m k) = tt
 
 pub nameOf-inv : (m : Message) (n : ℕ) → nameOf m ≡ Called n → m ≡ name n
@@ -312,7 +312,7 @@ asks-so (variable v) = tt
 asks-so (enter m) = is-name enter m
 asks-so (exit m) = is-name exit m
 asks-so (opens m) = is-name opens m
-asks-so empty = tt
+asks-so emptyMessage = tt
 asks-so (path m k) = tt
 
 -- the item that is first, where there is one
@@ -343,15 +343,15 @@ plain-exit h n e = let (i, is, q, w) = begins h _ e (λ z. let w : _≡_ {A = �
 pub plain-open : (h : Head (List Message)) (n : ℕ) → firstOf plain h ≡ Open (Called n) → First-is opens n h
 plain-open h n e = let (i, is, q, w) = begins h _ e (λ z. let w : _≡_ {A = ℕ} 0 1 = cc in omega arith) in first-is opens n h i is q w
 
-settled-inv : (x : Option (Moved (List Message))) (m : Moved (List Message)) → settledBy x ≡ some m → (l : Moved (List Message)) × (x ≡ some l) × ((m .body ≡ settle (l .body)) × (m .news ≡ l .news))
+settled-inv : (x : Option (MoveMade (List Message))) (m : MoveMade (List Message)) → settledBy x ≡ some m → (l : MoveMade (List Message)) × (x ≡ some l) × ((m .body ≡ settle (l .body)) × (m .news ≡ l .news))
 unfolding settledBy
 settled-inv none m e = none≢some e
 settled-inv (some l) m e =
     let f = some-is e in
-    (l, refl, (ap (λ (k : Moved (List Message)). k .body) (sym f), ap (λ (k : Moved (List Message)). k .news) (sym f)))
+    (l, refl, (ap (λ (k : MoveMade (List Message)). k .body) (sym f), ap (λ (k : MoveMade (List Message)). k .news) (sym f)))
 
 -- a move of the plain machine that is made: what stands before the tree is settled
-pub move-inv : (a t : ℕ) (b : Plain) (m : Moved (List Message)) → move a t b ≡ some m → (c : Plain) × Makes plain (moveHere plain a t) b c (m .news) × (m .body ≡ settle c)
+pub move-inv : (a t : ℕ) (b : Plain) (m : MoveMade (List Message)) → move a t b ≡ some m → (c : Plain) × Makes plain (moveHere plain a t) b c (m .news) × (m .body ≡ settle c)
 unfolding move
 move-inv a t b m e =
     let x = settled-inv (anywhere plain (moveHere plain a t) b) m e in

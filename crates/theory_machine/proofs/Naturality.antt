@@ -10,9 +10,9 @@ use lib.Dec.{eqb, ltb}
 use Rattle.read_messages.specs.Message.{Message}
 use Rattle.read_messages.specs.declared.Named.{Named}
 use Rattle.read_messages.specs.declared.Named.the-variants.{Called, Nameless}
-use Rattle.read_scripts.specs.Tree.{Head, ambient, action, receipt, output, isAmbient, Body, close, part, put, merge, mapHeads, settleBy}
-use Rattle.theory_machine.specs.Bodies.{check, find, removePart, alter, holder}
-use Rattle.theory_machine.specs.Moves.{View, isNamed, sameName, toEnter, toExit, toOpen, Moved, variableOf, messageOf, quiet, onward, headName, firstOf, spentHead, spend, enterMove, exitMove, openMove, receiveMove, moveHere, inside, anywhere}
+use Rattle.read_scripts.specs.Tree.{Head, ambient, action, receipt, output, isAmbient, Body, close, part, put, mergeParts, mapHeads, settleBy}
+use Rattle.theory_machine.specs.Bodies.{check, findPart, removePart, alter, holder}
+use Rattle.theory_machine.specs.Moves.{View, isNamed, sameName, toEnter, toExit, toOpen, MoveMade, variableOf, messageOf, quiet, onward, headName, firstOf, spentHead, spend, enterMove, exitMove, openMove, receiveMove, moveHere, inside, anywhere}
 use Rattle.read_messages.specs.declared.First.{First}
 use Rattle.read_messages.specs.declared.First.the-variants.{Nothing, Enter, Exit, Open, Other}
 use Rattle.base_slices.proofs.Tests.{byTest}
@@ -25,8 +25,8 @@ module _ {G H : Type 0} (F : G → H) where
   abbrev pub mapPart : G × Body G → H × Body H
   mapPart p = (F (p .0), mapHeads F (p .1))
 
-  pub find-map : (n : ℕ) (b : Body G) → find n (mapHeads F b) ≡ Option·map mapPart (find n b)
-  unfolding find mapHeads
+  pub find-map : (n : ℕ) (b : Body G) → findPart n (mapHeads F b) ≡ Option·map mapPart (findPart n b)
+  unfolding findPart mapHeads
   find-map n close = refl
   find-map n (part i h b r) = byTest (eqb n i) (λ t. rw t) (λ t. rw t (find-map n r))
 
@@ -41,10 +41,10 @@ module _ {G H : Type 0} (F : G → H) where
   put-map n g s (part i h b r) = byTest (ltb n i) (λ t. rw t)
       (λ t. byTest (eqb n i) (λ u. rw (t, u)) (λ u. rw (t, u) (ap (part i (F h) (mapHeads F b)) (put-map n g s r))))
 
-  pub merge-map : (b c : Body G) → merge (mapHeads F b) (mapHeads F c) ≡ mapHeads F (merge b c)
-  unfolding merge mapHeads
+  pub merge-map : (b c : Body G) → mergeParts (mapHeads F b) (mapHeads F c) ≡ mapHeads F (mergeParts b c)
+  unfolding mergeParts mapHeads
   merge-map close c = refl
-  merge-map (part i h b r) c = ap (put i (F h) (mapHeads F b)) (merge-map r c) ∙ put-map i h b (merge r c)
+  merge-map (part i h b r) c = ap (put i (F h) (mapHeads F b)) (merge-map r c) ∙ put-map i h b (mergeParts r c)
 
   pub alter-map : (n : ℕ) (p : H → H) (q : G → G) (u : Body H → Body H) (v : Body G → Body G) →
       ((h : G) → p (F h) ≡ F (q h)) → ((s : Body G) → u (mapHeads F s) ≡ mapHeads F (v s)) →
@@ -124,10 +124,10 @@ toOpen-map ρ (Open x) = refl
 toOpen-map ρ Other = refl
 
 -- different names stay different
-abbrev pub Injective : (ℕ → ℕ) → Type 0
-Injective ρ = (m n : ℕ) → eqb (ρ m) (ρ n) ≡ eqb m n
+abbrev pub NamesApart : (ℕ → ℕ) → Type 0
+NamesApart ρ = (m n : ℕ) → eqb (ρ m) (ρ n) ≡ eqb m n
 
-sameName-map : (ρ : ℕ → ℕ) → Injective ρ → (x y : Named) → sameName (renamed ρ x) (renamed ρ y) ≡ sameName x y
+sameName-map : (ρ : ℕ → ℕ) → NamesApart ρ → (x y : Named) → sameName (renamed ρ x) (renamed ρ y) ≡ sameName x y
 unfolding sameName
 sameName-map ρ i (Called n) (Called m) = i m n
 sameName-map ρ i (Called n) Nameless = refl
@@ -164,7 +164,7 @@ module _ {A B : Type 0} (onAction : A → B) (onMessage : Message → Message) w
 
 -- The new view reads the changed messages and actions as the old one reads those before, but for the names, which ρ changes.
 pub record Translates {A B : Type 0} (old : View A) (new : View B) (onAction : A → B) (onMessage : Message → Message) (ρ : ℕ → ℕ) : Type 0 where
-  pub injective : Injective ρ
+  pub injective : NamesApart ρ
   pub named : (m : Message) → new .named (onMessage m) ≡ renamed ρ (old .named m)
   pub first : (a : A) → new .first (onAction a) ≡ asked ρ (old .first a)
   pub spent : (a : A) → new .spent (onAction a) ≡ onAction (old .spent a)
@@ -217,14 +217,14 @@ module _ {A B : Type 0} (old : View A) (new : View B) (onAction : A → B) (onMe
   asked-map k e f g = rw (firstOf-map f, headName-map g, e (firstOf old f)) (sameName-map ρ (T .injective) (k (firstOf old f)) (headName old g))
 
   -- K says what becomes of a move's result; a quiet one has the changed tree.
-  module _ (K : Moved A → Moved B) (quietly : (b : Body (Head A)) → quiet (mapHeads F b) ≡ K (quiet b)) where
+  module _ (K : MoveMade A → MoveMade B) (quietly : (b : Body (Head A)) → quiet (mapHeads F b) ≡ K (quiet b)) where
     pub open-map : (a t : ℕ) (b : Body (Head A)) → openMove new a t (mapHeads F b) ≡ Option·map K (openMove old a t b)
     unfolding openMove
     open-map a t b =
         bind-map (mapPart F) K _ _ _ _ (find-map F t b) (λ g _.
         bind-map (mapPart F) K _ _ _ _ (find-map F a b) (λ f _.
         bind-same K _ _ _ _ (ap check (asked-map toOpen (toOpen-map ρ) (f .0) (g .0))) (λ u _.
-        ap some (ap quiet (simp (removePart-map F, merge-map F, spend-map)) ∙ quietly (spend old a (merge (g .1) (removePart t b)))))))
+        ap some (ap quiet (simp (removePart-map F, merge-map F, spend-map)) ∙ quietly (spend old a (mergeParts (g .1) (removePart t b)))))))
 
     pub enter-map : (a t : ℕ) (b : Body (Head A)) → enterMove new a t (mapHeads F b) ≡ Option·map K (enterMove old a t b)
     unfolding enterMove
@@ -252,9 +252,9 @@ module _ {A B : Type 0} (old : View A) (new : View B) (onAction : A → B) (onMe
 
     -- a receipt, where what is delivered is the same
     pub receive-map : (a t : ℕ) (b : Body (Head A)) →
-        ((v : ℕ) (m : Message) (s c : Body (Head A)) → find a b ≡ some (receipt v, s) → find t b ≡ some (output m, c) →
-        record { body = merge (new .delivered v (onMessage m) (mapHeads F s)) (mapHeads F (removePart t (removePart a b))); news = (v, onMessage m) ∷ [] }
-        ≡ K (record { body = merge (old .delivered v m s) (removePart t (removePart a b)); news = (v, m) ∷ [] })) →
+        ((v : ℕ) (m : Message) (s c : Body (Head A)) → findPart a b ≡ some (receipt v, s) → findPart t b ≡ some (output m, c) →
+        record { body = mergeParts (new .delivered v (onMessage m) (mapHeads F s)) (mapHeads F (removePart t (removePart a b))); news = (v, onMessage m) ∷ [] }
+        ≡ K (record { body = mergeParts (old .delivered v m s) (removePart t (removePart a b)); news = (v, m) ∷ [] })) →
         receiveMove new a t (mapHeads F b) ≡ Option·map K (receiveMove old a t b)
     unfolding receiveMove
     receive-map a t b d =
@@ -271,19 +271,19 @@ module _ {A B : Type 0} (old : View A) (new : View B) (onAction : A → B) (onMe
 
 -- The search for the place of a rewriting, where the rewriting g of the old trees and k of the changed ones agree by K on
 -- trees that are Good: what stands around a place that was found changes by F alone.
-pub record Searches {A B : Type 0} (old : View A) (new : View B) (F : Head A → Head B) (K : Moved A → Moved B) (Good : Body (Head A) → Type 0)
-    (g : Body (Head A) → Option (Moved A)) (k : Body (Head B) → Option (Moved B)) : Type 0 where
+pub record Searches {A B : Type 0} (old : View A) (new : View B) (F : Head A → Head B) (K : MoveMade A → MoveMade B) (Good : Body (Head A) → Type 0)
+    (g : Body (Head A) → Option (MoveMade A)) (k : Body (Head B) → Option (MoveMade B)) : Type 0 where
   pub names : (h : Head A) → isNamed (headName new (F h)) ≡ isNamed (headName old h)
   pub agree : (b : Body (Head A)) → Good b → k (mapHeads F b) ≡ Option·map K (g b)
   pub good-inside : (i n : ℕ) (h : Head A) (b r : Body (Head A)) → headName old h ≡ Called n → Good (part i h b r) → Good b
   pub good-rest : (i : ℕ) (h : Head A) (b r : Body (Head A)) → Good (part i h b r) → Good r
-  pub around : (i n : ℕ) (h : Head A) (b r : Body (Head A)) (m : Moved A) → headName old h ≡ Called n → Good (part i h b r) → Makes old g b (m .body) (m .news) →
+  pub around : (i n : ℕ) (h : Head A) (b r : Body (Head A)) (m : MoveMade A) → headName old h ≡ Called n → Good (part i h b r) → Makes old g b (m .body) (m .news) →
       record { body = part i (F h) (K m .body) (mapHeads F r); news = K m .news } ≡ K (record { body = part i h (m .body) r; news = m .news })
-  pub beside : (i : ℕ) (h : Head A) (b r : Body (Head A)) (m : Moved A) → Good (part i h b r) → Makes old g r (m .body) (m .news) →
+  pub beside : (i : ℕ) (h : Head A) (b r : Body (Head A)) (m : MoveMade A) → Good (part i h b r) → Makes old g r (m .body) (m .news) →
       record { body = part i (F h) (mapHeads F b) (K m .body); news = K m .news } ≡ K (record { body = part i h b (m .body); news = m .news })
 
-module _ {A B : Type 0} (old : View A) (new : View B) (F : Head A → Head B) (K : Moved A → Moved B) (Good : Body (Head A) → Type 0)
-    (g : Body (Head A) → Option (Moved A)) (k : Body (Head B) → Option (Moved B)) (S : Searches old new F K Good g k) where
+module _ {A B : Type 0} (old : View A) (new : View B) (F : Head A → Head B) (K : MoveMade A → MoveMade B) (Good : Body (Head A) → Type 0)
+    (g : Body (Head A) → Option (MoveMade A)) (k : Body (Head B) → Option (MoveMade B)) (S : Searches old new F K Good g k) where
   pub inside-map : (b : Body (Head A)) → Good b → inside new k (mapHeads F b) ≡ Option·map K (inside old g b)
   unfolding inside mapHeads
   inside-map close G = refl
@@ -304,7 +304,7 @@ module _ {A B : Type 0} (old : View A) (new : View B) (F : Head A → Head B) (K
   anywhere-map b G = ap₂ orElse (S .agree b G) (inside-map b G) ∙ orElse-map K (g b) (inside old g b)
 
 -- what a move comes to, with other heads throughout
-abbrev pub mapMoved : {A B : Type 0} → (Head A → Head B) → (Message → Message) → Moved A → Moved B
+abbrev pub mapMoved : {A B : Type 0} → (Head A → Head B) → (Message → Message) → MoveMade A → MoveMade B
 mapMoved F onMessage m = record { body = mapHeads F (m .body); news = map (λ p. (p .0, onMessage (p .1))) (m .news) }
 
 -- Where delivered messages change alike too, a move of one tree is a move of the other.
@@ -326,5 +326,5 @@ moved-map {A} {B} old new onAction onMessage ρ T d a t b =
     F : Head A → Head B
     F = mapHead onAction onMessage
 
-    K : Moved A → Moved B
+    K : MoveMade A → MoveMade B
     K = mapMoved F onMessage

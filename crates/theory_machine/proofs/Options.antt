@@ -5,7 +5,7 @@ use mathlib.Core.Path.{_≡_, refl, sym, ap}
 use mathlib.Core.Logic.{_⊎_, inl, inr}
 use mathlib.Core.Option.{Option, none, some, Option·map, Option·none-ne-some, Option·some-injective, orElse}
 use Rattle.theory_machine.specs.Bodies.{_>>=_, check}
-use Rattle.theory_machine.specs.Moves.{Moved, onward}
+use Rattle.theory_machine.specs.Moves.{MoveMade, onward}
 use Rattle.read_scripts.specs.Tree.{Head, Body}
 
 pub some-is : {A : Type 0} {x y : A} → some x ≡ some y → x ≡ y
@@ -42,11 +42,11 @@ unfolding orElse
 orElse-inv none y c e = inr e
 orElse-inv (some a) y c e = inl e
 
-pub onward-inv : {A : Type 0} (w : Body (Head A) → Body (Head A)) (x : Option (Moved A)) (m : Moved A) → onward w x ≡ some m →
-    (l : Moved A) × (x ≡ some l) × (m .body ≡ w (l .body)) × (m .news ≡ l .news)
+pub onward-inv : {A : Type 0} (w : Body (Head A) → Body (Head A)) (x : Option (MoveMade A)) (m : MoveMade A) → onward w x ≡ some m →
+    (l : MoveMade A) × (x ≡ some l) × (m .body ≡ w (l .body)) × (m .news ≡ l .news)
 unfolding onward
 onward-inv w none m e = none≢some e
-onward-inv w (some l) m e = (l, refl, ap (λ (k : Moved _). k .body) (sym (some-is e)), ap (λ (k : Moved _). k .news) (sym (some-is e)))
+onward-inv w (some l) m e = (l, refl, ap (λ (k : MoveMade _). k .body) (sym (some-is e)), ap (λ (k : MoveMade _). k .news) (sym (some-is e)))
 
 -- a look-up in a mapped thing, where what follows it is mapped too
 pub bind-map : {A B C D : Type 0} (f : A → B) (g : C → D) (x : Option A) (y : Option B) (k : B → Option D) (l : A → Option C) →
@@ -71,8 +71,8 @@ pub cond-map : {A B : Type 0} (f : A → B) (t : Bool) (x : Option A) (y : Optio
 cond-map f true x y h = h refl
 cond-map f false x y h = refl
 
-pub onward-map : {A B : Type 0} (K : Moved A → Moved B) (v : Body (Head A) → Body (Head A)) (w : Body (Head B) → Body (Head B)) (x : Option (Moved A)) →
-    ((m : Moved A) → x ≡ some m → record { body = w (K m .body); news = K m .news } ≡ K (record { body = v (m .body); news = m .news })) →
+pub onward-map : {A B : Type 0} (K : MoveMade A → MoveMade B) (v : Body (Head A) → Body (Head A)) (w : Body (Head B) → Body (Head B)) (x : Option (MoveMade A)) →
+    ((m : MoveMade A) → x ≡ some m → record { body = w (K m .body); news = K m .news } ≡ K (record { body = v (m .body); news = m .news })) →
     onward w (Option·map K x) ≡ Option·map K (onward v x)
 unfolding onward
 onward-map K v w none h = refl

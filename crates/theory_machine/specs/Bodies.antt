@@ -19,9 +19,9 @@ check false = none
 
 module _ {H : Type 0} where
   -- the body's own part n, not one deeper: its head and the body inside it
-  unfoldable pub find : ℕ → Body H → Option (H × Body H)
-  find n close = none
-  find n (part i h b r) = cond (eqb n i) (some (h, b)) (find n r)
+  unfoldable pub findPart : ℕ → Body H → Option (H × Body H)
+  findPart n close = none
+  findPart n (part i h b r) = cond (eqb n i) (some (h, b)) (findPart n r)
 
   -- the body without its own part n
   unfoldable pub removePart : ℕ → Body H → Body H
@@ -40,5 +40,5 @@ module _ {H : Type 0} where
 
 -- To unfold this is to unfold every definition of this module: for a proof by computation.
 unfoldable pub computing : Unit {0}
-unfolding _>>=_ check find removePart alter holder elem
+unfolding _>>=_ check findPart removePart alter holder elem
 computing = tt

@@ -8,8 +8,8 @@ use lib.Dec.{eqb}
 use Rattle.read_messages.specs.Message.{Message}
 use Rattle.read_messages.specs.declared.Named.{Named}
 use Rattle.read_messages.specs.declared.Named.the-variants.{Called, Nameless}
-use Rattle.read_scripts.specs.Tree.{Head, ambient, action, receipt, output, Body, close, part, put, merge}
-use Rattle.theory_machine.specs.Bodies.{_>>=_, check, find, removePart, alter, holder}
+use Rattle.read_scripts.specs.Tree.{Head, ambient, action, receipt, output, Body, close, part, put, mergeParts}
+use Rattle.theory_machine.specs.Bodies.{_>>=_, check, findPart, removePart, alter, holder}
 use Rattle.read_messages.specs.declared.First.{First}
 use Rattle.read_messages.specs.declared.First.the-variants.{Nothing, Enter, Exit, Open, Other}
 
@@ -57,7 +57,7 @@ toOpen (Open n) = n
 toOpen Other = Nameless
 
 -- what a move comes to: the new body, and the variable and message of the receipt that it made, if it made one
-pub record Moved (A : Type 0) : Type 0 where
+pub record MoveMade (A : Type 0) : Type 0 where
   pub body : Body (Head A)
   pub news : List (ℕ × Message)
 
@@ -75,11 +75,11 @@ module _ {A : Type 0} where
   messageOf (receipt v) = none
   messageOf (output m) = some m
 
-  abbrev pub quiet : Body (Head A) → Moved A
+  abbrev pub quiet : Body (Head A) → MoveMade A
   quiet b = record { body = b; news = [] }
 
   -- the move made inside a larger body
-  unfoldable pub onward : (Body (Head A) → Body (Head A)) → Option (Moved A) → Option (Moved A)
+  unfoldable pub onward : (Body (Head A) → Body (Head A)) → Option (MoveMade A) → Option (MoveMade A)
   onward w none = none
   onward w (some m) = some (record { body = w (m .body); news = m .news })
 
@@ -109,56 +109,56 @@ module _ {A : Type 0} (view : View A) where
 
   -- "IN: the AMB p directly around the actor is named; the target is another AMB named m in the same body as p; p goes
   -- into it."
-  unfoldable pub enterMove : (actor target : ℕ) → Body (Head A) → Option (Moved A)
+  unfoldable pub enterMove : (actor target : ℕ) → Body (Head A) → Option (MoveMade A)
   enterMove a t b = do
-    (g, _) ← find t b
+    (g, _) ← findPart t b
     p ← holder a b
-    (h, inside) ← find p b
-    (f, _) ← find a inside
+    (h, inside) ← findPart p b
+    (f, _) ← findPart a inside
     _ ← check (not (eqb p t) && (isNamed (headName h) && sameName (toEnter (firstOf f)) (headName g)))
     some (quiet (alter t (λ e. e) (put p h (spend a inside)) (removePart p b)))
 
   -- "EXIT: the target is the AMB named m directly around p, p named; p comes out beside it."
-  unfoldable pub exitMove : (actor target : ℕ) → Body (Head A) → Option (Moved A)
+  unfoldable pub exitMove : (actor target : ℕ) → Body (Head A) → Option (MoveMade A)
   exitMove a t b = do
-    (g, room) ← find t b
+    (g, room) ← findPart t b
     p ← holder a room
-    (h, inside) ← find p room
-    (f, _) ← find a inside
+    (h, inside) ← findPart p room
+    (f, _) ← findPart a inside
     _ ← check (isNamed (headName h) && sameName (toExit (firstOf f)) (headName g))
     some (quiet (put p h (spend a inside) (alter t (λ e. e) (removePart p) b)))
 
   -- "OPEN: the target is an AMB named m in the actor's own body; it goes, its body stays."
-  unfoldable pub openMove : (actor target : ℕ) → Body (Head A) → Option (Moved A)
+  unfoldable pub openMove : (actor target : ℕ) → Body (Head A) → Option (MoveMade A)
   openMove a t b = do
-    (g, inside) ← find t b
-    (f, _) ← find a b
+    (g, inside) ← findPart t b
+    (f, _) ← findPart a b
     _ ← check (sameName (toOpen (firstOf f)) (headName g))
-    some (quiet (spend a (merge inside (removePart t b))))
+    some (quiet (spend a (mergeParts inside (removePart t b))))
 
   -- "The actor is a REC, the target an OUT in the same body: both go, the receipt's body stands there"
-  unfoldable pub receiveMove : (actor target : ℕ) → Body (Head A) → Option (Moved A)
+  unfoldable pub receiveMove : (actor target : ℕ) → Body (Head A) → Option (MoveMade A)
   receiveMove a t b = do
-    (g, _) ← find t b
-    (h, inside) ← find a b
+    (g, _) ← findPart t b
+    (h, inside) ← findPart a b
     v ← variableOf h
     m ← messageOf g
-    some (record { body = merge (view .delivered v m inside) (removePart t (removePart a b)); news = (v, m) ∷ [] })
+    some (record { body = mergeParts (view .delivered v m inside) (removePart t (removePart a b)); news = (v, m) ∷ [] })
 
   -- the move (a, t), where its target stands in this very body
-  unfoldable pub moveHere : (actor target : ℕ) → Body (Head A) → Option (Moved A)
+  unfoldable pub moveHere : (actor target : ℕ) → Body (Head A) → Option (MoveMade A)
   moveHere a t b = orElse (openMove a t b) (orElse (receiveMove a t b) (orElse (enterMove a t b) (exitMove a t b)))
 
   -- "It needs every AMB around its actor to have a name, and its parts to stand under no ACT or REC": a rewriting g made
   -- inside a named ambient of the body, or deeper inside named ambients
-  unfoldable pub inside : (Body (Head A) → Option (Moved A)) → Body (Head A) → Option (Moved A)
+  unfoldable pub inside : (Body (Head A) → Option (MoveMade A)) → Body (Head A) → Option (MoveMade A)
   inside g close = none
   inside g (part i h b r) =
       orElse (onward (λ c. part i h c r) (cond (isNamed (headName h)) (orElse (g b) (inside g b)) none))
       (onward (λ q. part i h b q) (inside g r))
 
   -- here, or inside
-  abbrev pub anywhere : (Body (Head A) → Option (Moved A)) → Body (Head A) → Option (Moved A)
+  abbrev pub anywhere : (Body (Head A) → Option (MoveMade A)) → Body (Head A) → Option (MoveMade A)
   anywhere g b = orElse (g b) (inside g b)
 
 -- To unfold this is to unfold every definition of this module: for a proof by computation.

@@ -5,7 +5,7 @@ use mathlib.Core.List.{List, [], _∷_}
 use mathlib.Core.Option.{Option, none, some}
 use Rattle.read_messages.specs.Message.{Message, nameOf, firstItem, substitute, substituteItems}
 use Rattle.read_scripts.specs.Tree.{ambient, action, receipt, output, mapHeads, parts, PlainHead, Plain, settle}
-use Rattle.theory_machine.specs.Moves.{View, Moved, moveHere, anywhere}
+use Rattle.theory_machine.specs.Moves.{View, MoveMade, moveHere, anywhere}
 
 -- the items behind the first
 unfoldable pub rest : List Message → List Message
@@ -25,15 +25,15 @@ substituteBody v m b = mapHeads (substituteHead v m) b
 abbrev pub plain : View (List Message)
 plain = record { named = nameOf; first = firstItem; spent = rest; delivered = substituteBody }
 
-abbrev pub settled : Moved (List Message) → Moved (List Message)
+abbrev pub settled : MoveMade (List Message) → MoveMade (List Message)
 settled m = record { body = settle (m .body); news = m .news }
 
-unfoldable pub settledBy : Option (Moved (List Message)) → Option (Moved (List Message))
+unfoldable pub settledBy : Option (MoveMade (List Message)) → Option (MoveMade (List Message))
 settledBy none = none
 settledBy (some m) = some (settled m)
 
 -- the tree after the move (a, t), where the machine can make it
-unfoldable pub move : (actor target : ℕ) → Plain → Option (Moved (List Message))
+unfoldable pub move : (actor target : ℕ) → Plain → Option (MoveMade (List Message))
 move a t b = settledBy (anywhere plain (moveHere plain a t) b)
 
 -- the machine: the tree of parts, and the receipts made

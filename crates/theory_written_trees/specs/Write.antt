@@ -7,7 +7,7 @@ use mathlib.Core.List.{List, [], _∷_, _++_}
 use lib.ListN.{length}
 use lib.Dec.{eqb}
 use Rattle.read_messages.specs.Words.{word}
-use Rattle.read_messages.specs.Message.{Message, name, variable, enter, exit, opens, empty, path}
+use Rattle.read_messages.specs.Message.{Message, name, variable, enter, exit, opens, emptyMessage, path}
 use Rattle.read_scripts.specs.Tree.{Head, ambient, action, receipt, output, close, part, PlainHead, Plain}
 
 -- where the receipts around now stand: each variable with its receipt's new index
@@ -24,19 +24,19 @@ writeMessage ix (variable v) = word 9 (newIndex ix v) ∷ []
 writeMessage ix (enter m) = word 10 0 ∷ writeMessage ix m
 writeMessage ix (exit m) = word 11 0 ∷ writeMessage ix m
 writeMessage ix (opens m) = word 12 0 ∷ writeMessage ix m
-writeMessage ix empty = word 13 0 ∷ []
+writeMessage ix emptyMessage = word 13 0 ∷ []
 writeMessage ix (path m k) = word 14 0 ∷ (writeMessage ix m ++ writeMessage ix k)
 
 -- an action's items as one message: "several as PATH item rest; none as one EMPTY"
-unfoldable pub whole : List Message → Message
-whole [] = empty
-whole (m ∷ []) = m
-whole (m ∷ (k ∷ ks)) = path m (whole (k ∷ ks))
+unfoldable pub oneMessage : List Message → Message
+oneMessage [] = emptyMessage
+oneMessage (m ∷ []) = m
+oneMessage (m ∷ (k ∷ ks)) = path m (oneMessage (k ∷ ks))
 
 -- the words in front of a part's body: its own word, and its message if it has one
 unfoldable pub writeHead : Indices → Head (List Message) → List ℕ
 writeHead ix (ambient m) = word 1 0 ∷ writeMessage ix m
-writeHead ix (action is) = word 2 0 ∷ writeMessage ix (whole is)
+writeHead ix (action is) = word 2 0 ∷ writeMessage ix (oneMessage is)
 writeHead ix (receipt v) = word 3 0 ∷ []
 writeHead ix (output m) = word 4 0 ∷ writeMessage ix m
 
@@ -68,5 +68,5 @@ writePart ix i h b = writeHead ix h ++ writeInside h (write (within h i ix) (i +
 
 -- To unfold this is to unfold every definition of this module: for a proof by computation.
 unfoldable pub computing : Unit {0}
-unfolding newIndex writeMessage whole writeHead within writeInside write writePart
+unfolding newIndex writeMessage oneMessage writeHead within writeInside write writePart
 computing = tt

@@ -6,12 +6,12 @@ use mathlib.Core.List.{List, [], _∷_, map}
 use mathlib.Core.Path.{_≡_, refl, sym, ap, _∙_, subst}
 use native.Mathlib.Omega.{arith}
 use lib.ListN.{length, length-map}
-use Rattle.base_sets.specs.Sets.{odd, members, but}
+use Rattle.base_sets.specs.Sets.{isOdd, members, but}
 use Rattle.base_sets.specs.Shares.{putIf, picked, left, spread, shares}
 use Rattle.base_sets.proofs.Shares.{share-more, share-last, share-rises}
 use Rattle.base_sets.proofs.Divisions.{picked-map, left-map, from, from-zero, from-one, from-end, but-picked}
 use Rattle.base_sets.proofs.Members.{members-rising}
-use Rattle.read_scripts.specs.Tree.{close, part, tops, total}
+use Rattle.read_scripts.specs.Tree.{close, part, tops, totalOver}
 use Rattle.read_scripts.specs.Represents.{Held}
 use Rattle.theory_closures.specs.Closure.{ClosureHead, Closure}
 use Rattle.theory_decision.specs.ClosureWalk.{withEither, divisions}
@@ -59,12 +59,12 @@ divisions-cells (part i h b r) = ap (withEither i h b) (divisions-cells r) ∙ e
 -- a share and the rest are pieces
 module _ (k : ℕ → List ℕ) (w : ℕ → ClosureHead) where
   abbrev Halved : (b taken rest : Closure) → Type 0
-  Halved b taken rest = Held k w taken × Held k w rest × ((f : ℕ → ClosureHead → ℕ) → total f taken + total f rest ≡ total f b)
+  Halved b taken rest = Held k w taken × Held k w rest × ((f : ℕ → ClosureHead → ℕ) → totalOver f taken + totalOver f rest ≡ totalOver f b)
 
   halved : (b : Closure) (n : ℕ) → Held k w b → Halved b (bodyOf (picked (cells b) n)) (bodyOf (left (cells b) n))
-  unfolding cells picked left bodyOf total
+  unfolding cells picked left bodyOf totalOver
   halved close n h = (tt, tt, λ f. refl)
-  halved (part i g b r) n h = go (odd n) (halved r (n / 2) (h .3))
+  halved (part i g b r) n h = go (isOdd n) (halved r (n / 2) (h .3))
     where
       P : List Cell
       P = picked (cells r) (n / 2)

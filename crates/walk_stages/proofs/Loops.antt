@@ -6,7 +6,7 @@ use mathlib.Core.List.{List, [], _∷_}
 use mathlib.Core.Logic.{⊎-elim}
 use mathlib.Core.Path.{_≡_, refl, sym, ap, _∙_}
 use native.Mathlib.Omega.{arith}
-use Rattle.base_sets.specs.Sets.{span}
+use Rattle.base_sets.specs.Sets.{numbersFrom}
 use denote.Enum.Declared.{tagOf}
 use types.Run.{OneOf}
 use Rattle.theory_decision.specs.Walk.{Count, says, onYes, onNo, firstYes}
@@ -81,10 +81,10 @@ module _ {A : Type 0} (f : A → Count → spec.Walked) where
   first-last a n = no-last (f a n)
 
 -- a loop from one number on to a limit
-pub span-first : (a limit : ℕ) → a < limit → span a (limit - a) ≡ a ∷ span (suc a) (limit - suc a)
-unfolding span
-span-first a limit h = let e : limit - a ≡ suc (limit - suc a) = omega arith in ap (span a) e
+pub span-first : (a limit : ℕ) → a < limit → numbersFrom a (limit - a) ≡ a ∷ numbersFrom (suc a) (limit - suc a)
+unfolding numbersFrom
+span-first a limit h = let e : limit - a ≡ suc (limit - suc a) = omega arith in ap (numbersFrom a) e
 
-pub span-none : (a limit : ℕ) → limit ≤ a → span a (limit - a) ≡ []
-unfolding span
-span-none a limit h = let e : limit - a ≡ 0 = omega arith in ap (span a) e
+pub span-none : (a limit : ℕ) → limit ≤ a → numbersFrom a (limit - a) ≡ []
+unfolding numbersFrom
+span-none a limit h = let e : limit - a ≡ 0 = omega arith in ap (numbersFrom a) e

@@ -32,7 +32,7 @@ use Rattle.engine_states.specs.declared.State.{State}
 use Rattle.theory_decision.specs.Walk.{says, ifAny, look, counted, walk}
 use Rattle.theory_decision.specs.Walk as spec
 use Rattle.theory_decision.specs.ClosureWalk.{closureSpace, only}
-use Rattle.walk_stages.specs.Visits.{countOf, walkedOf, settingOf, indices, nameSaid, Lendable, Scene, here, walk_visits, Visits, Looks, Splits}
+use Rattle.walk_stages.specs.Visits.{countOf, walkedOf, settingOf, indices, nameSaid, Lendable, Scene, here, visits, Visits, Looks, Splits}
 use Rattle.walk_stages.specs.declared.Counts.{Counts}
 use Rattle.walk_stages.specs.declared.Limits.{Limits}
 use Rattle.walk_stages.specs.declared.Walked.{Walked}

@@ -8,9 +8,9 @@ use native.Mathlib.Omega.{arith}
 use lib.Dec.{ltb}
 use lib.ListN.{set, length}
 use borrow.Author.Tests.{ltb-true, ltb-false}
-use Rattle.base_sets.specs.Sets.{keep, members, elem, both, headOr}
+use Rattle.base_sets.specs.Sets.{keep, members, elem, inBoth, headOr}
 use Rattle.base_sets.proofs.Members.{members-step, members-empty, first-below}
-use Rattle.read_scripts.specs.Tree.{close, part, tops, total, timesIn}
+use Rattle.read_scripts.specs.Tree.{close, part, tops, totalOver, timesIn}
 use Rattle.read_scripts.specs.Represents.{Held, bodyIn}
 use Rattle.theory_machine.specs.Moves.{headName, isNamed}
 use Rattle.base_slices.proofs.Tests.{byTest}
@@ -33,7 +33,7 @@ module _ (k : ℕ → List ℕ) (w : ℕ → ClosureHead) where
   Rooms b (i ∷ l) (c ∷ cs) = Room k w b i c × Rooms b l cs
 
   piece-later : (i : ℕ) (h : ClosureHead) (b r c : Closure) → Piece k w r c → Piece k w (part i h b r) c
-  unfolding total
+  unfolding totalOver
   piece-later i h b r c P = record { held = P .held; less = λ f. omega (arith, P .less f) }
 
   rooms-later : (i : ℕ) (h : ClosureHead) (b r : Closure) (l : List ℕ) (cs : List Closure) → Rooms r l cs → Rooms (part i h b r) l cs
@@ -43,22 +43,22 @@ module _ (k : ℕ → List ℕ) (w : ℕ → ClosureHead) where
   rooms-later i h b r (j ∷ l) (c ∷ cs) R = (record { own = R .0 .own; piece = piece-later i h b r c (R .0 .piece) }, rooms-later i h b r l cs (R .1))
 
   room-first : (i : ℕ) (h : ClosureHead) (b r : Closure) → Held k w (part i h b r) → Room k w (part i h b r) i b
-  unfolding total
+  unfolding totalOver
   room-first i h b r p = record { own = p .0; piece = record { held = p .2; less = λ f. omega arith } }
 
   module _ (σ : Bindings) (named : List ℕ) where
     insides-rooms : (b : Closure) → Held k w b → ((i : ℕ) → 1 ≤ timesIn i b → elem i named ≡ isNamed (headName (viewUnder σ) (w i)))
-        → (cs : List Closure) × (insides σ b ≡ map (beside σ) cs) × Rooms b (both (tops b) named) cs
-    unfolding insides tops keep total
+        → (cs : List Closure) × (insides σ b ≡ map (beside σ) cs) × Rooms b (inBoth (tops b) named) cs
+    unfolding insides tops keep totalOver
     insides-rooms close p n = ([], refl, tt)
     insides-rooms (part i h b r) p n =
         let (cs, e, R) = insides-rooms r (p .3) (λ j m. n j (omega arith)) in
         let same : elem i named ≡ isNamed (headName (viewUnder σ) h) = n i (omega (arith, own-times i)) ∙ ap (λ (g : ClosureHead). isNamed (headName (viewUnder σ) g)) (p .1) in
         byTest (elem i named)
         (λ t. let u : isNamed (headName (viewUnder σ) h) ≡ true = sym same ∙ t in
-        rw (t, u) (b ∷ cs, ap (λ (l : List ClosureMachine). beside σ b ∷ l) e, (room-first i h b r p, rooms-later i h b r (both (tops r) named) cs R)))
+        rw (t, u) (b ∷ cs, ap (λ (l : List ClosureMachine). beside σ b ∷ l) e, (room-first i h b r p, rooms-later i h b r (inBoth (tops r) named) cs R)))
         (λ t. let u : isNamed (headName (viewUnder σ) h) ≡ false = sym same ∙ t in
-        rw (t, u) (cs, e, rooms-later i h b r (both (tops r) named) cs R))
+        rw (t, u) (cs, e, rooms-later i h b r (inBoth (tops r) named) cs R))
 
   -- the first of them, and those behind it
   rooms-cons : (b : Closure) (i : ℕ) (l : List ℕ) (cs : List Closure) → Rooms b (i ∷ l) cs → (c : Closure) × (ds : List Closure) × (cs ≡ c ∷ ds) × Room k w b i c × Rooms b l ds
@@ -81,7 +81,7 @@ module _ (k : ℕ → List ℕ) (w : ℕ → ClosureHead) where
 
 -- THEOREM: SOMEWHERE asks for the insides of the top parts that have a name.
 pub rooms-told : (script kinds starts : List ℕ) (weight spent : ℕ) (s : State) (b : Closure) (kids : List ℕ) (top : ℕ) → s .kids ≡ set kids 64 top → length kids ≡ 65
-    → Represents script kinds starts weight spent s b → Ready script kinds starts s → spent < 4294967295 → (m : ℕ) → members m ≡ both (members top) (members (s .looks .named))
+    → Represents script kinds starts weight spent s b → Ready script kinds starts s → spent < 4294967295 → (m : ℕ) → members m ≡ inBoth (members top) (members (s .looks .named))
     → (cs : List Closure) × (insides (boundIn script s) b ≡ map (beside (boundIn script s)) cs) × Rooms (bodyIn (s .kids)) (heads script kinds starts (s .offsets)) b (members m) cs
 rooms-told script kinds starts weight spent s b kids top sets long R ready few m e =
     let σ : Bindings = boundIn script s in
@@ -89,7 +89,7 @@ rooms-told script kinds starts weight spent s b kids top sets long R ready few m
     let w : ℕ → ClosureHead = heads script kinds starts (s .offsets) in
     let names : Names σ w (members (s .looks .named)) = seen-names σ w (s .looks) (seen-told script kinds starts weight spent s b ready R few) in
     let (cs, q, rooms) = insides-rooms k w σ (members (s .looks .named)) b (R .held) (λ i c. names i (low i c)) in
-    (cs, q, subst (λ (l : List ℕ). Rooms k w b l cs) (sym (e ∙ ap (λ (l : List ℕ). both l (members (s .looks .named))) (top-told script kinds starts weight spent s b kids top sets long R))) rooms)
+    (cs, q, subst (λ (l : List ℕ). Rooms k w b l cs) (sym (e ∙ ap (λ (l : List ℕ). inBoth l (members (s .looks .named))) (top-told script kinds starts weight spent s b kids top sets long R))) rooms)
   where
     low : (i : ℕ) → 1 ≤ timesIn i b → i < 64
     low i c = byTest (ltb i 64) (λ t. ltb-true i 64 t) (λ t. absurd (let z : ⊥ = omega (arith, R .inside i (ltb-false i 64 t)) in z))

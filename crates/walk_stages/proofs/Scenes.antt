@@ -12,9 +12,9 @@ use borrow.Author.Tests.{lt-ltb, eqb-true, eqb-false, ne-eqb, eq-eqb}
 use Rattle.base_sets.specs.Sets.{members}
 use Rattle.read_messages.specs.Words.{kind, member}
 use Rattle.read_messages.specs.Message.{name}
-use Rattle.read_scripts.specs.Tree.{ambient, close, part, total, tops, timesIn}
+use Rattle.read_scripts.specs.Tree.{ambient, close, part, totalOver, tops, timesIn}
 use Rattle.read_scripts.specs.Represents.{bodyIn}
-use Rattle.theory_machine.specs.Moves.{Moved}
+use Rattle.theory_machine.specs.Moves.{MoveMade}
 use Rattle.base_slices.proofs.Tests.{byTest}
 use Rattle.read_rule_words.specs.Rule.{Term, constant, chosen, Names, chosenName, termName, Rule, ruleIndex, Later}
 use Rattle.read_rules.specs.Ruled.{Ruled, Said}
@@ -151,7 +151,7 @@ module _ (program script sets numbers choices : List ℕ) (top somes left index 
 
   -- after a move
   module _ (sets′ numbers′ : List ℕ) (top′ : ℕ) (L : Lendable script sets′ numbers′ top′) (ek : kindsIn numbers′ ≡ kindsIn numbers) (es : startsIn numbers′ ≡ startsIn numbers)
-      (a t : ℕ) (m : Moved Action) (e : closureMove (boundIn script (stateIn sets numbers top)) a t (X .tree) ≡ some m)
+      (a t : ℕ) (m : MoveMade Action) (e : closureMove (boundIn script (stateIn sets numbers top)) a t (X .tree) ≡ some m)
       (R : Represents script (kindsIn numbers) (startsIn numbers) (X .weight) (X .spent + 1) (stateIn sets′ numbers′ top′) (m .body)) where
     pub stage-moved : Stage (X .words) (X .table) script (kindsIn numbers′) (startsIn numbers′) limits choices somes left (stateIn sets′ numbers′ top′) index (X .weight) (X .spent + 1) (X .from) (X .names) (X .rule) (m .body)
     stage-moved = record {
@@ -181,7 +181,7 @@ module _ (program script sets numbers choices : List ℕ) (top somes left index 
       → Represents script (kindsIn numbers′) (startsIn numbers′) (weight + 1) spent (stateIn sets′ numbers′ top′) (part (limits .parts + j) (ambient (name n)) b close))
       (q : Rule) (i : ℕ) (ruled : Ruled (X .words) (X .table) (indices (X .names)) q) (ei : ruleIndex q ≡ i) (later : Later (suc j) q) where
     below-placed : (x : ℕ) → limits .parts + suc j ≤ x → timesIn x (part (limits .parts + j) (ambient (name n)) (X .tree) close) ≡ 0
-    unfolding total
+    unfolding totalOver
     below-placed x l = rw (ne-eqb x (limits .parts + j) (λ e. omega arith)) (let z = X .stage .below x (omega arith) in omega arith)
 
     pub stage-placed : Stage (X .words) (X .table) script (kindsIn numbers′) (startsIn numbers′) limits choices somes left (stateIn sets′ numbers′ top′) i (X .weight + 1) (X .spent) (suc j) (X .names) q (part (limits .parts + j) (ambient (name n)) (X .tree) close)

@@ -12,7 +12,7 @@ use Rattle.read_messages.specs.declared.Named.the-variants.{Called}
 use Rattle.base_sets.specs.Sets.{members, headOr, isNone, isOne}
 use Rattle.base_sets.proofs.Members.{none-test, first-below}
 use Rattle.base_sets.proofs.Lists.{one-is}
-use Rattle.read_scripts.specs.Tree.{close, part, tops, total}
+use Rattle.read_scripts.specs.Tree.{close, part, tops, totalOver}
 use Rattle.read_scripts.specs.Represents.{Held, bodyIn}
 use Rattle.theory_machine.specs.Moves.{headName, sameName}
 use Rattle.theory_closures.specs.Closure.{ClosureHead, Closure, Bindings, viewUnder}
@@ -42,7 +42,7 @@ only-none σ n (part i h b (part i₁ h₁ b₁ r)) e = refl
 -- and one alone is the first
 only-one : (σ : Bindings) (k : ℕ → List ℕ) (w : ℕ → ClosureHead) (n i : ℕ) (b : Closure) → Held k w b → tops b ≡ i ∷ []
     → (c : Closure) × Room k w b i c × (only σ n b ≡ cond (sameName (Called n) (headName (viewUnder σ) (w i))) (some (beside σ c)) none)
-unfolding only tops total
+unfolding only tops totalOver
 only-one σ k w n i close h e = absurd (true≢false (ap isNone e))
 only-one σ k w n i (part j g c close) h e =
     let z : i ≡ j = cc in (

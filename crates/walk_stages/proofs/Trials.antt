@@ -7,7 +7,7 @@ use mathlib.Core.Option.{Option, none, some}
 use mathlib.Core.Path.{_≡_, refl, sym, ap, ap₂, _∙_, subst}
 use native.Mathlib.Omega.{arith}
 use lib.ListN.{getD, length}
-use Rattle.base_sets.specs.Sets.{members, elem, headOr, span}
+use Rattle.base_sets.specs.Sets.{members, elem, headOr, numbersFrom}
 use Rattle.base_sets.proofs.Members.{members-step, members-empty, first-is}
 use Rattle.theory_closures.specs.Closure.{Closure, Bindings, closureMove}
 use Rattle.engine_targets.specs.Targets.{isSome}
@@ -132,8 +132,8 @@ module _ {S : Type 0} (make : ℕ → ℕ → Option S) where
   -- each outer number's set says with which inner ones it makes something
   module _ (inner : List ℕ) (limit : ℕ) (few : limit ≤ 64) (told : (o : ℕ) → o < limit → (i : ℕ) → i < 64 → elem i (members (getD inner o 0)) ≡ isSome (make o i))
       (high : (o i : ℕ) → limit ≤ i → isSome (make o i) ≡ false) where
-    made-from : (o n : ℕ) → o + n ≤ limit → (movesFrom make (span o n) (span 0 limit) ≡ madeOf (pairsFrom inner o n)) × AllMade (pairsFrom inner o n)
-    unfolding span movesFrom pairsFrom madeOf AllMade
+    made-from : (o n : ℕ) → o + n ≤ limit → (movesFrom make (numbersFrom o n) (numbersFrom 0 limit) ≡ madeOf (pairsFrom inner o n)) × AllMade (pairsFrom inner o n)
+    unfolding numbersFrom movesFrom pairsFrom madeOf AllMade
     made-from o zero h = (refl, tt)
     made-from o (suc n) h =
         let (e, a) = made-from (suc o) n (omega arith) in

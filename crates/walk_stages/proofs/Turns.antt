@@ -9,7 +9,7 @@ use native.Mathlib.Omega.{arith}
 use lib.ListN.{getD, length}
 use lib.Pow.{pow-pos}
 use Rattle.read_messages.specs.Words.{kind}
-use Rattle.base_sets.specs.Sets.{members, elem, headOr, both, span}
+use Rattle.base_sets.specs.Sets.{members, elem, headOr, inBoth, numbersFrom}
 use Rattle.base_sets.specs.Shares.{picked}
 use Rattle.base_sets.proofs.Members.{members-step, first-is, first-below}
 use Rattle.base_sets.proofs.Divisions.{share-first}
@@ -33,7 +33,7 @@ use Rattle.theory_decision.specs.Walk as spec
 use Rattle.theory_decision.specs.ClosureWalk.{closureSpace, divisions, shares, insides, nexts}
 use Rattle.theory_decision.specs.ClosureWalk as over
 use Rattle.walk_stages.specs.Order.{pairsFrom, pairsLeft, Turns}
-use Rattle.walk_stages.specs.Visits.{countOf, walkedOf, settingOf, indices, Lendable, Scene, here, walk_visits, Visits, Looks, Splits}
+use Rattle.walk_stages.specs.Visits.{countOf, walkedOf, settingOf, indices, Lendable, Scene, here, visits, Visits, Looks, Splits}
 use Rattle.walk_stages.specs.declared.Counts.{Counts}
 use Rattle.walk_stages.specs.declared.Limits.{Limits}
 use Rattle.walk_stages.specs.declared.Walked.{Walked}
@@ -164,13 +164,13 @@ module _ (program script sets numbers choices : List ℕ) (top somes left index 
 
   pub Naming : (c now : Counts) (n : ℕ) → Type 0
   Naming c now n = (X : Here) (q : Rule) → X .rule ≡ some-name index q
-      → firstYes (naming X q) (span 1 (lastName (settingOf limits) (X .names))) (countOf c) ≡ firstYes (naming X q) (span n (limits .greatest + somes + 2 - n)) (countOf now)
+      → firstYes (naming X q) (numbersFrom 1 (lastName (settingOf limits) (X .names))) (countOf c) ≡ firstYes (naming X q) (numbersFrom n (limits .greatest + somes + 2 - n)) (countOf now)
 
   pub naming-holds : (c : Counts) → Naming c c 1
   unfolding Naming
   naming-holds c X q e =
       let z : lastName (settingOf limits) (X .names) ≡ limits .greatest + somes + 2 - 1 = let h = X .stage .named .number in omega (arith, h) in
-      ap (λ (y : ℕ). firstYes (naming X q) (span 1 y) (countOf c)) z
+      ap (λ (y : ℕ). firstYes (naming X q) (numbersFrom 1 y) (countOf c)) z
 
   module _ (c now : Counts) (n : ℕ) (N : Naming c now n) (low : n ≤ limits .greatest + somes + 1) (more : List ℕ) (en : getD more index 0 ≡ n)
       (others : (i : ℕ) → (i ≡ index → ⊥) → getD more i 0 ≡ getD choices i 0) (x : Walked) (visited : Visits program script sets numbers more top (somes + 1) left (index + 1) limits now x) where
@@ -179,22 +179,22 @@ module _ (program script sets numbers choices : List ℕ) (top somes left index 
         let R = subst (Ruled (X .words) (X .table) (indices (X .names))) e (X .stage .ruled) in
         visited (scene-chosen program script sets numbers choices top somes left index limits X more n en others (omega arith) q (index + 1) (R .2) (R .1) (subst (Later (X .from)) e (X .stage .later)))
 
-    step-named : span n (limits .greatest + somes + 2 - n) ≡ n ∷ span (n + 1) (limits .greatest + somes + 2 - (n + 1))
+    step-named : numbersFrom n (limits .greatest + somes + 2 - n) ≡ n ∷ numbersFrom (n + 1) (limits .greatest + somes + 2 - (n + 1))
     step-named =
         let z : suc n ≡ n + 1 = omega arith in
-        span-first n (limits .greatest + somes + 2) (omega arith) ∙ ap (λ (y : ℕ). n ∷ span y (limits .greatest + somes + 2 - y)) z
+        span-first n (limits .greatest + somes + 2) (omega arith) ∙ ap (λ (y : ℕ). n ∷ numbersFrom y (limits .greatest + somes + 2 - y)) z
 
     pub naming-again : (d : Counts) → x ≡ No d → Naming c d (n + 1)
     unfolding Naming
     naming-again d ex X q e =
         N X q e ∙ ap (λ (l : List ℕ). firstYes (naming X q) l (countOf now)) step-named
-        ∙ first-goes (naming X q) n (span (n + 1) (limits .greatest + somes + 2 - (n + 1))) (countOf now) x d (turn-named X q e) ex
+        ∙ first-goes (naming X q) n (numbersFrom (n + 1) (limits .greatest + somes + 2 - (n + 1))) (countOf now) x d (turn-named X q e) ex
 
     pub naming-stops : NotNo x → Looks program script sets numbers choices top somes left index limits c x 6
     unfolding look Naming
     naming-stops h X e =
         let (q, eq, ei, R, f) = told X 6 e in
-        first-stops (naming X q) n (span (n + 1) (limits .greatest + somes + 2 - (n + 1))) (countOf now) x (turn-named X q eq) h
+        first-stops (naming X q) n (numbersFrom (n + 1) (limits .greatest + somes + 2 - (n + 1))) (countOf now) x (turn-named X q eq) h
         ∙ sym (N X q eq ∙ ap (λ (l : List ℕ). firstYes (naming X q) l (countOf now)) step-named)
         ∙ as-told X (some-name index q) c eq
 
@@ -267,7 +267,7 @@ module _ (program script sets numbers choices : List ℕ) (top somes left index 
   Seeking c now rest = (X : Here) (q : Rule) → X .rule ≡ somewhere index q
       → (cs : List Closure) × Rooms k w (X .tree) (members rest) cs × (firstYes (seeking X q) (insides σ (X .tree)) (countOf c) ≡ firstYes (seeking X q) (map (over.beside σ) cs) (countOf now))
 
-  pub seeking-holds : (c : Counts) (rest : ℕ) → members rest ≡ both (members top) (members (getD sets 129 0)) → Seeking c c rest
+  pub seeking-holds : (c : Counts) (rest : ℕ) → members rest ≡ inBoth (members top) (members (getD sets 129 0)) → Seeking c c rest
   unfolding Seeking
   seeking-holds c rest e X q eq =
       let (cs, i, R) = rooms-told script (kindsIn numbers) (startsIn numbers) (X .weight) (X .spent) state (X .tree) (stretch 0 65 sets) top refl (length-stretch 0 65 sets) (X .stage .stands) (X .stage .ready) (few X) rest e in

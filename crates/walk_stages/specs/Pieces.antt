@@ -4,7 +4,7 @@ use mathlib.Core.List.{List}
 use mathlib.Core.Path.{_≡_}
 use lib.ListN.{set}
 use Rattle.base_sets.specs.Sets.{members, but}
-use Rattle.read_scripts.specs.Tree.{tops, total}
+use Rattle.read_scripts.specs.Tree.{tops, totalOver}
 use Rattle.read_scripts.specs.Represents.{Held}
 use Rattle.theory_closures.specs.Closure.{ClosureHead, Closure}
 use Rattle.engine_states.specs.declared.State.{State}
@@ -16,7 +16,7 @@ withTop kids top s = record { kids = set kids 64 top; offsets = s .offsets; look
 -- c is a piece of b: the sets and heads hold it, and of whatever is counted it has no more
 pub record Piece (bodies : ℕ → List ℕ) (heads : ℕ → ClosureHead) (b c : Closure) : Type 0 where
   pub held : Held bodies heads c
-  pub less : (f : ℕ → ClosureHead → ℕ) → total f c ≤ total f b
+  pub less : (f : ℕ → ClosureHead → ℕ) → totalOver f c ≤ totalOver f b
 
 -- c is the inside of the part i of b
 pub record Room (bodies : ℕ → List ℕ) (heads : ℕ → ClosureHead) (b : Closure) (i : ℕ) (c : Closure) : Type 0 where

@@ -1,12 +1,12 @@
 // What the words of a rule ask of the process that a state stands for (document 01, "The rule and its walk"), a state being
 // lent as two arrays and made only where a move or PLACED changes it. It rests on stages and on the promises of moves,
 // settling, lent_states, targets, closures and sets.
-use engine_states::State;
+use engine_moves::make_move;
+use engine_settling::place_part;
 use engine_state_arrays::bodies;
 use engine_state_arrays::borrowed;
 use engine_state_arrays::lend;
-use engine_moves::make_move;
-use engine_settling::place_part;
+use engine_states::State;
 use engine_targets::locate;
 use engine_targets::targets;
 ghost use mathlib.Core.List.{List, _∷_};

@@ -11,7 +11,7 @@ use Rattle.engine_states.specs.Represents.{Ready, Represents}
 use Rattle.engine_states.specs.declared.State.{State}
 use Rattle.engine_state_arrays.specs.Lent.{kindsIn, startsIn, stateIn}
 use Rattle.theory_decision.specs.Walk.{Count}
-use Rattle.walk_stages.specs.Visits.{countOf, machineOf, Scene, walk_visits, Visits, Walks}
+use Rattle.walk_stages.specs.Visits.{countOf, machineOf, Scene, visits, Visits, Walks}
 use Rattle.walk_stages.specs.declared.Counts.{Counts}
 use Rattle.walk_stages.specs.declared.Limits.{Limits}
 use Rattle.walk_stages.specs.declared.Walked.{Walked}

@@ -1,14 +1,14 @@
 // The walk of a rule over the process that a state stands for (document 01, "The rule and its walk"): a visit at each word
 // met. A state is lent as two arrays, and made only where a move or PLACED changes it. It rests on the promises of walk,
 // rule_answers, rule_reader, closures, sets and slices.
+use base_slices::wide;
 use engine_states::State;
+use read_rules::RuleTable;
 use walk_rule_answers::name_said;
 use walk_rule_answers::next_count;
 use walk_rule_answers::turned;
 use walk_rule_answers::void_rule;
 use walk_rule_answers::with_name;
-use read_rules::RuleTable;
-use base_slices::wide;
 use walk_stages::Counts;
 use walk_stages::Limits;
 use walk_stages::Walked;

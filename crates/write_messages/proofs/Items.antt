@@ -17,7 +17,7 @@ use Rattle.engine_bindings.specs.Passes.{firsts, allItems, ownItems}
 use Rattle.base_slices.proofs.Capping.{whole-count, below-count}
 use Rattle.engine_bindings.proofs.Passing.{one-message, given-items}
 use Rattle.engine_bindings.proofs.Counting.{drop-within}
-use Rattle.theory_written_trees.specs.Write.{Indices, writeMessage, whole}
+use Rattle.theory_written_trees.specs.Write.{Indices, writeMessage, oneMessage}
 use Rattle.write_messages.specs.Passes.{allWritten, link, strung}
 use Rattle.write_messages.proofs.Words.{some-words, one-written}
 
@@ -43,14 +43,14 @@ strung-length ix l [] = omega arith
 strung-length ix l (m ∷ is) =
     omega (arith, length-append (link l ++ writeMessage ix m) (strung ix (l - 1) is), length-append (link l) (writeMessage ix m), some-words ix m, strung-length ix (l - 1) is)
 
-whole-strung : (ix : Indices) (m : Message) (ms : List Message) → strung ix (suc (length ms)) (m ∷ ms) ≡ writeMessage ix (whole (m ∷ ms))
-unfolding strung whole writeMessage
+whole-strung : (ix : Indices) (m : Message) (ms : List Message) → strung ix (suc (length ms)) (m ∷ ms) ≡ writeMessage ix (oneMessage (m ∷ ms))
+unfolding strung oneMessage writeMessage
 whole-strung ix m [] = rw (link-last 1 (omega arith)) (append-nil (writeMessage ix m))
 whole-strung ix m (k ∷ ms) =
     let e : suc (suc (length ms)) - 1 ≡ suc (length ms) = omega arith in
     rw (← link-more (suc (suc (length ms))) (omega arith), e, whole-strung ix k ms)
 
-strung-whole : (ix : Indices) (l : ℕ) (is : List Message) → l ≡ length is → 0 < length is → strung ix l is ≡ writeMessage ix (whole is)
+strung-whole : (ix : Indices) (l : ℕ) (is : List Message) → l ≡ length is → 0 < length is → strung ix l is ≡ writeMessage ix (oneMessage is)
 strung-whole ix l [] e h = absurd (omega arith)
 strung-whole ix l (m ∷ is) e h = rw e (whole-strung ix m is)
 
@@ -83,17 +83,17 @@ strung-split ix l o c n x a b e p h q w =
     let z : n ≡ l - length (drop o a) = omega (arith, length-drop o a) in
     rw z (sym s)
 
-pub items-none : (ix : Indices) (o c : ℕ) (is : List Message) → c ≡ capped (length is) → c ≤ o → o < 4294967295 → word 13 0 ∷ [] ≡ writeMessage ix (whole (drop o is))
+pub items-none : (ix : Indices) (o c : ℕ) (is : List Message) → c ≡ capped (length is) → c ≤ o → o < 4294967295 → word 13 0 ∷ [] ≡ writeMessage ix (oneMessage (drop o is))
 items-none ix o c is e h p =
     let z : c ≡ length is = whole-count (length is) o c e h p in
     let d : drop o is ≡ [] = drop-of-length-le is {i = o} (omega arith) in
-    rw d (unfold whole writeMessage in refl)
+    rw d (unfold oneMessage writeMessage in refl)
 
-pub items-some : (ix : Indices) (o c : ℕ) (is : List Message) → c ≡ capped (length is) → o < c → {x : List Message} → x ≡ is → o + length (writeMessage ix (whole (drop o is))) < 4294967295
-    → strung ix (c - o) (drop o x) ≡ writeMessage ix (whole (drop o is))
+pub items-some : (ix : Indices) (o c : ℕ) (is : List Message) → c ≡ capped (length is) → o < c → {x : List Message} → x ≡ is → o + length (writeMessage ix (oneMessage (drop o is))) < 4294967295
+    → strung ix (c - o) (drop o x) ≡ writeMessage ix (oneMessage (drop o is))
 items-some ix o c is e h f w =
     let u : o < length is = below-count (length is) o c e h in
-    let t : strung ix (length (drop o is)) (drop o is) ≡ writeMessage ix (whole (drop o is)) = strung-whole ix (length (drop o is)) (drop o is) refl (omega (arith, length-drop o is)) in
+    let t : strung ix (length (drop o is)) (drop o is) ≡ writeMessage ix (oneMessage (drop o is)) = strung-whole ix (length (drop o is)) (drop o is) refl (omega (arith, length-drop o is)) in
     let k : c ≡ length is = exact ix (length (drop o is)) o c is e h (omega (arith, ap length t)) in
     let z : c - o ≡ length (drop o is) = omega (arith, length-drop o is) in
     rw (f, z) t

@@ -10,15 +10,15 @@ use lib.ListN.{length, drop, getD, length-append, length-drop}
 use lib.Seq.{drop-drop}
 use borrow.Author.Tests.{leb-true}
 use Rattle.read_messages.specs.Words.{word, kind, operand, nameFits}
-use Rattle.read_messages.specs.Message.{Message, name, variable, enter, exit, opens, empty, path}
+use Rattle.read_messages.specs.Message.{Message, name, variable, enter, exit, opens, emptyMessage, path}
 use Rattle.read_messages.specs.ReadMessage.{messageWord}
-use Rattle.read_messages.specs.Spelling.{top, push, spelled, messageAt}
+use Rattle.read_messages.specs.Spelling.{topMessage, push, spelled, messageAt}
 use Rattle.read_messages.specs.declared.MessageWord.{MessageWord}
 use Rattle.read_messages.specs.declared.MessageWord.the-variants.{Name, Variable, Enter, Exit, Open, Empty, Path, Unfit}
 use Rattle.theory_closures.specs.Resolve.{resolve}
 use Rattle.engine_bindings.specs.Bindings.{bindingsIn}
 use Rattle.engine_bindings.specs.Measures.{Kept, itemCount}
-use Rattle.engine_held_bindings.specs.Sizes.{size, itemsSize}
+use Rattle.engine_held_bindings.specs.Sizes.{messageSize, itemsSize}
 use Rattle.engine_message_words.specs.Words.{firstWord, shapeOf, arityOf, boundAt}
 use Rattle.engine_bindings.specs.Passes.{firsts}
 use Rattle.base_slices.proofs.Tests.{byTest}
@@ -26,38 +26,38 @@ use Rattle.theory_closures.proofs.Resolving.{resolve-name, resolve-enter, resol
 use Rattle.engine_bindings.proofs.Counting.{kept-drop}
 use Rattle.engine_message_words.proofs.FirstWords.{bound, bound-variable}
 use Rattle.engine_bindings.proofs.Passing.{firsts-first, Free, given-place, room}
-use Rattle.theory_written_trees.specs.Write.{Indices, writeMessage, whole}
+use Rattle.theory_written_trees.specs.Write.{Indices, writeMessage, oneMessage}
 use Rattle.write_messages.specs.Passes.{allWritten, plainWord}
 
 -- how many words a message is written with, and an action's items
 
-pub message-length : (ix : Indices) (m : Message) → length (writeMessage ix m) ≡ size m
-unfolding writeMessage size
+pub message-length : (ix : Indices) (m : Message) → length (writeMessage ix m) ≡ messageSize m
+unfolding writeMessage messageSize
 message-length ix (name n) = refl
 message-length ix (variable v) = refl
 message-length ix (enter m) = ap suc (message-length ix m)
 message-length ix (exit m) = ap suc (message-length ix m)
 message-length ix (opens m) = ap suc (message-length ix m)
-message-length ix empty = refl
+message-length ix emptyMessage = refl
 message-length ix (path m k) = omega (arith, length-append (writeMessage ix m) (writeMessage ix k), message-length ix m, message-length ix k)
 
-whole-size : (is : List Message) → size (whole is) ≡ itemsSize is
-unfolding whole size itemsSize
+whole-size : (is : List Message) → messageSize (oneMessage is) ≡ itemsSize is
+unfolding oneMessage messageSize itemsSize
 whole-size [] = refl
 whole-size (m ∷ []) = refl
 whole-size (m ∷ (k ∷ ks)) = omega (arith, whole-size (k ∷ ks))
 
-pub items-length : (ix : Indices) (is : List Message) → length (writeMessage ix (whole is)) ≡ itemsSize is
-items-length ix is = message-length ix (whole is) ∙ whole-size is
+pub items-length : (ix : Indices) (is : List Message) → length (writeMessage ix (oneMessage is)) ≡ itemsSize is
+items-length ix is = message-length ix (oneMessage is) ∙ whole-size is
 
-some-size : (m : Message) → 0 < size m
-unfolding size
+some-size : (m : Message) → 0 < messageSize m
+unfolding messageSize
 some-size (name n) = omega arith
 some-size (variable v) = omega arith
 some-size (enter m) = omega arith
 some-size (exit m) = omega arith
 some-size (opens m) = omega arith
-some-size empty = omega arith
+some-size emptyMessage = omega arith
 some-size (path m k) = omega arith
 
 pub some-words : (ix : Indices) (m : Message) → 0 < length (writeMessage ix m)
@@ -110,12 +110,12 @@ none-written ix σ p s e = rw e
 
 pub one-written : (ix : Indices) (σ : List (ℕ × Message)) {l ws : List ℕ} → l ≡ ws → allWritten ix σ (firsts 1 (spelled l)) ≡ writeMessage ix (resolve σ (messageAt ws))
 unfolding allWritten firsts messageAt
-one-written ix σ {l} {ws} e = rw e (append-nil (writeMessage ix (resolve σ (top (spelled ws)))))
+one-written ix σ {l} {ws} e = rw e (append-nil (writeMessage ix (resolve σ (topMessage (spelled ws)))))
 
 -- a word that is no variable with a binding stands for itself, and what stands in it comes behind
 written-word : (ix : Indices) (σ : List (ℕ × Message)) (m : MessageWord) (p : ℕ) (s : List Message) → Free σ m
     → allWritten ix σ (firsts (suc p) (push m s)) ≡ (plainWord ix m ∷ []) ++ allWritten ix σ (firsts (p + arityOf m) s)
-unfolding allWritten firsts push top plainWord shapeOf writeMessage
+unfolding allWritten firsts push topMessage plainWord shapeOf writeMessage
 written-word ix σ (Name n) p s f = rw (resolve-name, add-zero p)
 written-word ix σ (Variable v) p s f = rw (f v refl, add-zero p)
 written-word ix σ Enter p s f = let e : p + 1 ≡ suc p = omega arith in rw (resolve-enter, e)
@@ -124,7 +124,7 @@ written-word ix σ Open p s f = let e : p + 1 ≡ suc p = omega arith in rw (res
 written-word ix σ Empty p s f = rw (resolve-empty, add-zero p)
 written-word ix σ Path p s f =
     let e : p + 2 ≡ suc (suc p) = omega arith in
-    rw (resolve-path, e, drop-drop 1 1 s) (ap (λ (r : List ℕ). word 14 0 ∷ r) (append-assoc (writeMessage ix (resolve σ (top s))) (writeMessage ix (resolve σ (top (drop 1 s)))) (allWritten ix σ (firsts p (drop 2 s)))))
+    rw (resolve-path, e, drop-drop 1 1 s) (ap (λ (r : List ℕ). word 14 0 ∷ r) (append-assoc (writeMessage ix (resolve σ (topMessage s))) (writeMessage ix (resolve σ (topMessage (drop 1 s)))) (allWritten ix σ (firsts p (drop 2 s)))))
 written-word ix σ Unfit p s f = rw (resolve-empty, add-zero p)
 
 pub written-first : (ix : Indices) (σ : List (ℕ × Message)) (l : List ℕ) (p : ℕ) → 0 < p → Free σ (firstWord l) → {w a : ℕ} {r : List ℕ} → w ≡ plainWord ix (firstWord l) → a ≡ arityOf (firstWord l) → r ≡ drop 1 l
@@ -137,7 +137,7 @@ written-first ix σ l (suc p) h f e₁ e₂ e₃ =
 -- a variable with a binding stands for the message of that binding, after the older ones
 written-variable : (ix : Indices) (σ : List (ℕ × Message)) (m : MessageWord) (v p : ℕ) (s : List Message) → m ≡ Variable v
     → allWritten ix σ (firsts (suc p) (push m s)) ≡ writeMessage ix (resolve σ (variable v)) ++ allWritten ix σ (firsts p s)
-unfolding allWritten firsts push top
+unfolding allWritten firsts push topMessage
 written-variable ix σ m v p s e = rw e
 
 pub written-bound : (ix : Indices) (script vs ps l : List ℕ) (p k : ℕ) → 0 < p → length ps ≡ length vs → k ≡ boundAt (firstWord l) vs → k < length vs

@@ -1,6 +1,7 @@
 // The writers of a message and of an action's items: each writes at the front of the buffer that it is lent, says how many
 // words it wrote, and lends the tail behind them to the next writer.
 // It rests on the promises of bindings, message_words, messages and slices.
+use base_slices::tail;
 use engine_bindings::after_own;
 use engine_bindings::item_count;
 use engine_bindings::own;
@@ -10,7 +11,6 @@ use engine_message_words::find;
 use engine_message_words::first_word;
 use engine_message_words::given;
 use read_messages::MessageWord;
-use base_slices::tail;
 ghost use mathlib.Core.Path.{_≡_};
 ghost use mathlib.Core.List.{[], _∷_};
 ghost use Prim.Native.Nat.{ℕ, _+_, _-_, _≤_, _<_, _^_};
@@ -23,7 +23,7 @@ ghost use Rattle.theory_closures.specs.Resolve.{resolve};
 ghost use Rattle.engine_bindings.specs.Bindings.{bindingsIn};
 ghost use Rattle.engine_bindings.specs.Measures.{Kept, itemCount};
 ghost use Rattle.engine_bindings.specs.Passes.{firsts, allItems, ownItems};
-ghost use Rattle.theory_written_trees.specs.Write.{newIndex, writeMessage, whole};
+ghost use Rattle.theory_written_trees.specs.Write.{newIndex, writeMessage, oneMessage};
 ghost use Rattle.write_messages.specs.Buffer.{Wrote};
 ghost use Rattle.write_messages.specs.Indices.{indicesIn, Indexed};
 ghost use Rattle.write_messages.specs.Passes.{allWritten, plainWord, link, strung};
@@ -298,7 +298,7 @@ pub fn write_items(
     out: &mut [u32],
 ) -> usize
     requires { ⌜ Kept itemCount (now script) (now variables) (now places) (now counts) × Indexed (now receipts) (now indices) × (offset + length (now out) < 4294967295) ⌝ }
-    ensures { λ r. ⌜ Wrote (writeMessage (indicesIn (now (receipts .entry)) (now (indices .entry))) (whole (drop offset (items (resolve (bindingsIn (now (script .entry)) (now (variables .entry)) (now (places .entry))) (messageAt (drop at (now (script .entry))))))))) (now (out .entry)) (now (out .exit)) r ⌝ }
+    ensures { λ r. ⌜ Wrote (writeMessage (indicesIn (now (receipts .entry)) (now (indices .entry))) (oneMessage (drop offset (items (resolve (bindingsIn (now (script .entry)) (now (variables .entry)) (now (places .entry))) (messageAt (drop at (now (script .entry))))))))) (now (out .entry)) (now (out .exit)) r ⌝ }
 {
     let n = item_count(script, at, variables, places, counts);
     if n <= offset {

@@ -10,24 +10,24 @@ use Rattle.read_messages.specs.Words.{word}
 use Rattle.read_messages.specs.Message.{Message, items}
 use Rattle.read_messages.specs.Spelling.{messageAt}
 use Rattle.base_sets.specs.Sets.{headOr}
-use Rattle.read_scripts.specs.Tree.{ambient, action, receipt, output, close, part, kindNumber, tops, total, parts, mapHeads, Plain}
+use Rattle.read_scripts.specs.Tree.{ambient, action, receipt, output, close, part, kindNumber, tops, totalOver, parts, mapHeads, Plain}
 use Rattle.read_scripts.specs.Represents.{Held}
 use Rattle.theory_closures.specs.Resolve.{resolve}
 use Rattle.base_slices.specs.Sums.{capped}
-use Rattle.engine_held_bindings.specs.Sizes.{size, itemsSize, cappedItems}
+use Rattle.engine_held_bindings.specs.Sizes.{messageSize, itemsSize, cappedItems}
 use Rattle.engine_bindings.proofs.Bindings.{message-word}
 use Rattle.base_slices.proofs.Capping.{capped-sum}
 use Rattle.theory_closures.specs.Closure.{ClosureHead, Closure, Bindings, itemsLeft, unfoldHead, unfolded}
 use Rattle.engine_states.specs.Represents.{headOf}
 use Rattle.engine_states.proofs.Heads.{by-kind, head-action, head-receipt}
 use Rattle.engine_states.proofs.Holding.{no-cons}
-use Rattle.theory_written_trees.specs.Write.{Indices, writeMessage, whole, writeHead, within, writeInside, write, writePart}
+use Rattle.theory_written_trees.specs.Write.{Indices, writeMessage, oneMessage, writeHead, within, writeInside, write, writePart}
 use Rattle.theory_written_trees.proofs.Trees.{write-part}
 use Rattle.write_messages.specs.Indices.{indicesIn, Indexed}
 use Rattle.write_messages.proofs.Words.{message-length, items-length}
 use Rattle.write_trees.specs.Around.{indicesOf, Right}
 use Rattle.write_trees.specs.declared.Around.{Around}
-use Rattle.write_trees.specs.Bodies.{hasBody, writeLabel, CountsPart, Counts}
+use Rattle.write_trees.specs.Bodies.{hasBody, writeLabel, CountsPart, CountsBody}
 
 -- ---- a part, by its head
 
@@ -61,9 +61,9 @@ module _ (script : List ℕ) (kind start offset : ℕ) where
     abbrev messageFrom : ℕ → Message
     messageFrom n = resolve σ (messageAt (drop n script))
 
-    pub label-action : {n : ℕ} → n ≡ start → kind ≡ 2 → writeMessage ix (whole (drop offset (items (messageFrom n)))) ≡ label
+    pub label-action : {n : ℕ} → n ≡ start → kind ≡ 2 → writeMessage ix (oneMessage (drop offset (items (messageFrom n)))) ≡ label
     unfolding writeLabel unfoldHead itemsLeft
-    label-action f e = ap (λ (n : ℕ). writeMessage ix (whole (drop offset (items (messageFrom n))))) f ∙ sym (ap (λ (h : ClosureHead). writeLabel ix (unfoldHead σ h)) (head-action script kind start offset e))
+    label-action f e = ap (λ (n : ℕ). writeMessage ix (oneMessage (drop offset (items (messageFrom n))))) f ∙ sym (ap (λ (h : ClosureHead). writeLabel ix (unfoldHead σ h)) (head-action script kind start offset e))
 
     pub label-receipt : kind ≡ 3 → label ≡ []
     unfolding writeLabel unfoldHead
@@ -88,7 +88,7 @@ module _ (script : List ℕ) (kind start offset : ℕ) where
     unfolding capped cappedItems
     count-receipt e = counted-label 0 0 (ap length (label-receipt e)) (omega arith) (omega arith)
 
-    pub count-message : {n r t : ℕ} → n ≡ start → (kind ≡ 2 → ⊥) → (kind ≡ 3 → ⊥) → start < 65536 → r ≡ capped (size (messageFrom n)) → t ≡ capped (1 + r) → t ≡ capped (length front)
+    pub count-message : {n r t : ℕ} → n ≡ start → (kind ≡ 2 → ⊥) → (kind ≡ 3 → ⊥) → start < 65536 → r ≡ capped (messageSize (messageFrom n)) → t ≡ capped (1 + r) → t ≡ capped (length front)
     unfolding capped cappedItems
     count-message {n} {r} f b c s p = counted-label _ r (sym (ap length (label-message f b c s)) ∙ message-length ix (messageFrom n)) (omega arith)
 
@@ -145,23 +145,23 @@ no-tops left z ix i σ close e = sym (write-close ix i σ)
 no-tops left z ix i σ (part k h b r) e = absurd (no-cons k (tops r) (sym e ∙ z))
 
 pub no-parts : (fuel : ℕ) → fuel ≡ 0 → (ix : Indices) (i : ℕ) (σ : Bindings) (b : Closure) → parts b ≤ fuel → word 0 0 ∷ [] ≡ write ix i (unfolded σ b)
-unfolding total
+unfolding totalOver
 no-parts fuel z ix i σ close m = sym (write-close ix i σ)
 no-parts fuel z ix i σ (part k h b r) m = absurd (let y : ⊥ = omega arith in y)
 
 -- ---- counted
 
 module _ (σ : Bindings) (k : ℕ → List ℕ) (w : ℕ → ClosureHead) (left : List ℕ) (fuel : ℕ) where
-  pub counts-none : left ≡ [] → Counts σ k w left fuel 1
+  pub counts-none : left ≡ [] → CountsBody σ k w left fuel 1
   unfolding capped
   counts-none z ix i b e h m = ap (λ (ws : List ℕ). capped (length ws)) (no-tops left z ix i σ b e)
 
-  pub counts-end : fuel ≡ 0 → Counts σ k w left fuel 1
+  pub counts-end : fuel ≡ 0 → CountsBody σ k w left fuel 1
   unfolding capped
   counts-end z ix i b e h m = ap (λ (ws : List ℕ). capped (length ws)) (no-parts fuel z ix i σ b m)
 
   module _ (h : ClosureHead) {front : ℕ} (ef : (ix : Indices) → front ≡ capped (length (writeHead ix (unfoldHead σ h)))) where
-    pub counts-inside : hasBody h ≡ true → {inside t : ℕ} → Counts σ k w left fuel inside → t ≡ capped (front + inside) → CountsPart σ k w left h fuel t
+    pub counts-inside : hasBody h ≡ true → {inside t : ℕ} → CountsBody σ k w left fuel inside → t ≡ capped (front + inside) → CountsPart σ k w left h fuel t
     counts-inside body ei et ix i b e g m =
         capped-sum (length (writeHead ix (unfoldHead σ h))) _ (sym (ap length (part-body ix i σ h (unfolded σ b) body)) ∙ length-append (writeHead ix (unfoldHead σ h)) _) (ef ix) (ei _ _ b e g m) et
 
@@ -179,7 +179,7 @@ module _ (σ : Bindings) (k : ℕ → List ℕ) (w : ℕ → ClosureHead) (left 
   pub by-first : (Q : List ℕ → Type 0) (ix : Indices) (i : ℕ)
       → ((b r : Closure) → k j ≡ tops b → Held k w b → l ≡ tops r → Held k w r → parts b + parts r < fuel → Q (both ix i b r))
       → (b : Closure) → left ≡ tops b → Held k w b → parts b ≤ fuel → Q (write ix i (unfolded σ b))
-  unfolding tops total
+  unfolding tops totalOver
   by-first Q ix i f close e h m = absurd (no-cons j l (sym first ∙ e))
   by-first Q ix i f (part n g b r) e h m =
       let p : j ≡ n = ap (headOr 0) (sym first ∙ e) in
@@ -192,7 +192,7 @@ module _ (σ : Bindings) (k : ℕ → List ℕ) (w : ℕ → ClosureHead) (left 
       subst Q words (f b r c (h .2) (ap tail (sym first ∙ e)) (h .3) (omega arith))
 
   -- the words of the body, counted
-  pub counts-more : {one′ rest t : ℕ} → CountsPart σ k w (k j) (w j) (fuel - 1) one′ → Counts σ k w l (fuel - 1) rest → t ≡ capped (one′ + rest) → Counts σ k w left fuel t
+  pub counts-more : {one′ rest t : ℕ} → CountsPart σ k w (k j) (w j) (fuel - 1) one′ → CountsBody σ k w l (fuel - 1) rest → t ≡ capped (one′ + rest) → CountsBody σ k w left fuel t
   counts-more {one′} {rest} {t} eo er et ix i =
       by-first (λ ws. t ≡ capped (length ws)) ix i (λ b r tb hb tr hr m.
       let behind = write ix (i + length (firstWords ix i b)) (unfolded σ r) in

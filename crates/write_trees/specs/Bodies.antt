@@ -9,7 +9,7 @@ use Rattle.read_scripts.specs.Tree.{Head, ambient, action, receipt, output, top
 use Rattle.read_scripts.specs.Represents.{Held}
 use Rattle.base_slices.specs.Sums.{capped}
 use Rattle.theory_closures.specs.Closure.{ClosureHead, Closure, Bindings, unfolded, unfoldHead}
-use Rattle.theory_written_trees.specs.Write.{Indices, writeMessage, whole, write, writePart}
+use Rattle.theory_written_trees.specs.Write.{Indices, writeMessage, oneMessage, write, writePart}
 use Rattle.write_messages.specs.Buffer.{Wrote}
 
 -- "0 CLOSE. 1 AMB: message, body. 2 ACT (action): message, body. 3 REC (receipt): body .. 4 OUT (output): message.": who has a body
@@ -22,7 +22,7 @@ hasBody (output m) = false
 -- the words of a part's message: "actions as their items"
 unfoldable pub writeLabel : Indices → PlainHead → List ℕ
 writeLabel ix (ambient m) = writeMessage ix m
-writeLabel ix (action is) = writeMessage ix (whole is)
+writeLabel ix (action is) = writeMessage ix (oneMessage is)
 writeLabel ix (receipt v) = []
 writeLabel ix (output m) = writeMessage ix m
 
@@ -32,8 +32,8 @@ pub record Scripted (starts offsets : List ℕ) : Type 0 where
   pub spent : (i : ℕ) → getD offsets i 0 < 2147483648
 
 -- r is the number of words, wherever they stand, of every closure whose top parts are `left`, if it has at most `fuel` parts
-abbrev pub Counts : Bindings → (bodies : ℕ → List ℕ) (heads : ℕ → ClosureHead) (left : List ℕ) (fuel r : ℕ) → Type 0
-Counts σ bodies heads left fuel r =
+abbrev pub CountsBody : Bindings → (bodies : ℕ → List ℕ) (heads : ℕ → ClosureHead) (left : List ℕ) (fuel r : ℕ) → Type 0
+CountsBody σ bodies heads left fuel r =
     (ix : Indices) (i : ℕ) (b : Closure) → left ≡ tops b → Held bodies heads b → parts b ≤ fuel → r ≡ capped (length (write ix i (unfolded σ b)))
 
 -- r is the number of words of the part that has that head, whatever closure stands in it whose top parts are `inside`

@@ -1,14 +1,14 @@
 // The tree writer: the words of the standing tree counted, then written at the front of a lent buffer. Each writer writes at
 // the front of the buffer that it is lent, says how many words it wrote, and lends the tail behind them to the next writer.
 // It rests on the promises of message_writer, closures and what is below.
+use base_slices::sum;
+use base_slices::tail;
+use base_slices::wide;
 use engine_held_bindings::item_words;
 use engine_held_bindings::words_of;
 use write_messages::write_items;
 use write_messages::write_message;
 use write_messages::write_word;
-use base_slices::sum;
-use base_slices::tail;
-use base_slices::wide;
 ghost use mathlib.Core.Path.{_≡_};
 ghost use mathlib.Core.List.{List, []};
 ghost use Prim.Native.Nat.{ℕ, _+_, _≤_, _<_};
@@ -28,7 +28,7 @@ ghost use Rattle.write_messages.specs.Buffer.{Wrote};
 ghost use Rattle.write_messages.specs.Indices.{indicesIn, Indexed};
 ghost use Rattle.write_trees.specs.Room.{Fitted};
 ghost use Rattle.write_trees.specs.Around.{indicesOf, Right, NoneAround, BodyAround};
-ghost use Rattle.write_trees.specs.Bodies.{hasBody, writeLabel, Scripted, CountsPart, Counts, Writes, WritesPart};
+ghost use Rattle.write_trees.specs.Bodies.{hasBody, writeLabel, Scripted, CountsPart, CountsBody, Writes, WritesPart};
 
 // The receipts around what is written, innermost first, from first on: their variables and their new indices.
 struct Around {
@@ -155,7 +155,7 @@ fn count_body<'a>(
     fuel: usize,
 ) -> u32
     requires { ⌜ Cached (now script) (now variables) (now places) (now counts) (now sizes) (now bulks) × Scripted (now starts) (now offsets) ⌝ }
-    ensures { λ r. ⌜ Counts (bindingsIn (now (script .entry)) (now (variables .entry)) (now (places .entry))) (bodyIn (now (kids .entry))) (heads (now (script .entry)) (now (kinds .entry)) (now (starts .entry)) (now (offsets .entry))) (members left) fuel r ⌝ }
+    ensures { λ r. ⌜ CountsBody (bindingsIn (now (script .entry)) (now (variables .entry)) (now (places .entry))) (bodyIn (now (kids .entry))) (heads (now (script .entry)) (now (kinds .entry)) (now (starts .entry)) (now (offsets .entry))) (members left) fuel r ⌝ }
 {
     if left == 0 {
         return 1;
@@ -212,7 +212,7 @@ pub fn count_words<'a>(
     bulks: &'a [u32],
 ) -> u32
     requires { ⌜ Cached (now script) (now variables) (now places) (now counts) (now sizes) (now bulks) × Scripted (now starts) (now offsets) ⌝ }
-    ensures { λ r. ⌜ Counts (bindingsIn (now (script .entry)) (now (variables .entry)) (now (places .entry))) (bodyIn (now (kids .entry))) (heads (now (script .entry)) (now (kinds .entry)) (now (starts .entry)) (now (offsets .entry))) (bodyIn (now (kids .entry)) 64) 64 r ⌝ }
+    ensures { λ r. ⌜ CountsBody (bindingsIn (now (script .entry)) (now (variables .entry)) (now (places .entry))) (bodyIn (now (kids .entry))) (heads (now (script .entry)) (now (kinds .entry)) (now (starts .entry)) (now (offsets .entry))) (bodyIn (now (kids .entry)) 64) 64 r ⌝ }
 {
     let top = kids[64];
     count_body(

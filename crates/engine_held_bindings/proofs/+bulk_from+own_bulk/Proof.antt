@@ -13,7 +13,7 @@ use Rattle.base_slices.specs.Sums.{capped}
 use Rattle.engine_held_bindings.specs.Sizes.{bulk, Cached}
 use Rattle.engine_message_words.specs.Words.{firstWord, boundAt}
 use Rattle.engine_bindings.specs.Passes.{firsts, allItems, ownItems}
-use Rattle.engine_bindings.proofs.Bindings.{given}
+use Rattle.engine_bindings.proofs.Bindings.{bindingMessage}
 use Rattle.engine_bindings.proofs.Passing.{none-pending, one-message, unbound-free, single, given-items}
 use Rattle.base_slices.proofs.Capping.{below-count}
 use Rattle.engine_bindings.proofs.Counting.{kept-length, kept-given, drop-past, drop-within, rank, rank-less, rank-older}
@@ -126,7 +126,7 @@ module _ (t : ℕ) where
   binding c = rw (c .before .first-word .ensures) at (c .bound .ensures)
 
   -- the items of its message are the word's
-  own-given : (c : own-bulk-lts.Then1 (own-bulk-claims t) (own-bulk-at t) own-bulk.Post) → let a = bound-start (c .before) .args in items (given (a .script .now) (a .variables .now) (a .places .now) (c .before .bound .result)) ≡ ownItems (bindingsIn (a .script .now) (a .variables .now) (a .places .now)) (a .words .now)
+  own-given : (c : own-bulk-lts.Then1 (own-bulk-claims t) (own-bulk-at t) own-bulk.Post) → let a = bound-start (c .before) .args in items (bindingMessage (a .script .now) (a .variables .now) (a .places .now) (c .before .bound .result)) ≡ ownItems (bindingsIn (a .script .now) (a .variables .now) (a .places .now)) (a .words .now)
   own-given c =
       let s = bound-start (c .before) in
       given-items (s .args .script .now) (s .args .variables .now) (s .args .places .now) (s .pre .1 .0 .counted .aligned) _ (c .if1 .taken) (s .args .words .now) (binding (c .before))

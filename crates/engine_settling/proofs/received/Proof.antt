@@ -3,7 +3,7 @@ use Prim.Native.Nat.{_+_}
 use mathlib.Core.Path.{_≡_, ap, _∙_}
 use native.Mathlib.Omega.{arith}
 use lib.ListN.{getD}
-use Rattle.base_sets.specs.Sets.{members, remove, joined}
+use Rattle.base_sets.specs.Sets.{members, removed, joined}
 use Rattle.engine_held_bindings.specs.Held.{bindingsOf}
 use Rattle.engine_held_bindings.specs.declared.Bindings as arrays
 use borrow.Author.Needs.{needs}
@@ -22,7 +22,7 @@ returns-2 c =
       λ some. record {
         set-of = c .before .union .result;
         kids = n .0;
-        members-of = c .before .union .ensures ∙ ap (joined (members (getD (x .t4 .kids) (x .a) 0))) (c .before .before .without2 .ensures ∙ ap (remove (x .t)) (c .before .before .before .without .ensures));
+        members-of = c .before .union .ensures ∙ ap (joined (members (getD (x .t4 .kids) (x .a) 0))) (c .before .before .without2 .ensures ∙ ap (removed (x .t)) (c .before .before .before .without .ensures));
         offsets = n .1;
         first = ap (λ (z : arrays.Bindings). z .first + 1) (n .2) ∙ (let e : c .before .before .before .before .before .before .before .before .bind .result .first + 1 ≡ x .t4 .bindings .first = omega (arith, b .2, c .before .before .before .before .before .before .before .before .before .before .before .if1 .left) in e);
         news = ap (bindingsOf (x .script .now)) (n .2) ∙ b .1;

@@ -4,7 +4,7 @@ use mathlib.Core.List.{List}
 use mathlib.Core.Path.{_≡_, refl, sym, ap, _∙_, subst}
 use native.Mathlib.Omega.{arith}
 use lib.ListN.{getD}
-use Rattle.base_sets.specs.Sets.{members, elem, remove, inserted}
+use Rattle.base_sets.specs.Sets.{members, elem, removed, inserted}
 use Rattle.engine_states.specs.Seen.{nameIn, actOf, aimOf, busyOf}
 use mathlib.Core.Bool.{Bool, cond}
 use Rattle.base_arrays.specs.Stretches.{stretch}
@@ -35,7 +35,7 @@ returns-3 c =
     let L = c .before .before .before .before .before .before .before .before .before .before .before .before .before .before .before .before .pre .1 in
     let o = getD n (128 + a) 0 + 1 in
     let busy = c .with-if .result in
-    let eb : members busy ≡ cond (d .busy) (inserted a (remove a (members (getD s 130 0)))) (remove a (members (getD s 130 0))) = c .with-if .ensures ∙ ap (λ (l : List ℕ). cond (d .busy) (inserted a l) l) (c .before .without .ensures) in
+    let eb : members busy ≡ cond (d .busy) (inserted a (removed a (members (getD s 130 0)))) (removed a (members (getD s 130 0))) = c .with-if .ensures ∙ ap (λ (l : List ℕ). cond (d .busy) (inserted a l) l) (c .before .without .ensures) in
     let deed : (p : Bool) → (d .act ≡ actOf 2 item) × ((i : ℕ) → i < 64 → elem i (members (d .aim)) ≡ aimOf 2 item p (nameIn (getD s 129 0) (stretch 192 64 n) i)) × (d .busy ≡ busyOf 2 item) =
     λ p. subst (λ (l : List ℕ). (d .act ≡ actOf 2 item) × ((i : ℕ) → i < 64 → elem i (members (d .aim)) ≡ aimOf 2 item p (nameIn (getD s 129 0) l i)) × (d .busy ≡ busyOf 2 item)) (c .before .before .before .before .before .before .numbers-64 .ensures) (c .before .before .before .item-deed .ensures p) in
     let fits : d .act < 256 = search needs in (

@@ -2,13 +2,13 @@
 use mathlib.Core.Path.{sym}
 use native.Mathlib.Omega.{arith}
 use borrow.Author.Needs.{needs}
-use Rattle.read_scripts.specs.Script.{fits, askedPart}
+use Rattle.read_scripts.specs.Script.{partFits, askedPart}
 use Rattle.read_scripts.proofs.Words.{asked-deep, asked-within}
 use Rattle.read_scripts.proofs.ask_part.Statement.{statement}
 use Rattle.read_scripts.proofs.ask_part.Tie as tie
 
 returns : tie.Need-returns
-unfolding askedPart fits
+unfolding askedPart partFits
 returns c = rw (← c .before .before .before .part-word .ensures, c .before .p .given .1)
 
 returns-2 : tie.Need-returns-2

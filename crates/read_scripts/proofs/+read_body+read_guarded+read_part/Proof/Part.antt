@@ -8,7 +8,7 @@ use Rattle.base_slices.proofs.Tails.{length-part}
 use Rattle.base_slices.proofs.Tails as Tails
 use Rattle.read_messages.proofs.Laws.{readOf}
 use Rattle.read_scripts.proofs.Steps.{lent, entered-next, asked-nest, part-unfit, part-close, receipt-law, output-law, output-refused}
-use Rattle.read_scripts.specs.Script.{fits, partFrom}
+use Rattle.read_scripts.specs.Script.{partFits, partFrom}
 use Rattle.read_scripts.specs.declared.PartWord.the-variants.{Ambient, Action, Receipt}
 use Rattle.read_scripts.proofs.+read_body+read_guarded+read_part.Lts-read_part as lts
 use Rattle.read_scripts.proofs.read_part.Reads as reads
@@ -36,27 +36,27 @@ module _ (t : ℕ) where
       lent (start .args .around .indices) (start .args .around .first) (Tails.part (start .args .s .now) 1) (start .args .at + 1) (start .args .nest) (suc (start .args .table .count)) _ l (c .read-message .ensures (suc (start .args .table .count)))
 
   pub read-guarded-requires : lts.Need-read-guarded-requires (read-part-claims t) (read-part-at t) reads.Post
-  unfolding fits
+  unfolding partFits
   read-guarded-requires c κs =
       let start = c .before .before .before in
       let h = asked-nest _ _ Ambient (sym (c .enum-told2 .given .1) ∙ start .pre .1 .1 .1) refl in
       (omega (arith, start .pre .0), omega (arith, h, start .pre .1 .0, start .pre .1 .1 .0))
 
   pub read-guarded-requires-2 : lts.Need-read-guarded-requires-2 (read-part-claims t) (read-part-at t) reads.Post
-  unfolding fits
+  unfolding partFits
   read-guarded-requires-2 c κs =
       let start = c .before .before .before in
       let h = asked-nest _ _ Action (sym (c .enum-told3 .given .1) ∙ start .pre .1 .1 .1) refl in
       (omega (arith, start .pre .0), omega (arith, h, start .pre .1 .0, start .pre .1 .1 .0))
 
   pub with-receipt-requires : lts.Need-with-receipt-requires (read-part-claims t) (read-part-at t) reads.Post
-  unfolding fits
+  unfolding partFits
   with-receipt-requires c κs =
       let start = c .before .before .before in
       omega (arith, start .pre .0, start .pre .1 .0, start .pre .1 .1 .0, asked-nest _ _ Receipt (sym (c .enum-told4 .given .1) ∙ start .pre .1 .1 .1) refl)
 
   pub read-body-requires : lts.Need-read-body-requires (read-part-claims t) (read-part-at t) reads.Post
-  unfolding fits
+  unfolding partFits
   read-body-requires c κs =
       let at-with-receipt = c .before .before in let start = enter-part-start (c .before) in
       let e = entered-next _ _ _ (start .args .table) _ (c .before .enter-part .ensures) in
