@@ -19,10 +19,11 @@ use Rattle.theory_closures.specs.Closure.{Action, ClosureHead, Closure, Binding
 use Rattle.theory_closures.proofs.Tallies.{Tally, tallyOf}
 use Rattle.theory_closures.proofs.Invariant.{Good, good-less, good-inside, good-rest, move-good}
 use Rattle.theory_closures.proofs.Simulation.{unfold-move}
+use Rattle.theory_decision.specs.Divisions.{isVoid, withEither, divisions}
 use Rattle.theory_decision.specs.Walk.{Setting, walkFrom}
 use Rattle.theory_decision.specs.PlainWalk.{bodyAfter, plainSpace}
 use Rattle.theory_decision.specs.PlainWalk as plain-walk
-use Rattle.theory_decision.specs.ClosureWalk.{isVoid, withEither, divisions, beside, only, insides, machineAfter, nexts, shares, closureSpace}
+use Rattle.theory_decision.specs.ClosureWalk.{beside, only, insides, machineAfter, nexts, shares, closureSpace}
 use Rattle.theory_decision.proofs.Related.{Both, neither, found, RelatedLists, noneLeft, oneMore, lists-map, lists-more, order-lists, Related, walk-related}
 
 -- a closure with the invariant, and the tree that it unfolds to
@@ -36,8 +37,8 @@ unfold-name σ (action a) = refl
 unfold-name σ (receipt v) = refl
 unfold-name σ (output m) = refl
 
-void-unfolded : (σ : Bindings) (b : Closure) → isVoid b ≡ plain-walk.isVoid (unfolded σ b)
-unfolding isVoid plain-walk.isVoid unfolded mapHeads
+void-unfolded : (σ : Bindings) (b : Closure) → isVoid b ≡ isVoid (unfolded σ b)
+unfolding isVoid unfolded mapHeads
 void-unfolded σ close = refl
 void-unfolded σ (part k h b r) = refl
 
@@ -70,8 +71,8 @@ record Shares (σ : Bindings) (b : Closure) (d : Closure × Closure) (e : Plain 
   counts : (T : Tally) → tallyOf T (d .0) + tallyOf T (d .1) ≡ tallyOf T b
 
 either-unfolded : (σ : Bindings) (k : ℕ) (h : ClosureHead) (i b : Closure) {l : List (Closure × Closure)} {m : List (Plain × Plain)} → RelatedLists (Shares σ b) l m →
-    RelatedLists (Shares σ (part k h i b)) (withEither k h i l) (plain-walk.withEither k (unfoldHead σ h) (unfolded σ i) m)
-unfolding withEither plain-walk.withEither unfolded mapHeads tallyOf
+    RelatedLists (Shares σ (part k h i b)) (withEither k h i l) (withEither k (unfoldHead σ h) (unfolded σ i) m)
+unfolding withEither unfolded mapHeads tallyOf
 either-unfolded σ k h i b noneLeft = noneLeft
 either-unfolded σ k h i b (oneMore {a = d} {b = e} x p) =
     let right : Shares σ (part k h i b) (d .0, part k h i (d .1)) (e .0, part k (unfoldHead σ h) (unfolded σ i) (e .1))
@@ -80,8 +81,8 @@ either-unfolded σ k h i b (oneMore {a = d} {b = e} x p) =
     = record { share = ap (part k (unfoldHead σ h) (unfolded σ i)) (x .share); others = x .others; counts = λ T. omega (arith, x .counts T) } in
     oneMore right (oneMore left (either-unfolded σ k h i b p))
 
-divisions-unfolded : (σ : Bindings) (b : Closure) → RelatedLists (Shares σ b) (divisions b) (plain-walk.divisions (unfolded σ b))
-unfolding divisions plain-walk.divisions unfolded mapHeads tallyOf
+divisions-unfolded : (σ : Bindings) (b : Closure) → RelatedLists (Shares σ b) (divisions b) (divisions (unfolded σ b))
+unfolding divisions unfolded mapHeads tallyOf
 divisions-unfolded σ close =
     let none-left : Shares σ close (close, close) (close, close) = record { share = refl; others = refl; counts = λ T. omega arith } in
     oneMore none-left noneLeft
@@ -114,7 +115,7 @@ wrap-unfolded σ k n b = ap (λ (m : Message). part k (ambient m) (unfolded σ b
 -- THEOREM: the closures answer every question of the walk as the trees that they unfold to.
 pub closures-related : (limit : ℕ) → Related Unfolds (closureSpace limit) (plainSpace limit)
 closures-related limit = record {
-  isVoid = λ m b x. void-unfolded (m .bindings) (m .tree) ∙ ap plain-walk.isVoid (x .1);
+  isVoid = λ m b x. void-unfolded (m .bindings) (m .tree) ∙ ap isVoid (x .1);
   only = λ n m b x. subst (λ (t : Plain). Both Unfolds (only (m .bindings) n (m .tree)) (plain-walk.only n t)) (x .1) (only-unfolded (m .bindings) n (m .tree) (x .0));
   divisions = λ m b x. lists-map (λ d e. Unfolds (d .0) (e .0) × Unfolds (d .1) (e .1)) (shares (m .bindings))
       (lists-more (Shares (m .bindings) (m .tree)) _
@@ -122,7 +123,7 @@ closures-related limit = record {
         (good-less (m .bindings) (m .tree) (d .0) (λ T. omega (arith, y .counts T)) (x .0), y .share),
         (good-less (m .bindings) (m .tree) (d .1) (λ T. omega (arith, y .counts T)) (x .0), y .others),
       ))
-      (subst (λ (t : Plain). RelatedLists (Shares (m .bindings) (m .tree)) (divisions (m .tree)) (plain-walk.divisions t)) (x .1) (divisions-unfolded (m .bindings) (m .tree))));
+      (subst (λ (t : Plain). RelatedLists (Shares (m .bindings) (m .tree)) (divisions (m .tree)) (divisions t)) (x .1) (divisions-unfolded (m .bindings) (m .tree))));
   nexts = λ m b x. subst (λ (t : Plain). RelatedLists Unfolds (nexts (m .bindings) limit (m .tree)) (plain-walk.nexts limit t)) (x .1) (nexts-unfolded limit (m .bindings) (m .tree) (x .0));
   insides = λ m b x. subst (λ (t : Plain). RelatedLists Unfolds (insides (m .bindings) (m .tree)) (plain-walk.insides t)) (x .1) (insides-unfolded (m .bindings) (m .tree) (x .0));
   wrap = λ k n m b x. (good-wrapped (m .bindings) k n (m .tree) (x .0), wrap-unfolded (m .bindings) k n (m .tree) ∙ ap (wrapped k n) (x .1));

@@ -19,8 +19,9 @@ use Rattle.base_slices.proofs.Tests.{byTest}
 use Rattle.theory_machine.proofs.Options.{some-is, none≢some}
 use Rattle.read_rule_words.specs.Rule.{Term, Rule, truth, negation, either, void, at, beside, some-name, sometime, somewhere, placed, Names, termName}
 use Rattle.theory_calculus.specs.Satisfaction.{Within, here, deeper, Reaches, stay, go, wrapped, Sat}
+use Rattle.theory_decision.specs.Divisions.{isVoid, divisions}
 use Rattle.theory_decision.specs.Walk.{Count, Walked, stopped, says, Setting, onYes, onNo, turned, ifAny, firstYes, lastName, look, counted, walk}
-use Rattle.theory_decision.specs.PlainWalk.{isVoid, only, divisions, insides, nexts, plainSpace}
+use Rattle.theory_decision.specs.PlainWalk.{only, insides, nexts, plainSpace}
 use Rattle.theory_decision.proofs.Renaming.{renameNames, renameRule, renameTree, Permutation, Same, sat-rename}
 use Rattle.theory_decision.proofs.Fits.{Fits, NamesAll, RuleAll, move-fits, inside-fits, divided-fits, alone-fits, wrapped-fits, term-all, names-more, term-more, fits-more, tree-still, rule-still, names-still}
 use Rattle.theory_decision.proofs.Listed.{in-span, of-span, Next, of-nexts, in-nexts, in-divisions, of-divisions, of-insides, in-insides, of-only, in-only}

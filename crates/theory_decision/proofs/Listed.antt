@@ -18,8 +18,9 @@ use Rattle.base_slices.proofs.Tests.{byTest}
 use Rattle.theory_machine.proofs.Options.{some-is, none≢some, cond-inv}
 use Rattle.theory_machine.proofs.Inversion.{isNamed-inv, sameName-inv}
 use Rattle.theory_calculus.specs.Satisfaction.{Divided, nothing, left, right, Inside, first, later, Alone}
+use Rattle.theory_decision.specs.Divisions.{withEither, divisions}
 use Rattle.theory_decision.specs.Walk.{keep, movesTo, movesFrom, inOrder}
-use Rattle.theory_decision.specs.PlainWalk.{only, withEither, divisions, insides, bodyAfter, nexts}
+use Rattle.theory_decision.specs.PlainWalk.{only, insides, bodyAfter, nexts}
 use Rattle.theory_decision.proofs.Fits.{Fits, move-fits}
 
 -- ranges

@@ -22,7 +22,8 @@ use Rattle.base_slices.proofs.Tests.{byTest}
 use Rattle.theory_machine.proofs.Options.{some-is, none≢some, cond-inv, orElse-inv, onward-inv}
 use Rattle.theory_machine.proofs.Inversion.{Here, by-open, by-receive, by-enter, by-exit, here-inv}
 use Rattle.theory_calculus.specs.Satisfaction.{Divided, nothing, left, right, Inside, first, later, Within, here, deeper, Reaches, stay, go, Alone, wrapped}
-use Rattle.theory_decision.specs.PlainWalk.{only, withEither, divisions, insides, nexts}
+use Rattle.theory_decision.specs.Divisions.{withEither, divisions}
+use Rattle.theory_decision.specs.PlainWalk.{only, insides, nexts}
 use Rattle.theory_decision.specs.Rising.{Rises, sumOf, shareSums}
 use Rattle.theory_decision.proofs.Listed.{Next, of-nexts, of-divisions, of-insides, of-only}
 

@@ -1,6 +1,6 @@
 -- The walk over closures: what a rule word asks of a closure under its bindings. Assumes nothing: these are definitions.
 use Prim.Native.Nat.{ℕ}
-use mathlib.Core.Bool.{Bool, true, false, cond}
+use mathlib.Core.Bool.{cond}
 use mathlib.Core.List.{List, [], _∷_, _++_, map}
 use mathlib.Core.Option.{Option, none, some}
 use Rattle.read_messages.specs.Message.{name}
@@ -8,21 +8,8 @@ use Rattle.read_messages.specs.declared.Named.the-variants.{Called}
 use Rattle.read_scripts.specs.Tree.{ambient, close, part}
 use Rattle.theory_machine.specs.Moves.{MoveMade, headName, isNamed, sameName}
 use Rattle.theory_closures.specs.Closure.{Action, ClosureHead, Closure, Bindings, viewUnder, closureMove, ClosureMachine}
+use Rattle.theory_decision.specs.Divisions.{isVoid, divisions}
 use Rattle.theory_decision.specs.Walk.{Space, inOrder}
-
--- "VOID, no parts"
-unfoldable pub isVoid : Closure → Bool
-isVoid close = true
-isVoid (part k h b r) = false
-
--- shares in the walk's order
-unfoldable pub withEither : ℕ → ClosureHead → Closure → List (Closure × Closure) → List (Closure × Closure)
-withEither k h b [] = []
-withEither k h b (d ∷ ds) = (d .0, part k h b (d .1)) ∷ (part k h b (d .0), d .1) ∷ withEither k h b ds
-
-unfoldable pub divisions : Closure → List (Closure × Closure)
-divisions close = (close, close) ∷ []
-divisions (part k h b r) = withEither k h b (divisions r)
 
 module _ (σ : Bindings) where
   -- the same bindings beside another closure

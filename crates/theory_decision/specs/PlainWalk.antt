@@ -1,6 +1,6 @@
 -- The walk over the plain machine's trees. Assumes nothing: these are definitions.
 use Prim.Native.Nat.{ℕ}
-use mathlib.Core.Bool.{Bool, true, false, cond}
+use mathlib.Core.Bool.{cond}
 use mathlib.Core.List.{List, [], _∷_}
 use mathlib.Core.Option.{Option, none, some}
 use Rattle.read_messages.specs.Message.{Message}
@@ -10,28 +10,14 @@ use Rattle.read_scripts.specs.Tree.{PlainHead, Plain}
 use Rattle.theory_machine.specs.Moves.{MoveMade, headName, isNamed, sameName}
 use Rattle.theory_machine.specs.PlainMachine.{plain, move}
 use Rattle.theory_calculus.specs.Satisfaction.{wrapped}
+use Rattle.theory_decision.specs.Divisions.{isVoid, withEither, divisions}
 use Rattle.theory_decision.specs.Walk.{Space, inOrder}
-
--- "VOID, no parts"
-unfoldable pub isVoid : Plain → Bool
-isVoid close = true
-isVoid (part k h b r) = false
 
 -- "AT n, just one top part, an AMB named n": its inside
 unfoldable pub only : (n : ℕ) → Plain → Option Plain
 only n close = none
 only n (part k h b close) = cond (sameName (Called n) (headName plain h)) (some b) none
 only n (part k h b (part k₁ h₁ b₁ r)) = none
-
--- "shares in rising order of the sum of 2^number over their parts": a body's parts rise, so that its first part changes
--- sides at every step
-unfoldable pub withEither : ℕ → PlainHead → Plain → List (Plain × Plain) → List (Plain × Plain)
-withEither k h b [] = []
-withEither k h b (d ∷ ds) = (d .0, part k h b (d .1)) ∷ (part k h b (d .0), d .1) ∷ withEither k h b ds
-
-unfoldable pub divisions : Plain → List (Plain × Plain)
-divisions close = (close, close) ∷ []
-divisions (part k h b r) = withEither k h b (divisions r)
 
 -- "inside each named top AMB by rising number"
 unfoldable pub insides : Plain → List Plain

@@ -5,7 +5,7 @@ use Prim.Native.Nat.{ℕ, suc, _≤_}
 use mathlib.Core.List.{List, map}
 use Rattle.base_sets.specs.Sets.{mask}
 use Rattle.read_scripts.specs.Tree.{Body, close, part, tops, Plain}
-use Rattle.theory_decision.specs.PlainWalk.{divisions}
+use Rattle.theory_decision.specs.Divisions.{divisions}
 
 -- "each body by rising part number", the bodies inside too: the numbers of the body itself are n or more, each above the one
 -- before

@@ -14,7 +14,7 @@ use Rattle.base_sets.proofs.Members.{members-rising}
 use Rattle.read_scripts.specs.Tree.{close, part, tops, totalOver}
 use Rattle.read_scripts.specs.Represents.{Held}
 use Rattle.theory_closures.specs.Closure.{ClosureHead, Closure}
-use Rattle.theory_decision.specs.ClosureWalk.{withEither, divisions}
+use Rattle.theory_decision.specs.Divisions.{withEither, divisions}
 use Rattle.walk_stages.specs.Pieces.{Divides}
 
 -- a top part: its number, its head and its inside

@@ -19,7 +19,8 @@ use Rattle.theory_closures.specs.Closure.{ClosureHead, Closure, Bindings, viewU
 use Rattle.engine_states.specs.Seen.{nameIn}
 use Rattle.engine_states.specs.Represents.{heads, boundIn, Ready, Represents}
 use Rattle.engine_states.specs.declared.State.{State}
-use Rattle.theory_decision.specs.ClosureWalk.{isVoid, beside, only}
+use Rattle.theory_decision.specs.Divisions.{isVoid}
+use Rattle.theory_decision.specs.ClosureWalk.{beside, only}
 use Rattle.walk_stages.specs.Pieces.{Room}
 use Rattle.walk_stages.proofs.Focused.{seen-told, top-told}
 

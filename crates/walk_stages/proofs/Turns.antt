@@ -28,9 +28,10 @@ use Rattle.engine_targets.proofs.Aiming.{state-places, state-targets}
 use Rattle.base_arrays.specs.Stretches.{stretch}
 use Rattle.engine_state_arrays.specs.Lent.{kindsIn, startsIn, stateIn}
 use Rattle.base_arrays.proofs.Copying.{length-stretch, getD-stretch}
+use Rattle.theory_decision.specs.Divisions.{divisions}
 use Rattle.theory_decision.specs.Walk.{Count, onYes, firstYes, look, lastName}
 use Rattle.theory_decision.specs.Walk as spec
-use Rattle.theory_decision.specs.ClosureWalk.{closureSpace, divisions, shares, insides, nexts}
+use Rattle.theory_decision.specs.ClosureWalk.{closureSpace, shares, insides, nexts}
 use Rattle.theory_decision.specs.ClosureWalk as over
 use Rattle.walk_stages.specs.Order.{pairsFrom, pairsLeft, Turns}
 use Rattle.walk_stages.specs.Visits.{countOf, walkedOf, settingOf, indices, Lendable, Scene, here, visits, Visits, Looks, Splits}
