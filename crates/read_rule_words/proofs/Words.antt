@@ -100,22 +100,10 @@ module _ (around : ℕ) (somes : List ℕ) (w : ℕ) where
   word-asked k e = rw e (kind-asked (kindOf k) around somes (operand w))
 
   -- kinds above 9 are none of a rule
-  pub other-asked : (w / 268435456 ≡ 0 → ⊥) → (w / 268435456 ≡ 1 → ⊥) → (w / 268435456 ≡ 2 → ⊥) → (w / 268435456 ≡ 3 → ⊥) → (w / 268435456 ≡ 4 → ⊥) → (w / 268435456 ≡ 5 → ⊥) → (w / 268435456 ≡ 6 → ⊥) → (w / 268435456 ≡ 7 → ⊥) → (w / 268435456 ≡ 8 → ⊥) → (w / 268435456 ≡ 9 → ⊥) → No 8 ≡ asked around somes (ruleKind w) (operand w)
-  unfolding kind
-  other-asked a b c d e f g h i j = rw (told (ruleKind w) refl) (kind-asked OTHER around somes (operand w))
-    where
-      told : (k : RuleKind) → ruleKind w ≡ k → k ≡ OTHER
-      told TRUE z = absurd (a (kind-told w TRUE z))
-      told NOT z = absurd (b (kind-told w NOT z))
-      told OR z = absurd (c (kind-told w OR z))
-      told VOID z = absurd (d (kind-told w VOID z))
-      told AT z = absurd (e (kind-told w AT z))
-      told BESIDE z = absurd (f (kind-told w BESIDE z))
-      told SOME z = absurd (g (kind-told w SOME z))
-      told SOMETIME z = absurd (h (kind-told w SOMETIME z))
-      told SOMEWHERE z = absurd (i (kind-told w SOMEWHERE z))
-      told PLACED z = absurd (j (kind-told w PLACED z))
-      told OTHER z = refl
+  pub other-asked : 10 ≤ w / 268435456 → No 8 ≡ asked around somes (ruleKind w) (operand w)
+  other-asked h =
+      let e : w / 268435456 ≡ suc (suc (suc (suc (suc (suc (suc (suc (suc (suc (w / 268435456 - 10)))))))))) = omega arith in
+      word-asked _ e
 
 -- names 1 to 255 fit
 pub name-fits : (n : ℕ) → (n ≡ 0 → ⊥) → n ≤ 255 → nameFits n ≡ true

@@ -46,13 +46,6 @@ use Rattle.walk_stages.proofs.Scenes.{scene-inside, scene-low, scene-to
 pub single-low : (m i : ℕ) → isOne (members m) ≡ true → i ≡ headOr 64 (members m) → i < 64
 single-low m i one first = first-below m i [] (one-is 64 (members m) one ∙ ap (λ (x : ℕ). x ∷ []) (sym first))
 
--- a number that is none of the ten kinds
-above : (k j : ℕ) → j ≤ k → (k ≡ j → ⊥) → suc j ≤ k
-above k j h n = omega arith
-
-pub other-kind : (k : ℕ) → (k ≡ 0 → ⊥) → (k ≡ 1 → ⊥) → (k ≡ 2 → ⊥) → (k ≡ 3 → ⊥) → (k ≡ 4 → ⊥) → (k ≡ 5 → ⊥) → (k ≡ 6 → ⊥) → (k ≡ 7 → ⊥) → (k ≡ 8 → ⊥) → (k ≡ 9 → ⊥) → 10 ≤ k
-other-kind k a b c d e f g h i j = above k 9 (above k 8 (above k 7 (above k 6 (above k 5 (above k 4 (above k 3 (above k 2 (above k 1 (above k 0 (let z : 0 ≤ k = omega arith in z) a) b) c) d) e) f) g) h) i) j
-
 -- ---- the count of a visit, and what its tests said
 
 module _ (limits : Limits) (e : Names) (q : Rule) (m : ClosureMachine) where

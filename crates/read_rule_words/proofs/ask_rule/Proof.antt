@@ -1,6 +1,7 @@
 -- `read_rule_words::ask_rule` meets its contract: by the word's kind. Assumes nothing.
 use mathlib.Core.Path.{_∙_}
 use borrow.Author.Needs.{needs}
+use Rattle.base_slices.proofs.Tests.{none-below}
 use Rattle.read_rule_words.proofs.Words.{word-asked, other-asked}
 use Rattle.read_rule_words.proofs.ask_rule.Statement.{statement}
 use Rattle.read_rule_words.proofs.ask_rule.Tie as tie
@@ -22,4 +23,4 @@ ask-rule-spec =
     (λ c. c .ask-plain7 .ensures ∙ word-asked _ _ _ 7 (c .before .match .keys8))
     (λ c. c .ask-plain8 .ensures ∙ word-asked _ _ _ 8 (c .before .match .keys9))
     (λ c. c .ask-term2 .ensures ∙ word-asked _ _ _ 9 (c .before .match .keys10))
-    (λ c. other-asked _ _ _ (c .match .rest .0 .0 .0 .0 .0 .0 .0 .0 .0 .1) (c .match .rest .0 .0 .0 .0 .0 .0 .0 .0 .1) (c .match .rest .0 .0 .0 .0 .0 .0 .0 .1) (c .match .rest .0 .0 .0 .0 .0 .0 .1) (c .match .rest .0 .0 .0 .0 .0 .1) (c .match .rest .0 .0 .0 .0 .1) (c .match .rest .0 .0 .0 .1) (c .match .rest .0 .0 .1) (c .match .rest .0 .1) (c .match .rest .1)))
+    (λ c. other-asked _ _ _ (none-below 10 _ (c .match .rest))))

@@ -3,7 +3,8 @@ use Prim.Native.Nat.{ℕ, _-_, _^_, _<_}
 use mathlib.Core.Path.{refl}
 use native.Mathlib.Omega.{arith}
 use borrow.Author.Needs.{needs}
-use Rattle.walk_stages.proofs.Members.{deep-visits, over-visits, outside-visits, counted-visits, truth-finds, void-finds, other-kind, none-finds}
+use Rattle.base_slices.proofs.Tests.{none-below}
+use Rattle.walk_stages.proofs.Members.{deep-visits, over-visits, outside-visits, counted-visits, truth-finds, void-finds, none-finds}
 use Rattle.walk_visits.proofs.+at_name+beside+either+negation+placed_in+some_name+sometime+somewhere+split+visit.Lts-visit as lts
 use Rattle.walk_visits.proofs.visit.Reads as reads
 use Rattle.walk_visits.proofs.+at_name+beside+either+negation+placed_in+some_name+sometime+somewhere+split+visit.Proof.Measures.{visit-at, visit-claims}
@@ -95,4 +96,4 @@ module _ (t : ℕ) where
   returns-13 c = let x = c .before .before .before .before .before .before .before .before .before .args in counted-visits (x .program .now) (x .script .now) (x .sets .now) (x .numbers .now) (x .chosen .now) (x .spot .top) (x .spot .somes) (x .spot .left) (x .spot .at) (x .limits) (x .c) (c .before .before .before .before .before .before .before .if1 .left) (c .before .before .before .before .before .before .before .before .before .pre .1 .0) (c .before .before .before .before .before .if2 .left) _ (c .before .before .next-count .ensures .0) (c .before .before .next-count .ensures .1) 9 (c .before .match .keys10) _ (c .placed-in .ensures)
 
   pub returns-14 : lts.Need-returns-14 (visit-claims t) (visit-at t) reads.Post
-  returns-14 c = let x = c .before .before .before .before .before .before .before .before .args in counted-visits (x .program .now) (x .script .now) (x .sets .now) (x .numbers .now) (x .chosen .now) (x .spot .top) (x .spot .somes) (x .spot .left) (x .spot .at) (x .limits) (x .c) (c .before .before .before .before .before .before .if1 .left) (c .before .before .before .before .before .before .before .before .pre .1 .0) (c .before .before .before .before .if2 .left) _ (c .before .next-count .ensures .0) (c .before .next-count .ensures .1) _ refl _ (none-finds (x .program .now) (x .script .now) (x .sets .now) (x .numbers .now) (x .chosen .now) (x .spot .top) (x .spot .somes) (x .spot .left - 1) (x .spot .at) (x .limits) _ _ (other-kind _ (c .match .rest .0 .0 .0 .0 .0 .0 .0 .0 .0 .1) (c .match .rest .0 .0 .0 .0 .0 .0 .0 .0 .1) (c .match .rest .0 .0 .0 .0 .0 .0 .0 .1) (c .match .rest .0 .0 .0 .0 .0 .0 .1) (c .match .rest .0 .0 .0 .0 .0 .1) (c .match .rest .0 .0 .0 .0 .1) (c .match .rest .0 .0 .0 .1) (c .match .rest .0 .0 .1) (c .match .rest .0 .1) (c .match .rest .1)) _)
+  returns-14 c = let x = c .before .before .before .before .before .before .before .before .args in counted-visits (x .program .now) (x .script .now) (x .sets .now) (x .numbers .now) (x .chosen .now) (x .spot .top) (x .spot .somes) (x .spot .left) (x .spot .at) (x .limits) (x .c) (c .before .before .before .before .before .before .if1 .left) (c .before .before .before .before .before .before .before .before .pre .1 .0) (c .before .before .before .before .if2 .left) _ (c .before .next-count .ensures .0) (c .before .next-count .ensures .1) _ refl _ (none-finds (x .program .now) (x .script .now) (x .sets .now) (x .numbers .now) (x .chosen .now) (x .spot .top) (x .spot .somes) (x .spot .left - 1) (x .spot .at) (x .limits) _ _ (none-below 10 _ (c .match .rest)) _)
