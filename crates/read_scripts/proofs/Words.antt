@@ -56,6 +56,12 @@ module _ (l : List ℕ) (i g : ℕ) (h : 0 < i) (k : i ≤ length l) (e : g ≡ 
   unfolding greatestName
   greatest-other n = rw (before l i h k, ne-eqb _ _ n) e
 
-  pub greatest-name : (r : ℕ) → kind (getD l (i - 1) 0) ≡ 8 → r ≡ max (operand (getD l (i - 1) 0)) g → r ≡ greatestName (drop (i - 1) l)
+  greatest-name : (r : ℕ) → kind (getD l (i - 1) 0) ≡ 8 → r ≡ max (operand (getD l (i - 1) 0)) g → r ≡ greatestName (drop (i - 1) l)
   unfolding greatestName
   greatest-name r n f = rw (before l i h k, n, ← e) f
+
+  pub greatest-more : kind (getD l (i - 1) 0) ≡ 8 → g < operand (getD l (i - 1) 0) → operand (getD l (i - 1) 0) ≡ greatestName (drop (i - 1) l)
+  greatest-more n m = greatest-name _ n (omega arith)
+
+  pub greatest-kept : kind (getD l (i - 1) 0) ≡ 8 → operand (getD l (i - 1) 0) ≤ g → g ≡ greatestName (drop (i - 1) l)
+  greatest-kept n m = greatest-name _ n (omega arith)

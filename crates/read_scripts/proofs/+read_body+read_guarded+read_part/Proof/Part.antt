@@ -19,12 +19,6 @@ module _ (t : ℕ) where
   abbrev unfit-word : lts.After-refused (read-part-claims t) (read-part-at t) reads.Post → lts.After-w (read-part-claims t) (read-part-at t) reads.Post
   unfit-word c = c .before .before
 
-  abbrev ambient-start : lts.After-enum-told2 (read-part-claims t) (read-part-at t) reads.Post → lts.Start (read-part-claims t) (read-part-at t) reads.Post
-  ambient-start c = c .before .before .before
-
-  abbrev action-start : lts.After-enum-told3 (read-part-claims t) (read-part-at t) reads.Post → lts.Start (read-part-claims t) (read-part-at t) reads.Post
-  action-start c = c .before .before .before
-
   abbrev receipt-start : lts.After-enum-told4 (read-part-claims t) (read-part-at t) reads.Post → lts.Start (read-part-claims t) (read-part-at t) reads.Post
   receipt-start c = c .before .before .before
 
@@ -57,11 +51,11 @@ module _ (t : ℕ) where
 
   pub read-guarded-requires : lts.Need-read-guarded-requires (read-part-claims t) (read-part-at t) reads.Post
   unfolding partFits
-  read-guarded-requires c κs = (omega arith, guarded-asks (ambient-start c .pre .1) Ambient refl (c .enum-told2 .given .1) 1 (omega arith) (omega arith))
+  read-guarded-requires c κs = (omega arith, search (needs, guarded-asks))
 
   pub read-guarded-requires-2 : lts.Need-read-guarded-requires-2 (read-part-claims t) (read-part-at t) reads.Post
   unfolding partFits
-  read-guarded-requires-2 c κs = (omega arith, guarded-asks (action-start c .pre .1) Action refl (c .enum-told3 .given .1) 2 (omega arith) (omega arith))
+  read-guarded-requires-2 c κs = (omega arith, search (needs, guarded-asks))
 
   pub with-receipt-requires : lts.Need-with-receipt-requires (read-part-claims t) (read-part-at t) reads.Post
   unfolding partFits
