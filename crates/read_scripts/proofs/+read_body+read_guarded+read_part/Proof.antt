@@ -2,7 +2,8 @@
 -- Assumes nothing.
 use native.Mathlib.Omega.{arith}
 use borrow.Author.Needs.{needs}
-use Rattle.read_scripts.proofs.Steps.{body-begins}
+use Rattle.read_scripts.specs.Script.{partFits}
+use Rattle.read_scripts.proofs.Steps.{body-begins, guarded-asks}
 use Rattle.read_scripts.proofs.read_body.Reads as read-body
 use Rattle.read_scripts.proofs.+read_body+read_guarded+read_part.Lts-read_body as read-body-lts
 use Rattle.read_scripts.proofs.read_guarded.Reads as read-guarded
@@ -18,6 +19,7 @@ use Rattle.read_scripts.proofs.+read_body+read_guarded+read_part.{state
 use Rattle.read_scripts.proofs.+read_body+read_guarded+read_part.Tie.{close}
 
 pub +read-body+read-guarded+read-part-spec : {M : Type 1} → statement M
+unfolding partFits
 +read-body+read-guarded+read-part-spec =
     close μ-read-body μ-read-guarded μ-read-part
     (λ t. read-body-lts.spec (read-body-claims t) (read-body-at t) read-body.Post
@@ -34,8 +36,8 @@ pub +read-body+read-guarded+read-part-spec : {M : Type 1} → statement M
     (λ c. omega (arith, Guarded.bounds t (c .before))) (λ c. omega (arith, Guarded.bounds t (c .before))) (λ c. search needs) (λ c. search needs)
     (Guarded.read-body-requires t) (Guarded.returns-2 t))
     (λ t. read-part-lts.spec (read-part-claims t) (read-part-at t) read-part.Post
-    (λ c. search needs) (λ c κs. search needs) (λ c. search needs) (λ c κs. search needs) (λ c. search needs) (Part.read-guarded-requires t)
-    (λ c. search needs) (Part.read-guarded-requires-2 t) (λ c. search needs) (λ c. search needs) (Part.with-receipt-requires t) (λ c. search needs)
+    (λ c. search needs) (λ c κs. search needs) (λ c. search needs) (λ c κs. search needs) (λ c. search needs) (λ c κs. (omega arith, search (needs, guarded-asks)))
+    (λ c. search needs) (λ c κs. (omega arith, search (needs, guarded-asks))) (λ c. search needs) (λ c. search needs) (Part.with-receipt-requires t) (λ c. search needs)
     (λ c κs. search needs) (λ c. search needs) (λ c. search needs) (λ c. search needs) (λ c. search needs) (λ c. search needs) (Part.read-body-requires t)
     (λ c. search needs) (λ c. search needs) (λ c. search needs) (λ c. search needs) (λ c. search needs) (λ c. search needs) (λ c. search needs)
     (λ c. search needs) (λ c. omega (arith, Part.long t (Part.lent-start t c))) (λ c κs. search needs) (λ c. search needs) (λ c. search needs)

@@ -6,10 +6,10 @@ use borrow.Author.Needs.{needs}
 use lib.ListN.{length, drop}
 use Rattle.base_slices.proofs.Tails as Tails
 use Rattle.read_messages.proofs.Laws.{readOf}
-use Rattle.read_scripts.proofs.Steps.{lent, entered-next, passed, guarded-asks, receipt-asks, receipt-law, output-law, output-refused}
+use Rattle.read_scripts.proofs.Steps.{lent, entered-next, passed, receipt-asks, receipt-law, output-law, output-refused}
 use Rattle.read_scripts.specs.Script.{partFits, partFrom}
 use Rattle.read_scripts.specs.Table.{scannedPart}
-use Rattle.read_scripts.specs.declared.PartWord.the-variants.{Ambient, Action, Receipt}
+use Rattle.read_scripts.specs.declared.PartWord.the-variants.{Receipt}
 use Rattle.read_scripts.proofs.+read_body+read_guarded+read_part.Lts-read_part as lts
 use Rattle.read_scripts.proofs.read_part.Reads as reads
 use Rattle.read_scripts.proofs.+read_body+read_guarded+read_part.Proof.Measures.{read-part-at, read-part-claims}
@@ -48,14 +48,6 @@ module _ (t : ℕ) where
   told c =
       let a = lent-start (read-lent c) .args in
       lent (a .around .indices) (a .around .first) (Tails.part (a .s .now) 1) (a .at + 1) (a .nest) (suc (a .table .count)) _ (long (lent-start (read-lent c))) (c .read-message .ensures (suc (a .table .count)))
-
-  pub read-guarded-requires : lts.Need-read-guarded-requires (read-part-claims t) (read-part-at t) reads.Post
-  unfolding partFits
-  read-guarded-requires c κs = (omega arith, search (needs, guarded-asks))
-
-  pub read-guarded-requires-2 : lts.Need-read-guarded-requires-2 (read-part-claims t) (read-part-at t) reads.Post
-  unfolding partFits
-  read-guarded-requires-2 c κs = (omega arith, search (needs, guarded-asks))
 
   pub with-receipt-requires : lts.Need-with-receipt-requires (read-part-claims t) (read-part-at t) reads.Post
   unfolding partFits
