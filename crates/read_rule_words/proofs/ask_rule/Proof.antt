@@ -22,4 +22,4 @@ ask-rule-spec =
     (λ c. c .ask-plain7 .ensures ∙ word-asked _ _ _ 7 (c .before .match .keys8))
     (λ c. c .ask-plain8 .ensures ∙ word-asked _ _ _ 8 (c .before .match .keys9))
     (λ c. c .ask-term2 .ensures ∙ word-asked _ _ _ 9 (c .before .match .keys10))
-    (λ c. other-asked _ _ _ (c .match .rest .0 .0 .0 .0 .0 .0 .0 .0 .0 .1) (c .match .rest .0 .0 .0 .0 .0 .0 .0 .0 .1) (c .match .rest .0 .0 .0 .0 .0 .0 .0 .1) (c .match .rest .0 .0 .0 .0 .0 .0 .1) (c .match .rest .0 .0 .0 .0 .0 .1) (c .match .rest .0 .0 .0 .0 .1) (c .match .rest .0 .0 .0 .1) (c .match .rest .0 .0 .1) (c .match .rest .0 .1) (c .match .rest .1)))
+    (λ c. search (needs, other-asked)))
