@@ -54,8 +54,8 @@ stretch-is at n l r e C = ext-getD 0 r (stretch at n l) (e ∙ sym (length-stret
 pub stretch-filled : (at n i : ℕ) (l r : List ℕ) → Filling (λ j. getD l (at + j) 0) n i r → length r ≤ i → r ≡ stretch at n l
 stretch-filled at n i l r F h = let d = F .kept in stretch-is at n l r d (λ j m. F .copied j (omega arith))
 
-pub copy-is : (l r : List ℕ) (n : ℕ) → length r ≡ n → length l ≡ n → Copied (λ j. getD l j 0) n r → r ≡ l
-copy-is l r n e d C = ext-getD 0 r l (e ∙ sym d) (λ j m. C j (omega (arith, e)))
+pub copy-filled : (f : ℕ → ℕ) (l r : List ℕ) (n i : ℕ) → Filling f n i r → n ≤ i → length l ≡ n → ((j : ℕ) → j < n → f j ≡ getD l j 0) → r ≡ l
+copy-filled f l r n i F h d same = let e = F .kept in ext-getD 0 r l (e ∙ sym d) (λ j m. F .copied j (omega arith) ∙ same j (omega arith))
 
 -- ---- into one
 

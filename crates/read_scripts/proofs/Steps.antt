@@ -238,12 +238,14 @@ module _ (s : List ℕ) (at nest : ℕ) (around : List ℕ) (owner : ℕ) (table
       -- the part there may be read, and is less than what is left of the words
       pub body-asks : {f : ℕ} → Readable s at nest f (table .count) → (u : ℕ) → 3 * length s + 2 ≡ u → (3 * length (Tails.part s k) + 1 < u) × PartReadable w (Tails.part s k) (at + k) nest f (t .count)
       body-asks r u d =
-          let b = length-part s k in
-          (omega arith, record {
-            reads = record { few = omega (arith, r); shallow = r .shallow; receipts = r .receipts; room = r .room; fewer = l .counted };
-            some = omega arith;
-            asked = let z : k + 0 ≡ k = omega arith in e ∙ rw (part-drop s k, getD-drop k s 0 0, z);
-          })
+          let b = length-part s k in (
+            omega arith,
+            record {
+              reads = record { few = omega (arith, r); shallow = r .shallow; receipts = r .receipts; room = r .room; fewer = l .counted };
+              some = omega arith;
+              asked = let z : k + 0 ≡ k = omega arith in e ∙ rw (part-drop s k, getD-drop k s 0 0, z);
+            },
+          )
 
       pub body-closes : w ≡ Close → record { outcome = Read (at + k + 1); table = t } ≡ scanned owner table (bodyAt s at nest around (table .count))
       unfolding scanned tabulate
@@ -339,14 +341,16 @@ module _ (s : List ℕ) (at nest : ℕ) (around : List ℕ) (owner : ℕ) (table
         → (3 * length (Tails.part s (n - at)) + 2 < u) × Readable (Tails.part s (n - at)) n (nest + 1) f (t .count)
     guarded-inside {kind} r n d t et u e =
         let b = message-bounds (r .some) n d in
-        let l = length-part s (n - at) in
-        (omega (arith, b), record {
-          few = omega (arith, b, r .reads);
-          shallow = omega (arith, r .nested);
-          receipts = r .reads .receipts;
-          room = omega (arith, r .reads);
-          fewer = omega (arith, b, r .reads, entered-next owner kind (at + 1) table t et);
-        })
+        let l = length-part s (n - at) in (
+          omega (arith, b),
+          record {
+            few = omega (arith, b, r .reads);
+            shallow = omega (arith, r .nested);
+            receipts = r .reads .receipts;
+            room = omega (arith, r .reads);
+            fewer = omega (arith, b, r .reads, entered-next owner kind (at + 1) table t et);
+          },
+        )
 
     pub output-law : (n : ℕ) (t : Table) → m ≡ Read n → t ≡ entered owner 4 (at + 1) table → record { outcome = Read n; table = t } ≡ scannedPart owner table (partAt Output s at nest around (table .count))
     unfolding partFrom scannedPart tabulate kindNumber

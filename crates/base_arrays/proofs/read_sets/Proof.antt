@@ -28,8 +28,6 @@ pub read-sets-spec : {M : Type 1} → statement M
 read-sets-spec =
     tie.close
     (tie.spec
-    Inv-loop
-    μ-loop
-    (λ c. filling-none _ _ _ refl)
+    Inv-loop μ-loop (λ c. filling-none _ _ _ refl)
     (λ c. search needs) (λ c. search needs) (λ c. search needs) (λ c. search needs) (λ c. search needs)
     (λ c. search needs) (λ c. search needs) loop-again (λ c. search needs) returns)

@@ -22,8 +22,6 @@ pub find-spec : {M : Type 1} → statement M
 find-spec =
     tie.close
     (tie.spec
-    Inv-loop
-    μ-loop
-    (λ c. (omega arith, past-none _ _))
+    Inv-loop μ-loop (λ c. (omega arith, past-none _ _))
     (λ c. search needs) (λ c. search needs) returns (λ c. search needs) (λ c. search needs) loop-again
     (λ c. past-all _ _ _ (c .before .loop .inv .1) (omega (arith, c .before .loop .inv .0, c .loop-test .left))))

@@ -30,8 +30,6 @@ pub greatest-rule-name-spec : {M : Type 1} → statement M
 greatest-rule-name-spec =
     tie.close
     (tie.spec
-    Inv-loop
-    μ-loop
-    (λ c. (search needs, sym (greatest-end (c .before .args .rule .now))))
+    Inv-loop μ-loop (λ c. (search needs, sym (greatest-end (c .before .args .rule .now))))
     (λ c. search needs) (λ c. search needs) (λ c. search needs) (λ c κs. search needs) (λ c. search needs)
     loop-again (λ c. search needs) loop-again-2 returns)

@@ -37,8 +37,6 @@ pub greatest-name-spec : {M : Type 1} → statement M
 greatest-name-spec =
     tie.close
     (tie.spec
-    Inv-loop
-    μ-loop
-    (λ c. (search needs, sym (greatest-end (c .args .s .now))))
+    Inv-loop μ-loop (λ c. (search needs, sym (greatest-end (c .args .s .now))))
     (λ c. search needs) (λ c. search needs) (λ c. search needs) (λ c. search needs)
     loop-again (λ c. search needs) loop-again-2 (λ c. search needs) loop-again-3 returns)
