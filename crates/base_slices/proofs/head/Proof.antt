@@ -12,8 +12,8 @@ use Rattle.base_slices.proofs.head.Tie as tie
 whole : (s : List ℕ) (n : ℕ) → length s < n → take (length s) s ≡ take n s
 whole s n h = take-all (length s) s (omega arith) ∙ sym (take-all n s (omega arith))
 
-slice-aggregate-result : tie.Need-slice-aggregate-result
-slice-aggregate-result c = sym (length-take-le _ _ (c .before .if1 .taken))
+returns : tie.Need-returns
+returns c = search needs
 
 pub head-spec : {M : Type 1} → statement M
-head-spec = tie.close (tie.spec slice-aggregate-result (λ c. search (needs, length-take-le)) (λ c. search needs) (λ c. search (needs, whole)))
+head-spec = tie.close (tie.spec (λ c. search (needs, length-take-le)) (λ c. search (needs, length-take-le)) returns (λ c. search (needs, whole)))

@@ -73,12 +73,6 @@ module _ (t : ℕ) where
   returns-2 : lts.Need-returns-2 (claims t) (read-message-at t) read-message.Post
   returns-2 c number = two-refused (two (refused-left c .before)) number _ (refused-left c .read-message2 .ensures number) refl _ _ (c .enum-told4 .given .1)
 
-  read-message-requires-3 : lts.Need-read-message-requires-3 (claims t) (read-message-at t) read-message.Post
-  read-message-requires-3 c κs =
-      let x = two (read-left (second-left c) .before) in let b = bounds (second-left c) in
-      let l = length-part (x .words) (second-left c .left .given .0 .0 - x .at) in
-      (omega arith, (omega arith, omega (arith, level x _ refl)))
-
   returns-5 : lts.Need-returns-5 (claims t) (read-message-at t) read-message.Post
   returns-5 c number = one-read (one (c .before)) number _ (c .read-message .ensures number) refl
 
@@ -86,6 +80,12 @@ module _ (t : ℕ) where
   returns-6 c number =
       let l = second-left (c .before) in
       two-read (two (read-left l .before)) number _ (read-left l .read-message2 .ensures number) _ (l .left .given .1) refl _ (c .read-message3 .ensures number)
+
+  read-message-requires-3 : lts.Need-read-message-requires-3 (claims t) (read-message-at t) read-message.Post
+  read-message-requires-3 c κs =
+      let x = two (read-left (second-left c) .before) in let b = bounds (second-left c) in
+      let l = length-part (x .words) (second-left c .left .given .0 .0 - x .at) in
+      (omega arith, (omega arith, omega (arith, level x _ refl)))
 
 pub +read-message-spec : {M : Type 1} → statement M
 +read-message-spec =

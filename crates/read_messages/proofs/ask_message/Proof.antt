@@ -40,6 +40,10 @@ returns c = search (needs, held)
 returns-3 : tie.Need-returns-3
 returns-3 c = search (needs, free)
 
+returns-9 : tie.Need-returns-9
+unfolding wordFits bound follow
+returns-9 c = search (needs, fits)
+
 pub ask-message-spec : {M : Type 1} → statement M
 unfolding wordFits bound follow
 ask-message-spec =
@@ -49,4 +53,4 @@ ask-message-spec =
     (λ c. search needs) (λ c κs. search needs) (λ c. search needs) (λ c κs. search needs) (λ c. search needs) (λ c κs. search needs)
     (λ c. search needs) (λ c κs. search needs) (λ c. search needs) (λ c κs. search needs) (λ c. search needs) (λ c κs. search needs)
     (λ c. search (needs, unfit)) returns-3
-    (λ c. search (needs, fits)) (λ c. search (needs, fits)) (λ c. search (needs, fits)) (λ c. search (needs, fits)) (λ c. search (needs, fits)) (λ c. search (needs, fits)))
+    (λ c. search (needs, fits)) (λ c. search (needs, fits)) (λ c. search (needs, fits)) (λ c. search (needs, fits)) (λ c. search (needs, fits)) returns-9)

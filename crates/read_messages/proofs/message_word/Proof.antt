@@ -39,13 +39,17 @@ returns : tie.Need-returns
 unfolding messageWord kind operand nameFits
 returns c = rw (c .before .if1 .taken, c .if2 .taken)
 
+returns-3 : tie.Need-returns-3
+unfolding kind operand
+returns-3 c = search (needs, named)
+
 returns-2 : tie.Need-returns-2
 unfolding kind operand
 returns-2 c = search (needs, large)
 
-returns-3 : tie.Need-returns-3
-unfolding kind operand
-returns-3 c = search (needs, named)
+returns-8 : tie.Need-returns-8
+unfolding messageWord kind operand
+returns-8 c = rw (c .match .keys3, c .before .if5 .left)
 
 pub message-word-spec : {M : Type 1} → statement M
 unfolding messageWord kind operand
@@ -54,5 +58,5 @@ message-word-spec =
     (tie.spec
     returns returns-2 returns-3 (λ c. rw (c .if4 .taken)) (λ c. search (needs, unfit))
     (λ c. rw (c .match .keys1, c .before .if5 .left)) (λ c. rw (c .match .keys2, c .before .if5 .left))
-    (λ c. rw (c .match .keys3, c .before .if5 .left)) (λ c. rw (c .match .keys4, c .before .if5 .left))
+    returns-8 (λ c. rw (c .match .keys4, c .before .if5 .left))
     (λ c. rw (c .match .keys5, c .before .if5 .left)) (λ c. search (needs, other)))

@@ -26,8 +26,8 @@ read c = record { some = omega arith; most = omega arith; rule = rw (c .before .
 returns-4 : tie.Need-returns-4
 returns-4 c = answers _ _ _ (c .refused3 .ensures ∙ search (needs, rule-behind, read))
 
-returns-6 : tie.Need-returns-6
-returns-6 c = answers _ _ _ (c .refused5 .ensures ∙ search (needs, rule-many, read))
+returns-7 : tie.Need-returns-7
+returns-7 c = answers _ _ _ (search (needs, rule-whole, read))
 
 pub read-whole-rule-spec : {M : Type 1} → statement M
 read-whole-rule-spec =
@@ -39,5 +39,6 @@ read-whole-rule-spec =
     (λ c. answers _ _ _ (search (needs, rule-refused, read)))
     (λ c κs. search needs) returns-4 (λ c κs. search needs)
     (λ c. answers _ _ _ (c .refused4 .ensures ∙ search (needs, rule-many, read, lt-of-lt-of-le, le-add-right)))
-    (λ c. omega (arith, rule-fewer _ (read (told-read (count-told c))) _ (count-told c .before .o .given .1))) (λ c κs. search needs) returns-6
-    (λ c. answers _ _ _ (search (needs, rule-whole, read))))
+    (λ c. omega (arith, rule-fewer _ (read (told-read (count-told c))) _ (count-told c .before .o .given .1))) (λ c κs. search needs)
+    (λ c. answers _ _ _ (c .refused5 .ensures ∙ search (needs, rule-many, read)))
+    returns-7)

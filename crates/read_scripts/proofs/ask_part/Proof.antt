@@ -8,11 +8,11 @@ use Rattle.read_scripts.proofs.ask_part.Tie as tie
 returns : tie.Need-returns
 returns c = search (needs, asked-unfit)
 
-returns-2 : tie.Need-returns-2
-returns-2 c = search (needs, asked-deep)
-
 returns-3 : tie.Need-returns-3
 returns-3 c = search (needs, asked-within)
+
+returns-2 : tie.Need-returns-2
+returns-2 c = search (needs, asked-deep)
 
 pub ask-part-spec : {M : Type 1} → statement M
 ask-part-spec = tie.close (tie.spec (λ c κs. search needs) (λ c. search needs) returns returns-2 returns-3)
