@@ -322,11 +322,11 @@ guarded-start false m i = refl
 
 module _ (s : List ℕ) (at nest : ℕ) (around : List ℕ) (owner : ℕ) (table : Table) where
   -- a receipt: its body, with one receipt more around
-  pub receipt-law : (a : List ℕ) (t : Table) (r : Scan) → a ≡ at ∷ around → t ≡ entered owner 3 at table → r ≡ scanned (table .count) t (bodyAt (Tails.part s 1) (at + 1) (nest + 1) a (t .count))
-      → r ≡ scannedPart owner table (partAt Receipt s at nest around (table .count))
+  pub receipt-law : (w : PartWord) (a : List ℕ) (t : Table) (r : Scan) → w ≡ Receipt → a ≡ at ∷ around → t ≡ entered owner 3 at table → r ≡ scanned (table .count) t (bodyAt (Tails.part s 1) (at + 1) (nest + 1) a (t .count))
+      → r ≡ scannedPart owner table (partAt w s at nest around (table .count))
   unfolding partFrom kindNumber
-  receipt-law a t r ea et er =
-      er ∙ rw (part-drop s 1, length-drop 1 s, ea, add-one nest)
+  receipt-law w a t r ew ea et er =
+      er ∙ rw (ew, part-drop s 1, length-drop 1 s, ea, add-one nest)
       (ap (λ (n : ℕ). scanned (table .count) t (readBody (length s - 1) (suc nest) (at ∷ around) (cursor (at + 1) n (drop 1 s)))) (entered-next owner 3 at table t et)
       ∙ rw et (sym (scanned-inside owner table at (receipt at) _)))
 
@@ -352,11 +352,11 @@ module _ (s : List ℕ) (at nest : ℕ) (around : List ℕ) (owner : ℕ) (table
           },
         )
 
-    pub output-law : (n : ℕ) (t : Table) → m ≡ Read n → t ≡ entered owner 4 (at + 1) table → record { outcome = Read n; table = t } ≡ scannedPart owner table (partAt Output s at nest around (table .count))
+    pub output-law : (w : PartWord) (n : ℕ) (t : Table) → w ≡ Output → m ≡ Read n → t ≡ entered owner 4 (at + 1) table → record { outcome = Read n; table = t } ≡ scannedPart owner table (partAt w s at nest around (table .count))
     unfolding partFrom scannedPart tabulate kindNumber
-    output-law n t d et =
+    output-law w n t ew d et =
         let (p, ep, en) = outcome-read (messageAt s at nest around (table .count)) n (sym (message-told s at nest around (table .count) m em) ∙ d) in
-        rw (et, bind-got (messageAt s at nest around (table .count)) _ p ep, en)
+        rw (ew, et, bind-got (messageAt s at nest around (table .count)) _ p ep, en)
 
     module _ (q i : ℕ) (none : Table) (d : m ≡ Refused q i) (en : none ≡ vacant) where
       abbrev refusal : Scan
@@ -365,9 +365,9 @@ module _ (s : List ℕ) (at nest : ℕ) (around : List ℕ) (owner : ℕ) (table
       refusal-is : (k : Message × Cursor → Reading ((Written × Script) × Cursor)) → refusal ≡ scannedPart owner table (messageAt s at nest around (table .count) >>= k)
       refusal-is k = rw (d, en) (refused-message owner table (messageAt s at nest around (table .count)) k q i (sym (message-told s at nest around (table .count) m em) ∙ d))
 
-      pub output-refused : refusal ≡ scannedPart owner table (partAt Output s at nest around (table .count))
+      pub output-refused : (w : PartWord) → w ≡ Output → refusal ≡ scannedPart owner table (partAt w s at nest around (table .count))
       unfolding partFrom
-      output-refused = refusal-is _
+      output-refused w ew = rw ew (refusal-is _)
 
       pub guarded-refused : (kind : ℕ) → refusal ≡ scannedPart owner table (guardedAt kind s at nest around (table .count))
       guarded-refused kind = refusal-is _

@@ -9,7 +9,7 @@ use borrow.Fn.Kinds.{In}
 use borrow.Fn.PlainCycle.{Measures, is, falls, and}
 use Rattle.base_slices.proofs.Tails.{length-part}
 use Rattle.read_messages.specs.declared.Asked.{Asked}
-use Rattle.read_messages.specs.declared.Asked.the-variants.{Leaf, One, Two, No}
+use Rattle.read_messages.specs.declared.Asked.the-variants.{Leaf, One, Two}
 use Rattle.read_messages.proofs.Laws.{First, read-none, level, shorter, no-read, leaf-read, one-read, two-refused, first-bounds, two-read}
 use Rattle.read_messages.proofs.read_message.Reads as read-message
 use Rattle.read_messages.proofs.read_message.Kinds as read-message-kinds

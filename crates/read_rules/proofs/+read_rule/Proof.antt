@@ -11,7 +11,7 @@ use Rattle.base_slices.proofs.Tails.{length-part}
 use Rattle.read_rule_words.specs.ReadRule.{ruleKind}
 use Rattle.read_rule_words.specs.RuleWords.{asked}
 use Rattle.read_rule_words.specs.declared.Asked.{Asked}
-use Rattle.read_rule_words.specs.declared.Asked.the-variants.{Leaf, One, Two, Choice, Place, No}
+use Rattle.read_rule_words.specs.declared.Asked.the-variants.{Leaf, One, Two, Choice, Place}
 use Rattle.read_rules.specs.declared.RuleTable.{RuleTable}
 use Rattle.read_rules.proofs.Steps.{lent, First, level, behind, Left, read-none, no-read, leaf-read, one-read, two-refused, left-read, two-read, choice-read, place-read}
 use Rattle.read_rules.proofs.read_rule.Reads as read-rule

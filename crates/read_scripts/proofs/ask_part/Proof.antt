@@ -1,5 +1,4 @@
 -- `read_scripts::ask_part` meets its contract. Assumes nothing.
-use native.Mathlib.Omega.{arith}
 use borrow.Author.Needs.{needs}
 use Rattle.read_scripts.proofs.Words.{asked-unfit, asked-deep, asked-within}
 use Rattle.read_scripts.proofs.ask_part.Statement.{statement}

@@ -4,7 +4,7 @@ use mathlib.Core.Path.{_∙_}
 use native.Mathlib.Omega.{arith}
 use borrow.Author.Needs.{needs}
 use lib.ListN.{length, drop}
-use Rattle.read_scripts.proofs.Steps.{BodyLoop, BodyOn, body-begins, body-ends, body-asks, body-closes, body-hands, body-again}
+use Rattle.read_scripts.proofs.Steps.{BodyLoop, BodyOn, body-ends, body-asks, body-closes, body-hands, body-again}
 use Rattle.read_scripts.proofs.+read_body+read_guarded+read_part.Lts-read_body as lts
 use Rattle.read_scripts.proofs.read_body.Reads as reads
 use Rattle.read_scripts.proofs.+read_body+read_guarded+read_part.Proof.Measures.{read-body-at, read-body-claims}
@@ -23,29 +23,18 @@ module _ (t : ℕ) where
   abbrev asked-loop : lts.After-ask-part (read-body-claims t) (read-body-at t) reads.Post Inv-loop μ-loop → lts.At-loop (read-body-claims t) (read-body-at t) reads.Post Inv-loop μ-loop
   asked-loop c = c .before .before .before
 
-  abbrev close-asked : lts.After-enum-told (read-body-claims t) (read-body-at t) reads.Post Inv-loop μ-loop → lts.After-ask-part (read-body-claims t) (read-body-at t) reads.Post Inv-loop μ-loop
-  close-asked c = c .before .before
-
   abbrev part-asked : lts.After-read-part-arg (read-body-claims t) (read-body-at t) reads.Post Inv-loop μ-loop → lts.After-ask-part (read-body-claims t) (read-body-at t) reads.Post Inv-loop μ-loop
   part-asked c = c .before .before
-
-  abbrev refused-read : lts.After-enum-told2 (read-body-claims t) (read-body-at t) reads.Post Inv-loop μ-loop → lts.After-read-part (read-body-claims t) (read-body-at t) reads.Post Inv-loop μ-loop
-  refused-read c = c .before .before
 
   abbrev told-read : lts.After-known-told (read-body-claims t) (read-body-at t) reads.Post Inv-loop μ-loop → lts.After-read-part (read-body-claims t) (read-body-at t) reads.Post Inv-loop μ-loop
   told-read c = c .before .before .before
 
-  abbrev ended-loop : lts.After-refused (read-body-claims t) (read-body-at t) reads.Post Inv-loop μ-loop → lts.At-loop (read-body-claims t) (read-body-at t) reads.Post Inv-loop μ-loop
-  ended-loop c = c .before .before
-
   -- the part that was read, and the loop behind it
   pub again : (c : lts.After-known-told (read-body-claims t) (read-body-at t) reads.Post Inv-loop μ-loop) → let l = asked-loop (part-asked (told-read c .before)) in let a = loop-start l .args in BodyOn (a .s .now) (a .at) (a .nest) (drop (a .around .first) (a .around .indices)) (a .owner) (a .table) (l .loop .k) (c .before .o .given .0 .0) (told-read c .read-part .result .table)
-  again c =
-      let r = told-read c in let a = part-asked (r .before) in
-      body-again _ _ _ _ _ _ _ _ (asked-loop a .loop .inv) (omega arith) _ (a .ask-part .ensures) (search needs) _ (r .read-part .ensures) _ (c .before .o .given .1)
+  again c = search (needs, body-again)
 
   pub returns : lts.Need-returns (read-body-claims t) (read-body-at t) reads.Post Inv-loop μ-loop
-  returns c = body-closes _ _ _ _ _ _ _ _ (asked-loop (close-asked c) .loop .inv) (omega arith) _ (close-asked c .ask-part .ensures) (c .enum-told .given .1)
+  returns c = search (needs, body-closes)
 
   pub read-part-requires : lts.Need-read-part-requires (read-body-claims t) (read-body-at t) reads.Post Inv-loop μ-loop
   read-part-requires c κs =
@@ -53,12 +42,10 @@ module _ (t : ℕ) where
       body-asks _ _ _ _ _ _ _ _ (l .loop .inv) (omega arith) _ (part-asked c .ask-part .ensures) (loop-start l .pre .1) t (loop-start l .pre .0)
 
   pub returns-2 : lts.Need-returns-2 (read-body-claims t) (read-body-at t) reads.Post Inv-loop μ-loop
-  returns-2 c =
-      let r = refused-read c in let a = part-asked (r .before) in
-      body-hands _ _ _ _ _ _ _ _ (asked-loop a .loop .inv) (omega arith) _ (a .ask-part .ensures) (search needs) _ (r .read-part .ensures) _ _ (c .enum-told2 .given .1)
+  returns-2 c = search (needs, body-hands)
 
   pub loop-again : lts.Need-loop-again (read-body-claims t) (read-body-at t) reads.Post Inv-loop μ-loop
   loop-again c = again (c .before) .loop
 
   pub returns-3 : lts.Need-returns-3 (read-body-claims t) (read-body-at t) reads.Post Inv-loop μ-loop
-  returns-3 c = c .refused .ensures ∙ body-ends _ _ _ _ _ _ _ _ (ended-loop c .loop .inv) (c .before .loop-test .left)
+  returns-3 c = c .refused .ensures ∙ search (needs, body-ends)

@@ -1,7 +1,6 @@
 -- `read_guarded`: message, then body. Assumes nothing.
 use Prim.Native.Nat.{ℕ, suc, _+_, _≤_, _<_}
 use mathlib.Core.Path.{_≡_}
-use native.Mathlib.Omega.{arith}
 use borrow.Author.Needs.{needs}
 use lib.ListN.{length, drop}
 use Rattle.base_slices.proofs.Tails as Tails
@@ -19,9 +18,6 @@ module _ (t : ℕ) where
 
   abbrev read-start : lts.After-read-message (read-guarded-claims t) (read-guarded-at t) reads.Post → lts.Start (read-guarded-claims t) (read-guarded-at t) reads.Post
   read-start c = lent-start (c .before .before)
-
-  abbrev refused-read : lts.After-vacant (read-guarded-claims t) (read-guarded-at t) reads.Post → lts.After-read-message (read-guarded-claims t) (read-guarded-at t) reads.Post
-  refused-read c = c .before .before .before
 
   abbrev told-read : lts.After-known-told (read-guarded-claims t) (read-guarded-at t) reads.Post → lts.After-read-message (read-guarded-claims t) (read-guarded-at t) reads.Post
   told-read c = c .before .before .before
@@ -46,9 +42,7 @@ module _ (t : ℕ) where
       (b .0, b .1, s .pre .1 .reads)
 
   pub returns : lts.Need-returns (read-guarded-claims t) (read-guarded-at t) reads.Post
-  returns c =
-      let a = read-start (refused-read c) .args in
-      guarded-refused (a .s .now) _ _ _ _ (a .table) _ (told (refused-read c)) _ _ _ (c .before .enum-told .given .1) (c .vacant .ensures) (a .kind)
+  returns c = search (needs, guarded-refused, told)
 
   pub read-body-requires : lts.Need-read-body-requires (read-guarded-claims t) (read-guarded-at t) reads.Post
   read-body-requires c κs =

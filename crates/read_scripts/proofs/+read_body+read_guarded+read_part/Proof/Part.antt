@@ -25,29 +25,20 @@ module _ (t : ℕ) where
   abbrev inside-receipt : lts.After-read-body-arg (read-part-claims t) (read-part-at t) reads.Post → lts.After-enum-told4 (read-part-claims t) (read-part-at t) reads.Post
   inside-receipt c = c .before .before .before
 
-  abbrev lent-output : lts.After-all2 (read-part-claims t) (read-part-at t) reads.Post → lts.After-enum-told5 (read-part-claims t) (read-part-at t) reads.Post
-  lent-output c = c .before .before .before
-
   abbrev pub lent-start : lts.After-all2 (read-part-claims t) (read-part-at t) reads.Post → lts.Start (read-part-claims t) (read-part-at t) reads.Post
-  lent-start c = lent-output c .before .before .before
+  lent-start c = c .before .before .before .before .before .before
 
-  abbrev read-lent : lts.After-read-message (read-part-claims t) (read-part-at t) reads.Post → lts.After-all2 (read-part-claims t) (read-part-at t) reads.Post
-  read-lent c = c .before .before
-
-  abbrev refused-read : lts.After-vacant (read-part-claims t) (read-part-at t) reads.Post → lts.After-read-message (read-part-claims t) (read-part-at t) reads.Post
-  refused-read c = c .before .before .before
-
-  abbrev output-read : lts.After-enter-part2 (read-part-claims t) (read-part-at t) reads.Post → lts.After-read-message (read-part-claims t) (read-part-at t) reads.Post
-  output-read c = c .before .before .before .before
+  abbrev read-start : lts.After-read-message (read-part-claims t) (read-part-at t) reads.Post → lts.Start (read-part-claims t) (read-part-at t) reads.Post
+  read-start c = lent-start (c .before .before)
 
   pub long : (s : lts.Start (read-part-claims t) (read-part-at t) reads.Post) → length (s .args .around .indices) ≡ 65
   long s = search needs
 
   -- what the message's reading answers, with the receipts around as the contract has them
-  told : (c : lts.After-read-message (read-part-claims t) (read-part-at t) reads.Post) → let a = lent-start (read-lent c) .args in c .read-message .result ≡ readOf (Tails.part (a .s .now) 1) (a .at + 1) (a .nest) (drop (a .around .first) (a .around .indices)) (suc (a .table .count))
+  told : (c : lts.After-read-message (read-part-claims t) (read-part-at t) reads.Post) → let a = read-start c .args in c .read-message .result ≡ readOf (Tails.part (a .s .now) 1) (a .at + 1) (a .nest) (drop (a .around .first) (a .around .indices)) (suc (a .table .count))
   told c =
-      let a = lent-start (read-lent c) .args in
-      lent (a .around .indices) (a .around .first) (Tails.part (a .s .now) 1) (a .at + 1) (a .nest) (suc (a .table .count)) _ (long (lent-start (read-lent c))) (c .read-message .ensures (suc (a .table .count)))
+      let a = read-start c .args in
+      lent (a .around .indices) (a .around .first) (Tails.part (a .s .now) 1) (a .at + 1) (a .nest) (suc (a .table .count)) _ (long (read-start c)) (c .read-message .ensures (suc (a .table .count)))
 
   pub with-receipt-requires : lts.Need-with-receipt-requires (read-part-claims t) (read-part-at t) reads.Post
   unfolding partFits
@@ -59,9 +50,7 @@ module _ (t : ℕ) where
       receipt-asks (receipt-start r .pre .1) (r .enum-told4 .given .1) _ _ t (search needs) (entered-next _ _ _ (receipt-start r .args .table) _ (c .before .enter-part .ensures)) (receipt-start r .pre .0)
 
   pub returns : lts.Need-returns (read-part-claims t) (read-part-at t) reads.Post
-  returns c =
-      let a = lent-start (read-lent (refused-read c)) .args in
-      rw (lent-output (read-lent (refused-read c)) .enum-told5 .given .1) (output-refused (a .s .now) _ _ _ _ (a .table) _ (told (refused-read c)) _ _ _ (c .before .enum-told6 .given .1) (c .vacant .ensures))
+  returns c = search (needs, output-refused, told)
 
   pub returns-2 : lts.Need-returns-2 (read-part-claims t) (read-part-at t) reads.Post
   unfolding partFrom scannedPart
@@ -80,11 +69,7 @@ module _ (t : ℕ) where
   returns-5 c = rw (c .before .enum-told3 .given .1) (c .read-guarded2 .ensures)
 
   pub returns-6 : lts.Need-returns-6 (read-part-claims t) (read-part-at t) reads.Post
-  returns-6 c =
-      let r = inside-receipt (c .before) in
-      rw (r .enum-told4 .given .1) (receipt-law (receipt-start r .args .s .now) _ _ _ _ _ _ _ _ (cc) (cc) (c .read-body .ensures))
+  returns-6 c = search (needs, receipt-law)
 
   pub returns-7 : lts.Need-returns-7 (read-part-claims t) (read-part-at t) reads.Post
-  returns-7 c =
-      let a = lent-start (read-lent (output-read c)) .args in
-      rw (lent-output (read-lent (output-read c)) .enum-told5 .given .1) (output-law (a .s .now) _ _ _ _ (a .table) _ (told (output-read c)) _ _ (cc) (c .enter-part2 .ensures))
+  returns-7 c = search (needs, output-law, told)
