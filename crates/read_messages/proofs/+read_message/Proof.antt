@@ -29,9 +29,6 @@ claims t = (ask-message-reads.Asked, ask-message-reads.Learnt, and 2 read-messag
 
 module _ (t : ℕ) where
   -- the way from a place to one before it
-  abbrev none-start : lts.Then1 (claims t) (read-message-at t) read-message.Post → lts.Start (claims t) (read-message-at t) read-message.Post
-  none-start c = c .before .before .before
-
   abbrev asked-start : lts.After-ask-message (claims t) (read-message-at t) read-message.Post → lts.Start (claims t) (read-message-at t) read-message.Post
   asked-start c = c .before .before .before .before .before
 
@@ -68,7 +65,7 @@ module _ (t : ℕ) where
   bounds c = first-bounds (two (read-left c .before)) 0 _ (read-left c .read-message2 .ensures 0) _ (c .left .given .1)
 
   returns : lts.Need-returns (claims t) (read-message-at t) read-message.Post
-  returns c number = let a = none-start c .args in read-none (a .s .now) (a .at) (a .nest) (a .around .now) number (c .if1 .taken)
+  returns c number = search (needs, read-none)
 
   returns-2 : lts.Need-returns-2 (claims t) (read-message-at t) read-message.Post
   returns-2 c number = two-refused (two (refused-left c .before)) number _ (refused-left c .read-message2 .ensures number) refl _ _ (c .enum-told4 .given .1)

@@ -57,9 +57,6 @@ module _ (t : ℕ) where
   abbrev enter-place : lts.After-read-rule-arg5 (claims t) (read-rule-at t) read-rule.Post → lts.After-enum-told6 (claims t) (read-rule-at t) read-rule.Post
   enter-place c = c .before .before
 
-  abbrev none-start : lts.After-refused (claims t) (read-rule-at t) read-rule.Post → lts.Start (claims t) (read-rule-at t) read-rule.Post
-  none-start c = c .before .before .before
-
   long : (s : lts.Start (claims t) (read-rule-at t) read-rule.Post) → length (s .args .somes .indices) ≡ 8
   long s = search needs
 
@@ -85,23 +82,23 @@ module _ (t : ℕ) where
         asks = start .pre .1;
       }
 
-  -- the same, in each arm
-  abbrev no : (c : lts.After-refused2 (claims t) (read-rule-at t) read-rule.Post) → First
+  -- the way to it in each arm
+  abbrev no : lts.After-refused2 (claims t) (read-rule-at t) read-rule.Post → First
   no c = asked-at (c .before .before .before .before) _ (c .before .before .a .given .1)
 
-  abbrev leaf : (c : lts.After-enum-told (claims t) (read-rule-at t) read-rule.Post) → First
+  abbrev leaf : lts.After-enum-told (claims t) (read-rule-at t) read-rule.Post → First
   leaf c = asked-at (c .before .before) Leaf (c .enum-told .given .1)
 
-  abbrev one : (c : lts.After-read-rule-arg (claims t) (read-rule-at t) read-rule.Post) → First
+  abbrev one : lts.After-read-rule-arg (claims t) (read-rule-at t) read-rule.Post → First
   one c = asked-at (c .before .before .before) One (c .before .enum-told2 .given .1)
 
-  abbrev two : (c : lts.After-read-rule-arg2 (claims t) (read-rule-at t) read-rule.Post) → First
+  abbrev two : lts.After-read-rule-arg2 (claims t) (read-rule-at t) read-rule.Post → First
   two c = asked-at (c .before .before .before) Two (c .before .enum-told3 .given .1)
 
-  abbrev choice : (c : lts.After-enum-told5 (claims t) (read-rule-at t) read-rule.Post) → First
+  abbrev choice : lts.After-enum-told5 (claims t) (read-rule-at t) read-rule.Post → First
   choice c = asked-at (c .before .before) Choice (c .enum-told5 .given .1)
 
-  abbrev place : (c : lts.After-enum-told6 (claims t) (read-rule-at t) read-rule.Post) → First
+  abbrev place : lts.After-enum-told6 (claims t) (read-rule-at t) read-rule.Post → First
   place c = asked-at (c .before .before) Place (c .enum-told6 .given .1)
 
   -- the first of two rules was read
@@ -150,7 +147,7 @@ pub +read-rule-spec : {M : Type 1} → statement M
     (read-rule-at t)
     read-rule.Post
     (λ c κs. search needs)
-    (λ c. c .refused .ensures ∙ read-none (none-start t c .args .s .now) _ _ _ _ (c .before .if1 .taken))
+    (λ c. c .refused .ensures ∙ search (needs, read-none))
     (λ c. search needs) (λ c. search needs) (λ c. search needs) (λ c. search needs)
     (λ c. omega (arith, long t (lent-start t c)))
     (ask-rule-requires t)
