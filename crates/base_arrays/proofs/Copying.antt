@@ -34,11 +34,28 @@ copied-next f i v r m C e j l = byTest (eqb j i)
     (λ t. rw (eqb-true j i t) (getD-set-same r i v 0 m ∙ e))
     (λ t. getD-set-other r i j v 0 (eqb-false j i t) ∙ C j (omega (arith, eqb-false j i t)))
 
+-- a loop that fills r: the first i of its n are those of f
+pub record Filling (f : ℕ → ℕ) (n i : ℕ) (r : List ℕ) : Type 0 where
+  pub within : i ≤ n
+  pub kept : length r ≡ n
+  pub copied : Copied f i r
+
+pub filling-none : (f : ℕ → ℕ) (n : ℕ) (r : List ℕ) → length r ≡ n → Filling f n 0 r
+filling-none f n r e = record { within = omega arith; kept = e; copied = λ j m. absurd (let z : ⊥ = omega arith in z) }
+
+pub filling-next : (f : ℕ → ℕ) (n i v : ℕ) (r : List ℕ) → Filling f n i r → i < n → v ≡ f i → Filling f n (i + 1) (set r i v)
+filling-next f n i v r F l e =
+    let d = F .kept in
+    record { within = omega arith; kept = length-set r i v ∙ d; copied = copied-next f i v r (omega arith) (F .copied) e }
+
 pub stretch-is : (at n : ℕ) (l r : List ℕ) → length r ≡ n → Copied (λ j. getD l (at + j) 0) n r → r ≡ stretch at n l
 stretch-is at n l r e C = ext-getD 0 r (stretch at n l) (e ∙ sym (length-stretch at n l)) (λ j m. C j (omega (arith, e)) ∙ sym (getD-stretch at n j l (omega (arith, e))))
 
-pub copy-is : (l r : List ℕ) (n : ℕ) → length r ≡ n → length l ≡ n → Copied (λ j. getD l j 0) n r → r ≡ l
-copy-is l r n e d C = ext-getD 0 r l (e ∙ sym d) (λ j m. C j (omega (arith, e)))
+pub stretch-filled : (at n i : ℕ) (l r : List ℕ) → Filling (λ j. getD l (at + j) 0) n i r → length r ≤ i → r ≡ stretch at n l
+stretch-filled at n i l r F h = let d = F .kept in stretch-is at n l r d (λ j m. F .copied j (omega arith))
+
+pub copy-filled : (f : ℕ → ℕ) (l r : List ℕ) (n i : ℕ) → Filling f n i r → n ≤ i → length l ≡ n → ((j : ℕ) → j < n → f j ≡ getD l j 0) → r ≡ l
+copy-filled f l r n i F h d same = let e = F .kept in ext-getD 0 r l (e ∙ sym d) (λ j m. F .copied j (omega arith) ∙ same j (omega arith))
 
 -- ---- into one
 
@@ -59,6 +76,17 @@ putting-next at i v from before after m P e = record {
   below = λ j l. getD-set-other after (at + i) j v 0 (λ q. let z : ⊥ = omega arith in z) ∙ P .below j l;
   beyond = λ j l. getD-set-other after (at + i) j v 0 (λ q. let z : ⊥ = omega arith in z) ∙ P .beyond j (omega arith);
 }
+
+-- a loop that puts them into an array of n
+pub record PuttingIn (n at i : ℕ) (from before after : List ℕ) : Type 0 where
+  pub within : i ≤ length from
+  pub kept : length after ≡ n
+  pub puts : Putting at i from before after
+
+pub putting-in-next : (n at i : ℕ) (from before after : List ℕ) → at + length from ≤ n → i < length from → PuttingIn n at i from before after → PuttingIn n at (i + 1) from before (set after (at + i) (getD from i 0))
+putting-in-next n at i from before after h l P =
+    let d = P .kept in
+    record { within = omega arith; kept = length-set after _ _ ∙ d; puts = putting-next at i _ from before after (omega arith) (P .puts) refl }
 
 pub put-all : (at i : ℕ) (from before after : List ℕ) → i ≡ length from → Putting at i from before after → Put at from before after
 put-all at i from before after e P = record { here = λ j m. P .here j (omega arith); below = P .below; beyond = λ j m. P .beyond j (omega arith) }

@@ -1,5 +1,5 @@
 -- Laws of the first word of a message: what it begins, and where it is bound. Assumes nothing.
-use Prim.Native.Nat.{ℕ, _≤_, _<_}
+use Prim.Native.Nat.{ℕ, _+_, _≤_, _<_}
 use mathlib.Core.List.{List, [], _∷_}
 use mathlib.Core.Path.{_≡_, refl}
 use native.Mathlib.Omega.{arith}
@@ -8,6 +8,7 @@ use Rattle.read_messages.specs.ReadMessage.{messageWord}
 use Rattle.read_messages.specs.declared.MessageWord.{MessageWord}
 use Rattle.read_messages.specs.declared.MessageWord.the-variants.{Name, Variable, Enter, Exit, Open, Empty, Path, Unfit}
 use Rattle.engine_message_words.specs.Words.{place, firstWord, shapeOf, arityOf, boundAt}
+use Rattle.engine_message_words.specs.declared.Shape.{Shape}
 use Rattle.engine_message_words.proofs.Variables.{place-within}
 
 pub first-none : (l : List ℕ) → length l ≡ 0 → Empty ≡ firstWord l
@@ -30,6 +31,9 @@ arity-small Open = omega arith
 arity-small Empty = omega arith
 arity-small Path = omega arith
 arity-small Unfit = omega arith
+
+pub shape-small : (m : MessageWord) (s : Shape) → s ≡ shapeOf m → s .closed + s .opened ≤ 2
+shape-small m s e = rw e (arity-small m)
 
 pub items-small : (m : MessageWord) → shapeOf m .items ≤ 1
 unfolding shapeOf

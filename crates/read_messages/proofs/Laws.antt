@@ -224,6 +224,13 @@ module _ (x : First) where
       let m : MessageWord = messageWord (getD (x .words) 0 0) in
       subst (Level (x .nest)) (sym (x .answers) ∙ e) (level-told (x .nest) (wordFits m) (bound (x .around) m) (leb (x .nest) 64) (follow m) refl)
 
+  -- what stands behind the first word may be read, and is less
+  pub shorter : (t : ℕ) → length (x .words) ≡ t → x .nest ≤ 64 → x .at + length (x .words) ≤ 1024 → (length (part (x .words) 1) < t) × ((x .at + 1 + length (part (x .words) 1) ≤ 1024) × (x .nest + 1 ≤ 65))
+  shorter t e n h =
+      let l = length-part (x .words) 1 in
+      let s = x .some in
+      (omega arith, (omega arith, omega arith))
+
   module _ (number : ℕ) where
     -- the cursor at the first word, and the one behind it
     abbrev here : Cursor

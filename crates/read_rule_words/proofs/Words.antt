@@ -105,20 +105,7 @@ module _ (around : ℕ) (somes : List ℕ) (w : ℕ) where
       let e : w / 268435456 ≡ suc (suc (suc (suc (suc (suc (suc (suc (suc (suc (w / 268435456 - 10)))))))))) = omega arith in
       word-asked _ e
 
--- names 1 to 255 fit
-pub name-fits : (n : ℕ) → (n ≡ 0 → ⊥) → n ≤ 255 → nameFits n ≡ true
-unfolding nameFits
-name-fits n z h = rw (le-leb 1 n (omega arith), le-leb n 255 h)
-
-pub name-none : (n : ℕ) → n ≡ 0 → nameFits n ≡ false
-unfolding nameFits
-name-none n z = rw z
-
-pub name-large : (n : ℕ) → 255 < n → nameFits n ≡ false
-unfolding nameFits
-name-large n h = rw (le-leb 1 n (omega arith), lt-leb n 255 h)
-
--- Questions 8, 9 and 10 of a word of AT or PLACED, n being its operand, by the term that it says.
+-- Questions 8, 9 and 10 of a word of AT or PLACED, n being its operand, by the term t that it says.
 module _ (around : ℕ) (somes : List ℕ) (n : ℕ) (a : Asked) where
   constant-asked : (m : ℕ) → Constant m ≡ termWord (termOf n) → cond (nameFits m) (levelled around (length somes) a) (No 8) ≡ askedTerm around somes n a
   unfolding termWord termOf termBound askedTerm
@@ -129,12 +116,6 @@ module _ (around : ℕ) (somes : List ℕ) (n : ℕ) (a : Asked) where
       told false t true f = let z : m ≡ n = cc (e ∙ (let y : termWord (termOf n) ≡ Constant n = rw t in y)) in rw (z, t, f)
       told false t false f = let z : m ≡ n = cc (e ∙ (let y : termWord (termOf n) ≡ Constant n = rw t in y)) in rw (z, t, f)
 
-  pub term-unfit : (m : ℕ) → Constant m ≡ termWord (termOf n) → nameFits m ≡ false → No 8 ≡ askedTerm around somes n a
-  term-unfit m e f = rw (← constant-asked m e, f)
-
-  pub term-fits : (m : ℕ) → Constant m ≡ termWord (termOf n) → nameFits m ≡ true → levelled around (length somes) a ≡ askedTerm around somes n a
-  term-fits m e f = rw (← constant-asked m e, f)
-
   chosen-asked : (i : ℕ) → Chosen i ≡ termWord (termOf n) → cond (member i somes) (levelled around (length somes) a) (No 9) ≡ askedTerm around somes n a
   unfolding termWord termOf termBound askedTerm
   chosen-asked i e = told (isChosen n) refl (nameFits n) refl
@@ -144,11 +125,28 @@ module _ (around : ℕ) (somes : List ℕ) (n : ℕ) (a : Asked) where
       told true t false f = let z : i ≡ n - 134217728 = cc (e ∙ (let y : termWord (termOf n) ≡ Chosen (n - 134217728) = rw t in y)) in rw (z, t, f)
       told false t d f = constant≢chosen n i (sym (e ∙ rw t))
 
-  pub term-around : (i : ℕ) → Chosen i ≡ termWord (termOf n) → member i somes ≡ true → levelled around (length somes) a ≡ askedTerm around somes n a
-  term-around i e f = rw (← chosen-asked i e, f)
+  module _ (t : RuleTerm) (e : t ≡ termWord (termOf n)) where
+    -- a name: those from 1 to 255 fit
+    module _ (m : ℕ) (d : t ≡ Constant m) where
+      pub term-none : m ≡ 0 → No 8 ≡ askedTerm around somes n a
+      unfolding nameFits
+      term-none z = rw (← constant-asked m (sym d ∙ e), z)
 
-  pub term-free : (i : ℕ) → Chosen i ≡ termWord (termOf n) → member i somes ≡ false → No 9 ≡ askedTerm around somes n a
-  term-free i e f = rw (← chosen-asked i e, f)
+      pub term-large : 255 < m → No 8 ≡ askedTerm around somes n a
+      unfolding nameFits
+      term-large h = rw (← constant-asked m (sym d ∙ e), le-leb 1 m (omega arith), lt-leb m 255 h)
+
+      pub term-fits : (r : Asked) → (m ≡ 0 → ⊥) → m ≤ 255 → r ≡ levelled around (length somes) a → r ≡ askedTerm around somes n a
+      unfolding nameFits
+      term-fits r z h l = rw (← constant-asked m (sym d ∙ e), le-leb 1 m (omega arith), le-leb m 255 h) l
+
+    -- a variable, of which the SOMEs around were asked
+    module _ (i : ℕ) (b : Bool) (d : t ≡ Chosen i) (h : b ≡ member i somes) where
+      pub term-around : (r : Asked) → b ≡ true → r ≡ levelled around (length somes) a → r ≡ askedTerm around somes n a
+      term-around r f l = rw (← chosen-asked i (sym d ∙ e), ← h, f) l
+
+      pub term-free : b ≡ false → No 9 ≡ askedTerm around somes n a
+      term-free f = rw (← chosen-asked i (sym d ∙ e), ← h, f)
 
 -- The greatest name, read from the end: none behind the end, and with the word before i in front.
 pub greatest-end : (l : List ℕ) → greatestRuleName (drop (length l) l) ≡ 0
@@ -156,6 +154,13 @@ unfolding greatestRuleName
 greatest-end [] = refl
 greatest-end (w ∷ l) = greatest-end l
 
-pub greatest-more : (l : List ℕ) (i g r : ℕ) → 0 < i → i ≤ length l → g ≡ greatestRuleName (drop i l) → r ≡ max (ruleName (getD l (i - 1) 0)) g → r ≡ greatestRuleName (drop (i - 1) l)
-unfolding greatestRuleName
-greatest-more l i g r h k e f = rw (before l i h k, ← e) f
+module _ (l : List ℕ) (i g n : ℕ) (h : 0 < i) (k : i ≤ length l) (e : g ≡ greatestRuleName (drop i l)) (d : n ≡ ruleName (getD l (i - 1) 0)) where
+  greatest-of : (r : ℕ) → r ≡ max n g → r ≡ greatestRuleName (drop (i - 1) l)
+  unfolding greatestRuleName
+  greatest-of r f = rw (before l i h k, ← e, ← d) f
+
+  pub greatest-more : g < n → n ≡ greatestRuleName (drop (i - 1) l)
+  greatest-more m = greatest-of n (omega arith)
+
+  pub greatest-kept : n ≤ g → g ≡ greatestRuleName (drop (i - 1) l)
+  greatest-kept m = greatest-of g (omega arith)

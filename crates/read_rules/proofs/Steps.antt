@@ -13,11 +13,11 @@ use Rattle.read_messages.specs.Words.{operand}
 use Rattle.read_messages.specs.Reading.{Cursor, cursor, Reading, refuse, got}
 use Rattle.read_messages.specs.declared.Outcome.the-variants.{Read, Refused}
 use Rattle.read_messages.proofs.Readings.{placed, read≢refused}
-use Rattle.base_slices.proofs.Tails.{no-element, first, part, part-drop}
+use Rattle.base_slices.proofs.Tails.{no-element, first, part, part-drop, length-part}
 use Rattle.read_rule_words.specs.Rule.{Rule}
 use Rattle.read_rule_words.specs.ReadRule.{RuleKind, TRUE, NOT, OR, VOID, AT, BESIDE, SOME, SOMETIME, SOMEWHERE, PLACED, OTHER, ruleKind, operandFits, bound, somesWith, Reader, readRule}
 use Rattle.read_rule_words.specs.RuleWords.{follow, levelled, asked}
-use Rattle.read_rules.specs.RuleTable.{refusedAt, turned, entered, tabulate, scanned}
+use Rattle.read_rules.specs.RuleTable.{refusedAt, turned, entered, tabulate, scanned, Readable}
 use Rattle.read_rules.specs.declared.RuleTable.{RuleTable}
 use Rattle.read_rules.specs.declared.RuleScan.{RuleScan}
 use Rattle.read_rule_words.specs.declared.Asked.{Asked}
@@ -84,16 +84,20 @@ level-told around m k true true true e =
     let h = and-eq-true-iff (leb around 64) (leb (somesWith k m) 8) .0 e in
     level-kind around m k (leb-true around 64 (h .0)) (leb-true (somesWith k m) 8 (h .1))
 
--- The laws as the code meets them: where the questions 8, 9 and 10 were asked of the first word, and what they said.
+-- The laws as the code meets them: where the questions 8, 9 and 10 were asked of the first word, and what they said. The SOMEs
+-- around stand in an array of 8 from `first` on.
 pub record First : Type 0 where
   pub words : List ℕ
   pub at : ℕ
   pub around : ℕ
+  pub first : ℕ
   pub somes : List ℕ
   pub table : RuleTable
   pub answer : Asked
   pub answers : answer ≡ asked around somes (ruleKind (getD words 0 0)) (operand (getD words 0 0))
   pub some : 0 < length words
+  pub free : first + length somes ≡ 8
+  pub asks : Readable words at around first (table .count)
 
 module _ (x : First) where
   pub level : (b : Asked) → x .answer ≡ b → Level (x .around) (length (x .somes)) b
@@ -102,6 +106,12 @@ module _ (x : First) where
       let w : ℕ = getD (x .words) 0 0 in
       subst (Level (x .around) (length (x .somes))) (sym (x .answers) ∙ e)
       (level-told (x .around) (length (x .somes)) (ruleKind w) (operandFits (ruleKind w) (operand w)) (bound (x .somes) (ruleKind w) (operand w)) _ refl)
+
+  -- what stands behind the first word may be read there, with the SOMEs from f on, and is less
+  pub behind : (t f n : ℕ) → length (x .words) ≡ t → x .around ≤ 64 → f ≤ 8 → n ≤ x .at + 1 → (length (part (x .words) 1) < t) × Readable (part (x .words) 1) (x .at + 1) (x .around + 1) f n
+  behind t f n e a b h =
+      let l = length-part (x .words) 1 in
+      (omega (arith, x .some), record { few = omega (arith, x .some, x .asks); shallow = omega arith; somes = b; fewer = h })
 
   -- the cursor behind the first word, and what reads there
   abbrev second : Cursor

@@ -1,6 +1,6 @@
 -- The rule table and the words hold the rule that is read: what is written at a rule's own words stays, whatever is read
 -- behind them. Assumes nothing.
-use Prim.Native.Nat.{ℕ, suc, _+_, _-_, _≤_, _<_}
+use Prim.Native.Nat.{ℕ, suc, _+_, _≤_, _<_}
 use mathlib.Core.Bool.{_&&_, and-eq-true-iff}
 use mathlib.Core.List.{List, [], _∷_}
 use mathlib.Core.Path.{_≡_, refl, sym, ap, _∙_, subst}
@@ -16,7 +16,7 @@ use Rattle.read_messages.proofs.Readings.{bind-all, got-all, ask-inv, Stands, s
 use Rattle.read_rule_words.specs.Rule.{Rule, truth, negation, either, void, at, beside, some-name, sometime, somewhere, placed, ruleIndex}
 use Rattle.read_rule_words.specs.ReadRule.{termOf, readRule, readWholeRule}
 use Rattle.read_rules.specs.RuleTable.{vacant, turned, entered, tabulate, scanned}
-use Rattle.read_rules.specs.Ruled.{Worded, Said, Ruled, Tabled}
+use Rattle.read_rules.specs.Ruled.{Worded, Said, Ruled, Tabled, Answers}
 use Rattle.read_rules.specs.declared.RuleTable.{RuleTable}
 use Rattle.read_rules.specs.declared.RuleScan.{RuleScan}
 use Rattle.read_rule_words.proofs.Cases.{Cases, Operand, rule-case}
@@ -201,10 +201,9 @@ rule-tabled n ws =
     (whole-tabled ws (leb-true (length ws) 256 (and-eq-true-iff (leb 1 (length ws)) (leb (length ws) 256) .0 (ask-inv 7 0 _ u e₇) .1)) n q e (leb-true (n + q .1 .number) 64 (ask-inv 12 0 _ v e₁₂)))))))
 
 -- what the reader answers, and so what its table holds
-abbrev pub Answers : ℕ → List ℕ → RuleScan → Type 0
-Answers n ws r = (r ≡ scanned vacant (readWholeRule n ws)) × ((p : Rule × Cursor) → readWholeRule n ws ≡ got p → Tabled n ws (r .table) p)
-
 pub answers : (n : ℕ) (ws : List ℕ) (r : RuleScan) → r ≡ scanned vacant (readWholeRule n ws) → Answers n ws r
 unfolding scanned
-answers n ws r e =
-    (e, λ p d. subst (λ (t : RuleTable). Tabled n ws t p) (sym (ap (λ (x : RuleScan). x .table) (e ∙ ap (scanned vacant) d))) (rule-tabled n ws p d))
+answers n ws r e = record {
+  answer = e;
+  table = λ p d. subst (λ (t : RuleTable). Tabled n ws t p) (sym (ap (λ (x : RuleScan). x .table) (e ∙ ap (scanned vacant) d))) (rule-tabled n ws p d);
+}

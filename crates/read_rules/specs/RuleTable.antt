@@ -1,7 +1,8 @@
 -- What the readers of rules answer, and the rule table that they fill, as a function of the rule that the words are read as.
 -- Assumes nothing: these are definitions.
-use Prim.Native.Nat.{ℕ, _+_}
-use lib.ListN.{set, replicate}
+use Prim.Native.Nat.{ℕ, _+_, _≤_}
+use mathlib.Core.List.{List}
+use lib.ListN.{length, set, replicate}
 use Rattle.read_messages.specs.Reading.{Cursor, Reading, refuse, got}
 use Rattle.read_messages.specs.declared.Outcome.the-variants.{Read, Refused}
 use Rattle.read_rule_words.specs.Rule.{Rule, truth, negation, either, void, at, beside, some-name, sometime, somewhere, placed, ruleIndex}
@@ -40,6 +41,18 @@ refusedAt q i = record { outcome = Refused q i; table = vacant }
 unfoldable pub scanned : RuleTable → Reading (Rule × Cursor) → RuleScan
 scanned t (refuse q i) = refusedAt q i
 scanned t (got p) = record { outcome = Read (p .1 .index); table = tabulate (p .0) t }
+
+-- what the reader of rules is called with: the words, the first of which has the index `at`, so many rules around them, the
+-- index from which on the array has the SOMEs around, and so many PLACED words before
+pub record Readable (words : List ℕ) (at around first count : ℕ) : Type 0 where
+  -- a rule has at most 256 words
+  pub few : at + length words ≤ 256
+  -- question 10 lets in at most 64 rules around a word, and is still to ask
+  pub shallow : around ≤ 65
+  -- the SOMEs around stand in an array of 8
+  pub somes : first ≤ 8
+  -- the PLACED words are among the words
+  pub fewer : count ≤ at
 
 -- To unfold this is to unfold every definition of this module: for a proof by computation.
 unfoldable pub computing : Unit {0}

@@ -6,10 +6,12 @@ use mathlib.Core.List.{List, [], _∷_}
 use mathlib.Core.Path.{_≡_}
 use lib.ListN.{getD, length}
 use Rattle.read_messages.specs.Words.{kind, operand, nameFits}
-use Rattle.read_messages.specs.Reading.{Cursor}
+use Rattle.read_messages.specs.Reading.{Cursor, got}
 use Rattle.read_rule_words.specs.Rule.{Term, Rule, truth, negation, either, void, at, beside, some-name, sometime, somewhere, placed, ruleIndex}
-use Rattle.read_rule_words.specs.ReadRule.{isChosen, termOf, termBound}
+use Rattle.read_rule_words.specs.ReadRule.{isChosen, termOf, termBound, readWholeRule}
+use Rattle.read_rules.specs.RuleTable.{vacant, scanned}
 use Rattle.read_rules.specs.declared.RuleTable.{RuleTable}
+use Rattle.read_rules.specs.declared.RuleScan.{RuleScan}
 
 module _ (words : List ℕ) where
   -- "a word's top 4 bits are its kind": the word at the index i has the kind k
@@ -45,3 +47,10 @@ pub record Tabled (n : ℕ) (words : List ℕ) (t : RuleTable) (p : Rule × Curs
   pub counted : t .count ≡ p .1 .number
   pub first : ruleIndex (p .0) ≡ 0
   pub ruled : Ruled words t [] (p .0)
+
+-- what the reader of the whole rule answers, beside a script of n parts
+pub record Answers (n : ℕ) (words : List ℕ) (r : RuleScan) : Type 0 where
+  -- the outcome and the table are those of the definition
+  pub answer : r ≡ scanned vacant (readWholeRule n words)
+  -- the table of a rule that is accepted, and the words, hold that rule
+  pub table : (p : Rule × Cursor) → readWholeRule n words ≡ got p → Tabled n words (r .table) p

@@ -4,14 +4,13 @@ use read_messages::Outcome;
 use read_rule_words::Asked;
 use read_rule_words::ask_rule;
 ghost use mathlib.Core.Path.{_≡_};
-ghost use mathlib.Core.List.{_∷_};
-ghost use Prim.Native.Nat.{_+_, _≤_, _<_};
+ghost use Prim.Native.Nat.{_≤_, _<_};
 ghost use lib.ListN.{length, drop};
-ghost use Rattle.read_messages.specs.Reading.{Cursor, cursor, got};
-ghost use Rattle.read_rule_words.specs.Rule.{Rule};
-ghost use Rattle.read_rule_words.specs.ReadRule.{readRule, readWholeRule};
-ghost use Rattle.read_rules.specs.RuleTable.{vacant, refusedAt, turned, entered, scanned};
-ghost use Rattle.read_rules.specs.Ruled.{Tabled};
+ghost use Rattle.base_slices.specs.Fronts.{Fronted};
+ghost use Rattle.read_messages.specs.Reading.{cursor};
+ghost use Rattle.read_rule_words.specs.ReadRule.{readRule};
+ghost use Rattle.read_rules.specs.RuleTable.{vacant, refusedAt, turned, entered, scanned, Readable};
+ghost use Rattle.read_rules.specs.Ruled.{Answers};
 
 // The rule's words by index: of an OR or BESIDE where its right rule starts, of a PLACED its place among the PLACED words.
 // count is the number of PLACED words.
@@ -80,7 +79,7 @@ fn enter(table: RuleTable, at: usize) -> RuleTable
 // The SOMEs around the rule of the SOME at the index at.
 fn with_some(somes: Somes, at: u16) -> Somes
     requires { ⌜ (0 < somes .first) × (somes .first ≤ 8) ⌝ }
-    ensures { λ r. ⌜ (r .first + 1 ≡ somes .first) × (drop (r .first) (r .indices) ≡ at ∷ drop (somes .first) (somes .indices)) ⌝ }
+    ensures { λ r. ⌜ Fronted at (somes .first) (somes .indices) (r .first) (r .indices) ⌝ }
 {
     let first = somes.first - 1;
     let mut inner = somes;
@@ -91,7 +90,7 @@ fn with_some(somes: Somes, at: u16) -> Somes
 
 // The rule at the front of s, the words from index at on, with so many rules around it.
 fn read_rule(s: &[u32], at: usize, around: usize, somes: Somes, table: RuleTable) -> RuleScan
-    requires { ⌜ (at + length (now s) ≤ 256) × (around ≤ 65) × (somes .first ≤ 8) × (table .count ≤ at) ⌝ }
+    requires { ⌜ Readable (now s) at around (somes .first) (table .count) ⌝ }
     ensures { λ r. ⌜ r ≡ scanned table (readRule (length (now (s .entry))) around (drop (somes .first) (somes .indices)) (cursor at (table .count) (now (s .entry)))) ⌝ }
 {
     if s.len() == 0 {
@@ -130,8 +129,7 @@ fn read_rule(s: &[u32], at: usize, around: usize, somes: Somes, table: RuleTable
 
 // The whole rule beside a script of so many parts: questions 7 to 12.
 pub fn read_whole_rule(rule: &[u32], parts: usize) -> RuleScan
-    ensures answer { λ r. ⌜ r ≡ scanned vacant (readWholeRule parts (now (rule .entry))) ⌝ }
-    ensures table { λ r. ⌜ ((p : Rule × Cursor) → readWholeRule parts (now (rule .entry)) ≡ got p → Tabled parts (now (rule .entry)) (r .table) p) ⌝ }
+    ensures { λ r. ⌜ Answers parts (now (rule .entry)) r ⌝ }
 {
     let n = rule.len();
     if n == 0 {

@@ -1,6 +1,6 @@
 -- The recurrences of the readers of bodies and parts, and of the table that they fill, as the code meets them.
 -- Assumes nothing.
-use Prim.Native.Nat.{ℕ, zero, suc, _+_, _-_, _≤_, _<_}
+use Prim.Native.Nat.{ℕ, zero, suc, _+_, _-_, _*_, _≤_, _<_}
 use mathlib.Core.Bool.{Bool, true, false, cond}
 use mathlib.Core.List.{List, [], _∷_}
 use mathlib.Core.Logic.{⊎-elim}
@@ -18,12 +18,13 @@ use Rattle.read_messages.specs.Words.{kind, operand}
 use Rattle.read_messages.specs.Message.{Message}
 use Rattle.read_messages.specs.ReadMessage.{readMessage}
 use Rattle.read_messages.proofs.Readings.{bind-got, placed, outcome-read, read≢refused}
+use Rattle.base_slices.proofs.Tests.{byTest}
 use Rattle.base_slices.proofs.Tails.{part-drop, length-part}
 use Rattle.base_slices.proofs.Tails as Tails
 use Rattle.read_messages.proofs.Laws.{MessageRead, message-advances, readOf, read-bounds}
 use Rattle.read_scripts.specs.Tree.{Head, ambient, action, receipt, close, part, totalOver, parts, kindNumber}
 use Rattle.read_scripts.specs.Script.{Written, Script, partWord, partFits, guardedHead, guardedFrom, partFrom, orClose, readBody, askedPart}
-use Rattle.read_scripts.specs.Table.{entered, startBy, tabulate, refusedAt, vacant, scanned, scannedPart}
+use Rattle.read_scripts.specs.Table.{entered, startBy, tabulate, refusedAt, vacant, scanned, scannedPart, Readable, PartReadable, GuardedReadable}
 use Rattle.read_scripts.specs.declared.Table.{Table}
 use Rattle.read_scripts.specs.declared.Scan.{Scan}
 use Rattle.read_scripts.specs.declared.PartWord.{PartWord}
@@ -58,24 +59,28 @@ word-second w = second (eqb (operand w) 0) (eqb (kind w) 0) (eqb (kind w) 1) (eq
 -- a part word of deep nesting does not fit
 unfit : (p : PartWord) → partFits (cond (partFits p) (No 4) p) ≡ false
 unfolding partFits
-unfit Close = refl
-unfit Ambient = refl
-unfit Action = refl
-unfit Receipt = refl
-unfit Output = refl
-unfit (No q) = refl
+unfit p = byTest (partFits p) (λ e. rw e) (λ e. rw e e)
 
-pub asked-nest : (nest : ℕ) (p w : PartWord) → w ≡ askedPart nest p → partFits w ≡ true → nest ≤ 64
+asked-nest : (nest : ℕ) (p w : PartWord) → w ≡ askedPart nest p → partFits w ≡ true → nest ≤ 64
 unfolding askedPart
-asked-nest nest p w e f = told (leb nest 64) refl
-  where
-    told : (b : Bool) → leb nest 64 ≡ b → nest ≤ 64
-    told true d = leb-true nest 64 d
-    told false d =
-        let g : partFits (askedPart nest p) ≡ false = rw d (unfit p) in
-        let z : true ≡ false = sym f ∙ ap partFits e ∙ g in
-        let y : _≡_ {A = ℕ} 0 1 = cc in
-        absurd (omega arith)
+asked-nest nest p w e f = byTest (leb nest 64) (leb-true nest 64)
+    (λ d. let z : true ≡ false = sym f ∙ ap partFits e ∙ rw d (unfit p) in let y : _≡_ {A = ℕ} 0 1 = cc in absurd (omega arith))
+
+-- the first word of a part v that fits passed question 4
+pub passed : {w : PartWord} {s : List ℕ} {at nest f n : ℕ} → PartReadable w s at nest f n → (v : PartWord) → partFits v ≡ true → w ≡ v → nest ≤ 64
+passed r v h e = asked-nest _ _ v (sym e ∙ r .asked) h
+
+pub guarded-asks : {w : PartWord} {s : List ℕ} {at nest f n : ℕ} → PartReadable w s at nest f n → (v : PartWord) → partFits v ≡ true → w ≡ v → (k : ℕ) → 1 ≤ k → k ≤ 2 → GuardedReadable k s at nest f n
+guarded-asks r v h e k l m = record { reads = r .reads; some = r .some; nested = passed r v h e; least = l; most = m }
+
+-- what stands inside a receipt may be read, and is less
+pub receipt-asks : {w : PartWord} {s : List ℕ} {at nest f n : ℕ} → PartReadable w s at nest f n → w ≡ Receipt → (g m t : ℕ) → g + 1 ≡ f → m ≡ suc n → 3 * length s + 1 ≡ t
+    → (3 * length (Tails.part s 1) + 2 < t) × Readable (Tails.part s 1) (at + 1) (nest + 1) g m
+unfolding partFits
+receipt-asks {s = s} r e g m t d c l =
+    let b = length-part s 1 in
+    let k = passed r Receipt refl e in
+    (omega (arith, r .some), record { few = omega (arith, r .some, r .reads); shallow = omega arith; receipts = omega (arith, r .reads); room = omega (arith, r .reads); fewer = omega (arith, r .reads) })
 
 -- what is left of questions 2 and 4 once the code has asked them
 module _ (around : List ℕ) (message : Cursor → Reading (Message × Cursor)) (inside : List ℕ → Cursor → Reading (Script × Cursor))
@@ -230,6 +235,18 @@ module _ (s : List ℕ) (at nest : ℕ) (around : List ℕ) (owner : ℕ) (table
       front : w ≡ askedPart nest (partWord (getD (drop k s) 0 0))
       front = let z : k + 0 ≡ k = omega arith in e ∙ rw (getD-drop k s 0 0, z)
 
+      -- the part there may be read, and is less than what is left of the words
+      pub body-asks : {f : ℕ} → Readable s at nest f (table .count) → (u : ℕ) → 3 * length s + 2 ≡ u → (3 * length (Tails.part s k) + 1 < u) × PartReadable w (Tails.part s k) (at + k) nest f (t .count)
+      body-asks r u d =
+          let b = length-part s k in (
+            omega arith,
+            record {
+              reads = record { few = omega (arith, r); shallow = r .shallow; receipts = r .receipts; room = r .room; fewer = l .counted };
+              some = omega arith;
+              asked = let z : k + 0 ≡ k = omega arith in e ∙ rw (part-drop s k, getD-drop k s 0 0, z);
+            },
+          )
+
       pub body-closes : w ≡ Close → record { outcome = Read (at + k + 1); table = t } ≡ scanned owner table (bodyAt s at nest around (table .count))
       unfolding scanned tabulate
       body-closes c = sym (l .same ∙ ap (scanned owner t) (body-closed (drop k s) (at + k) nest around (t .count) left w front c))
@@ -304,21 +321,12 @@ guarded-start true m i = refl
 guarded-start false m i = refl
 
 module _ (s : List ℕ) (at nest : ℕ) (around : List ℕ) (owner : ℕ) (table : Table) where
-  -- a refusal of the word itself
-  pub part-unfit : (q : ℕ) → refusedAt q at ≡ scannedPart owner table (partAt (No q) s at nest around (table .count))
-  unfolding partFrom scannedPart
-  part-unfit q = refl
-
-  pub part-close : refusedAt 2 at ≡ scannedPart owner table (partAt Close s at nest around (table .count))
-  unfolding partFrom scannedPart
-  part-close = refl
-
   -- a receipt: its body, with one receipt more around
-  pub receipt-law : (a : List ℕ) (t : Table) (r : Scan) → a ≡ at ∷ around → t ≡ entered owner 3 at table → r ≡ scanned (table .count) t (bodyAt (Tails.part s 1) (at + 1) (nest + 1) a (t .count))
-      → r ≡ scannedPart owner table (partAt Receipt s at nest around (table .count))
+  pub receipt-law : (w : PartWord) (a : List ℕ) (t : Table) (r : Scan) → w ≡ Receipt → a ≡ at ∷ around → t ≡ entered owner 3 at table → r ≡ scanned (table .count) t (bodyAt (Tails.part s 1) (at + 1) (nest + 1) a (t .count))
+      → r ≡ scannedPart owner table (partAt w s at nest around (table .count))
   unfolding partFrom kindNumber
-  receipt-law a t r ea et er =
-      er ∙ rw (part-drop s 1, length-drop 1 s, ea, add-one nest)
+  receipt-law w a t r ew ea et er =
+      er ∙ rw (ew, part-drop s 1, length-drop 1 s, ea, add-one nest)
       (ap (λ (n : ℕ). scanned (table .count) t (readBody (length s - 1) (suc nest) (at ∷ around) (cursor (at + 1) n (drop 1 s)))) (entered-next owner 3 at table t et)
       ∙ rw et (sym (scanned-inside owner table at (receipt at) _)))
 
@@ -328,11 +336,27 @@ module _ (s : List ℕ) (at nest : ℕ) (around : List ℕ) (owner : ℕ) (table
         let b = read-bounds (Tails.part s 1) (at + 1) nest around (suc (table .count)) m n em d in
         (b .0, omega (arith, b .1, length-part s 1))
 
-    pub output-law : (n : ℕ) (t : Table) → m ≡ Read n → t ≡ entered owner 4 (at + 1) table → record { outcome = Read n; table = t } ≡ scannedPart owner table (partAt Output s at nest around (table .count))
+    -- the body behind the message may be read, and is less
+    pub guarded-inside : {kind f : ℕ} → GuardedReadable kind s at nest f (table .count) → (n : ℕ) → m ≡ Read n → (t : Table) → t ≡ entered owner kind (at + 1) table → (u : ℕ) → 3 * length s ≡ u
+        → (3 * length (Tails.part s (n - at)) + 2 < u) × Readable (Tails.part s (n - at)) n (nest + 1) f (t .count)
+    guarded-inside {kind} r n d t et u e =
+        let b = message-bounds (r .some) n d in
+        let l = length-part s (n - at) in (
+          omega (arith, b),
+          record {
+            few = omega (arith, b, r .reads);
+            shallow = omega (arith, r .nested);
+            receipts = r .reads .receipts;
+            room = omega (arith, r .reads);
+            fewer = omega (arith, b, r .reads, entered-next owner kind (at + 1) table t et);
+          },
+        )
+
+    pub output-law : (w : PartWord) (n : ℕ) (t : Table) → w ≡ Output → m ≡ Read n → t ≡ entered owner 4 (at + 1) table → record { outcome = Read n; table = t } ≡ scannedPart owner table (partAt w s at nest around (table .count))
     unfolding partFrom scannedPart tabulate kindNumber
-    output-law n t d et =
+    output-law w n t ew d et =
         let (p, ep, en) = outcome-read (messageAt s at nest around (table .count)) n (sym (message-told s at nest around (table .count) m em) ∙ d) in
-        rw (et, bind-got (messageAt s at nest around (table .count)) _ p ep, en)
+        rw (ew, et, bind-got (messageAt s at nest around (table .count)) _ p ep, en)
 
     module _ (q i : ℕ) (none : Table) (d : m ≡ Refused q i) (en : none ≡ vacant) where
       abbrev refusal : Scan
@@ -341,9 +365,9 @@ module _ (s : List ℕ) (at nest : ℕ) (around : List ℕ) (owner : ℕ) (table
       refusal-is : (k : Message × Cursor → Reading ((Written × Script) × Cursor)) → refusal ≡ scannedPart owner table (messageAt s at nest around (table .count) >>= k)
       refusal-is k = rw (d, en) (refused-message owner table (messageAt s at nest around (table .count)) k q i (sym (message-told s at nest around (table .count) m em) ∙ d))
 
-      pub output-refused : refusal ≡ scannedPart owner table (partAt Output s at nest around (table .count))
+      pub output-refused : (w : PartWord) → w ≡ Output → refusal ≡ scannedPart owner table (partAt w s at nest around (table .count))
       unfolding partFrom
-      output-refused = refusal-is _
+      output-refused w ew = rw ew (refusal-is _)
 
       pub guarded-refused : (kind : ℕ) → refusal ≡ scannedPart owner table (guardedAt kind s at nest around (table .count))
       guarded-refused kind = refusal-is _
@@ -367,7 +391,3 @@ module _ (s : List ℕ) (at nest : ℕ) (around : List ℕ) (owner : ℕ) (table
             ap (scanned (table .count) t)
             (body-fuel _ _ (suc nest) around (cursor n (t .count) (drop (n - at) s)) (omega arith) (omega (arith, a .ahead, en, length-drop (n - at) s))
             ∙ ap (λ (x : Cursor). readBody (length s - 1) (suc nest) around x) (sym (placed (p .1) n (t .count) (drop (n - at) s) en (a .number ∙ sym c) l)))
-
--- the first word of the words from k on
-pub asked-front : (s : List ℕ) (k nest : ℕ) (w : PartWord) → w ≡ askedPart nest (partWord (getD s k 0)) → w ≡ askedPart nest (partWord (getD (Tails.part s k) 0 0))
-asked-front s k nest w e = let z : k + 0 ≡ k = omega arith in e ∙ rw (part-drop s k, getD-drop k s 0 0, z)

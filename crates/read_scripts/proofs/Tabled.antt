@@ -21,7 +21,7 @@ use Rattle.read_messages.proofs.Readings.{bind-all, got-all, ask-inv}
 use Rattle.read_scripts.specs.Tree.{Body, close, part, tops, totalOver, parts, mapHeads, kindNumber}
 use Rattle.read_scripts.specs.Script.{Written, Script, readBody, readScript}
 use Rattle.read_scripts.specs.Table.{vacant, entered, startOf, tabulate, scanned}
-use Rattle.read_scripts.specs.Represents.{Numbered, Held, bodyIn, headAt, headIn, written, Placed, Low, Tabled}
+use Rattle.read_scripts.specs.Represents.{Numbered, Held, bodyIn, headAt, headIn, written, Placed, Low, Tabled, Answers}
 use Rattle.read_scripts.specs.declared.Table.{Table}
 use Rattle.read_scripts.specs.declared.Scan.{Scan}
 use Rattle.read_scripts.proofs.Laws.{body-advances, short}
@@ -317,10 +317,9 @@ script-number ws =
     (λ _ _. got-all CountsParts q (omega (arith, body-advances (length ws) 0 [] (cursor 0 0 ws) q e .numbers))))))
 
 -- what the reader answers, and so what its table holds
-abbrev pub Answers : List ℕ → Scan → Type 0
-Answers ws r = (r ≡ scanned 64 vacant (readScript ws)) × ((p : Script × Cursor) → readScript ws ≡ got p → Tabled ws (r .table) (p .0))
-
 pub answers : (ws : List ℕ) (r : Scan) → r ≡ scanned 64 vacant (readScript ws) → Answers ws r
 unfolding scanned
-answers ws r e =
-    (e, λ p d. subst (λ (t : Table). Tabled ws t (p .0)) (sym (ap (λ (x : Scan). x .table) (e ∙ ap (scanned 64 vacant) d))) (script-tabled ws p d))
+answers ws r e = record {
+  answer = e;
+  table = λ p d. subst (λ (t : Table). Tabled ws t (p .0)) (sym (ap (λ (x : Scan). x .table) (e ∙ ap (scanned 64 vacant) d))) (script-tabled ws p d);
+}

@@ -7,12 +7,14 @@ use mathlib.Core.Path.{_≡_}
 use lib.ListN.{getD, drop}
 use lib.Dec.{eqb}
 use Rattle.base_sets.specs.Sets.{members}
+use Rattle.read_messages.specs.Reading.{Cursor, got}
 use Rattle.read_messages.specs.Message.{Message}
 use Rattle.read_messages.specs.Spelling.{messageAt}
 use Rattle.read_scripts.specs.Tree.{Head, ambient, action, receipt, output, Body, close, part, kindNumber, tops, parts, mapHeads}
-use Rattle.read_scripts.specs.Script.{Script}
-use Rattle.read_scripts.specs.Table.{startOf}
+use Rattle.read_scripts.specs.Script.{Script, readScript}
+use Rattle.read_scripts.specs.Table.{startOf, vacant, scanned}
 use Rattle.read_scripts.specs.declared.Table.{Table}
+use Rattle.read_scripts.specs.declared.Scan.{Scan}
 
 -- "Parts (kinds 1 to 4) are numbered 0, 1, 2 in word order": from n on
 abbrev pub Numbered : {H : Type 0} → ℕ → Body H → Type 0
@@ -60,3 +62,10 @@ pub record Tabled (script : List ℕ) (t : Table) (b : Script) : Type 0 where
   pub top : bodyIn (t .kids) 64 ≡ tops b
   pub held : Held (bodyIn (t .kids)) (headIn script (t .kinds) (t .starts)) (written b)
   pub low : (i : ℕ) → getD (t .starts) i 0 ≤ 1024
+
+-- what the reader of the script answers
+pub record Answers (script : List ℕ) (r : Scan) : Type 0 where
+  -- the outcome and the table are those of the definition; the script's own body is number 64's
+  pub answer : r ≡ scanned 64 vacant (readScript script)
+  -- the table of a script that is accepted, and the words, hold its tree
+  pub table : (p : Script × Cursor) → readScript script ≡ got p → Tabled script (r .table) (p .0)

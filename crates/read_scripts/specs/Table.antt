@@ -1,15 +1,18 @@
 -- The part table that the reader fills, as a function of the tree that the words are read as.
 -- Assumes nothing: these are definitions.
-use Prim.Native.Nat.{ℕ, _+_}
+use Prim.Native.Nat.{ℕ, _+_, _≤_, _<_}
 use mathlib.Core.Bool.{cond}
-use lib.ListN.{getD, set, replicate}
+use mathlib.Core.List.{List}
+use mathlib.Core.Path.{_≡_}
+use lib.ListN.{length, getD, set, replicate}
 use lib.Dec.{ltb}
 use Rattle.base_sets.specs.Sets.{members, inserted, mask}
 use Rattle.read_messages.specs.Reading.{Cursor, Reading, refuse, got}
 use Rattle.read_messages.specs.Message.{Message}
 use Rattle.read_messages.specs.declared.Outcome.the-variants.{Read, Refused}
 use Rattle.read_scripts.specs.Tree.{Head, ambient, action, receipt, output, close, part, kindNumber}
-use Rattle.read_scripts.specs.Script.{Written, Script}
+use Rattle.read_scripts.specs.Script.{Written, Script, partWord, askedPart}
+use Rattle.read_scripts.specs.declared.PartWord.{PartWord}
 use Rattle.read_scripts.specs.declared.Table.{Table}
 use Rattle.read_scripts.specs.declared.Scan.{Scan}
 
@@ -57,3 +60,36 @@ scanned o t (got p) = record { outcome = Read (p .1 .index); table = tabulate o 
 unfoldable pub scannedPart : (owner : ℕ) → Table → Reading ((Written × Script) × Cursor) → Scan
 scannedPart o t (refuse q i) = refusedAt q i
 scannedPart o t (got p) = record { outcome = Read (p .1 .index); table = tabulate o (part (t .count) (p .0 .0) (p .0 .1) close) t }
+
+-- What the reader of a body is called with: the words, the first of which has the index `at`, their nesting, the index from
+-- which on the array has the receipts around, and how many parts stand before.
+pub record Readable (words : List ℕ) (at nest first count : ℕ) : Type 0 where
+  -- a script has at most 1,024 words
+  pub few : at + length words ≤ 1024
+  -- question 4 lets in a nesting of at most 64, and is still to ask
+  pub shallow : nest ≤ 65
+  -- the receipts around stand in an array of 65
+  pub receipts : first ≤ 65
+  -- there are no more of them than the nesting
+  pub room : 65 ≤ first + nest
+  -- the parts before are no more than the words before
+  pub fewer : count ≤ at
+
+-- the same for the reader of a part, with what its first word is
+pub record PartReadable (w : PartWord) (words : List ℕ) (at nest first count : ℕ) : Type 0 where
+  pub reads : Readable words at nest first count
+  -- there is a first word
+  pub some : 0 < length words
+  -- questions 2 and 4 were asked of it, and w is the answer
+  pub asked : w ≡ askedPart nest (partWord (getD words 0 0))
+
+-- the same for the reader of an ambient (kind 1) or an action (kind 2), whose first word passed question 4
+pub record GuardedReadable (kind : ℕ) (words : List ℕ) (at nest first count : ℕ) : Type 0 where
+  pub reads : Readable words at nest first count
+  -- there is a first word
+  pub some : 0 < length words
+  -- its nesting is at most 64
+  pub nested : nest ≤ 64
+  -- it is one of the two kinds
+  pub least : 1 ≤ kind
+  pub most : kind ≤ 2

@@ -2,14 +2,14 @@
 // document 01. It rests on the promises of messages and sets.
 use read_messages::Outcome;
 ghost use mathlib.Core.Path.{_≡_};
-ghost use mathlib.Core.List.{_∷_};
 ghost use Prim.Native.Nat.{suc, _+_, _-_, _≤_, _<_};
-ghost use lib.ListN.{length, drop, getD};
-ghost use Rattle.read_messages.specs.Reading.{Cursor, cursor, got};
+ghost use lib.ListN.{length, drop};
+ghost use Rattle.base_slices.specs.Fronts.{Fronted};
+ghost use Rattle.read_messages.specs.Reading.{cursor};
 ghost use Rattle.read_messages.specs.ReadMessage.{readMessage};
-ghost use Rattle.read_scripts.specs.Script.{Script, partWord, askedPart, guardedHead, guardedFrom, partFrom, readBody, readScript};
-ghost use Rattle.read_scripts.specs.Table.{vacant, refusedAt, entered, scanned, scannedPart};
-ghost use Rattle.read_scripts.specs.Represents.{Tabled};
+ghost use Rattle.read_scripts.specs.Script.{partWord, askedPart, guardedHead, guardedFrom, partFrom, readBody};
+ghost use Rattle.read_scripts.specs.Table.{vacant, refusedAt, entered, scanned, scannedPart, Readable, PartReadable, GuardedReadable};
+ghost use Rattle.read_scripts.specs.Represents.{Answers};
 ghost use Rattle.read_scripts.specs.Measures.{greatestName};
 
 // What a word is where a part is expected, or the number of the first question that it answers by no.
@@ -122,7 +122,7 @@ fn enter_part(table: Table, owner: usize, kind: u8, start: u32) -> Table
 // The receipts around the body of the receipt at the index at.
 fn with_receipt(around: Around, at: u16) -> Around
     requires { ⌜ (0 < around .first) × (around .first ≤ 65) ⌝ }
-    ensures { λ r. ⌜ (r .first + 1 ≡ around .first) × (drop (r .first) (r .indices) ≡ at ∷ drop (around .first) (around .indices)) ⌝ }
+    ensures { λ r. ⌜ Fronted at (around .first) (around .indices) (r .first) (r .indices) ⌝ }
 {
     let first = around.first - 1;
     let mut inner = around;
@@ -140,7 +140,7 @@ pub fn read_body(
     owner: usize,
     table: Table,
 ) -> Scan
-    requires { ⌜ (at + length (now s) ≤ 1024) × (nest ≤ 65) × (around .first ≤ 65) × (65 ≤ around .first + nest) × (table .count ≤ at) ⌝ }
+    requires { ⌜ Readable (now s) at nest (around .first) (table .count) ⌝ }
     ensures { λ r. ⌜ r ≡ scanned owner table (readBody (length (now (s .entry))) nest (drop (around .first) (around .indices)) (cursor at (table .count) (now (s .entry)))) ⌝ }
 {
     let mut k: usize = 0;
@@ -174,8 +174,7 @@ fn read_part(
     owner: usize,
     table: Table,
 ) -> Scan
-    requires { ⌜ (at + length (now s) ≤ 1024) × (nest ≤ 65) × (around .first ≤ 65) × (65 ≤ around .first + nest) × (table .count ≤ at) ⌝ }
-    requires { ⌜ (0 < length (now s)) × (w ≡ askedPart nest (partWord (getD (now s) 0 0))) ⌝ }
+    requires { ⌜ PartReadable w (now s) at nest (around .first) (table .count) ⌝ }
     ensures { λ r. ⌜ r ≡ scannedPart owner table (partFrom (readMessage (length (now (s .entry)) - 1) nest (drop (around .first) (around .indices))) (readBody (length (now (s .entry)) - 1) (suc nest)) (drop (around .first) (around .indices)) w at (cursor (at + 1) (suc (table .count)) (drop 1 (now (s .entry))))) ⌝ }
 {
     match w {
@@ -219,7 +218,7 @@ fn read_guarded(
     owner: usize,
     table: Table,
 ) -> Scan
-    requires { ⌜ (at + length (now s) ≤ 1024) × (nest ≤ 64) × (around .first ≤ 65) × (65 ≤ around .first + nest) × (table .count ≤ at) × (0 < length (now s)) × (1 ≤ kind) × (kind ≤ 2) ⌝ }
+    requires { ⌜ GuardedReadable kind (now s) at nest (around .first) (table .count) ⌝ }
     ensures { λ r. ⌜ r ≡ scannedPart owner table (guardedFrom (guardedHead kind) (readMessage (length (now (s .entry)) - 1) nest (drop (around .first) (around .indices))) (readBody (length (now (s .entry)) - 1) (suc nest)) (drop (around .first) (around .indices)) at (cursor (at + 1) (suc (table .count)) (drop 1 (now (s .entry))))) ⌝ }
 {
     let all = around.indices;
@@ -240,8 +239,7 @@ fn read_guarded(
 
 // The script: questions 1 to 6.
 pub fn read_script(s: &[u32]) -> Scan
-    ensures answer { λ r. ⌜ r ≡ scanned 64 vacant (readScript (now (s .entry))) ⌝ }
-    ensures table { λ r. ⌜ ((p : Script × Cursor) → readScript (now (s .entry)) ≡ got p → Tabled (now (s .entry)) (r .table) (p .0)) ⌝ }
+    ensures { λ r. ⌜ Answers (now (s .entry)) r ⌝ }
 {
     let n = s.len();
     if n == 0 {

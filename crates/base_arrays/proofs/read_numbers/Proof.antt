@@ -1,38 +1,33 @@
 -- `read_numbers` meets its contract: the first i are copied. Assumes nothing.
-use Prim.Native.Nat.{_+_, _≤_, _-_}
-use mathlib.Core.Path.{_≡_, refl, _∙_}
+use Prim.Native.Nat.{_+_, _-_}
+use mathlib.Core.Path.{refl}
 use native.Mathlib.Omega.{arith}
-use lib.ListN.{getD, length, length-set}
-use Rattle.base_arrays.proofs.Copying.{Copied, copied-next, stretch-is}
+use lib.ListN.{getD, length}
+use Rattle.base_arrays.proofs.Copying.{Filling, filling-none, filling-next, stretch-filled}
 use borrow.Author.Needs.{needs}
 use Rattle.base_arrays.proofs.read_numbers.Statement.{statement}
 use Rattle.base_arrays.proofs.read_numbers.Tie as tie
 
 abbrev Inv-loop : tie.InvT-loop
-Inv-loop from at to₀ i₀ to i = (i ≤ length to₀) × (length to ≡ length to₀) × Copied (λ j. getD from (at + j) 0) i to
+Inv-loop from at to₀ i₀ to i = Filling (λ j. getD from (at + j) 0) (length to₀) i to
 
 abbrev μ-loop : tie.MeasureT-loop
 μ-loop from at to₀ i₀ to i = length to₀ - i
 
+-- the way from a place to one before it
+abbrev in-loop : tie.After-shared-slice-known Inv-loop μ-loop → tie.At-loop Inv-loop μ-loop
+in-loop c = c .before .before
+
 loop-again : tie.Need-loop-again Inv-loop μ-loop
-loop-again c =
-    let at-loop = c .before .before in let l = at-loop .loop in
-    (omega (arith, c .before .loop-test .taken, l .inv .1), length-set (l .to) (l .i) _ ∙ l .inv .1, copied-next (λ j. getD (at-loop .before .args .from .now) (at-loop .before .args .at + j) 0) (l .i) _ (l .to) (c .before .loop-test .taken) (l .inv .2) refl)
+loop-again c = filling-next _ _ _ _ _ (in-loop c .loop .inv) (omega (arith, in-loop c .loop .inv)) refl
 
 returns : tie.Need-returns Inv-loop μ-loop
-returns c =
-    let start = c .before .before in let l = c .before .loop in
-    stretch-is (start .args .at) (length (start .args .to .now)) (start .args .from .now) (l .to) (l .inv .1) (λ j m. l .inv .2 j (omega (arith, c .loop-test .left, l .inv .1)))
+returns c = search (needs, stretch-filled)
 
 pub read-numbers-spec : {M : Type 1} → statement M
 read-numbers-spec =
     tie.close
     (tie.spec
-    Inv-loop
-    μ-loop
-    (λ c. (search needs, refl, λ j m. absurd (let z : ⊥ = omega arith in z)))
+    Inv-loop μ-loop (λ c. filling-none _ _ _ refl)
     (λ c. search needs) (λ c. search needs) (λ c. search needs) (λ c. search needs) (λ c. search needs)
-    (λ c. search needs) (λ c. search needs)
-    loop-again
-    (λ c. search needs)
-    returns)
+    (λ c. search needs) (λ c. search needs) loop-again (λ c. search needs) returns)

@@ -7,18 +7,11 @@ use Rattle.base_slices.proofs.sum.Tie as tie
 
 returns : tie.Need-returns
 unfolding capped
-returns c =
-    omega arith
+returns c = omega arith
 
 returns-2 : tie.Need-returns-2
 unfolding capped
-returns-2 c =
-    omega arith
+returns-2 c = omega arith
 
 pub sum-spec : {M : Type 1} → statement M
-sum-spec =
-    tie.close
-    (tie.spec
-    (λ c. search needs) (λ c. search needs)
-    returns
-    returns-2)
+sum-spec = tie.close (tie.spec (λ c. search needs) (λ c. search needs) returns returns-2)

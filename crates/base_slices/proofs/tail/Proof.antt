@@ -19,6 +19,4 @@ tail-spec =
     tie.close
     (tie.spec
     (λ c. search needs) (λ c. search needs) (λ c. search needs) (λ c. search needs) (λ c. search needs)
-    (λ c. search needs) (λ c. search needs) (λ c. search needs)
-    (λ c. part-drop (c .before .before .args .s .now) (c .before .before .args .at))
-    (λ c. past (c .before .before .args .s .now) (c .before .before .args .at) (c .before .if1 .left)))
+    (λ c. search needs) (λ c. search needs) (λ c. search needs) (λ c. search (needs, part-drop)) (λ c. search (needs, past)))

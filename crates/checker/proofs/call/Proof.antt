@@ -20,7 +20,7 @@ with-script-requires : tie.Need-with-script-requires
 with-script-requires c κs =
     let yes = c .before .enum-told .given in
     let r = c .before .before .before in
-    script-held (read-start r .args .script .now) (r .read-script .result) (r .read-script .ensures .0) (yes .0 .0) (yes .1) (r .read-script .ensures .1)
+    script-held (read-start r .args .script .now) (r .read-script .result) (r .read-script .ensures .answer) (yes .0 .0) (yes .1) (r .read-script .ensures .table)
 
 returns : tie.Need-returns
 returns c =
@@ -29,7 +29,7 @@ returns c =
     let s = read-start r in
     call-kept (lent s) (c .handed-up .result) (s .args .out .now)
     (c .handed-up .ensures (no .0 .0) (no .0 .1 .0) (s .args .out .now) (no .1)
-    ∙ sym (answers-script (lent s) (no .0 .0) (no .0 .1 .0) (script-refused (s .args .script .now) (r .read-script .result) (r .read-script .ensures .0) (no .0 .0) (no .0 .1 .0) (no .1))))
+    ∙ sym (answers-script (lent s) (no .0 .0) (no .0 .1 .0) (script-refused (s .args .script .now) (r .read-script .result) (r .read-script .ensures .answer) (no .0 .0) (no .0 .1 .0) (no .1))))
 
 returns-2 : tie.Need-returns-2
 returns-2 c =

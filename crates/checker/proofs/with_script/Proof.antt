@@ -14,7 +14,7 @@ with-rule-requires c κs =
     let yes = c .before .enum-told .given in
     let r = c .before .before .before in
     let s = read-start r in
-    (s .pre, rule-held (s .args .parts .count) (s .args .rule .now) (r .read-whole-rule .result) (r .read-whole-rule .ensures .0) (yes .0 .0) (yes .1) (r .read-whole-rule .ensures .1))
+    (s .pre, rule-held (s .args .parts .count) (s .args .rule .now) (r .read-whole-rule .result) (r .read-whole-rule .ensures .answer) (yes .0 .0) (yes .1) (r .read-whole-rule .ensures .table))
 
 returns : tie.Need-returns
 returns c =
@@ -22,7 +22,7 @@ returns c =
     let r = c .before .before .before in
     let s = read-start r in
     c .handed-up .ensures (no .0 .0) (no .0 .1 .0) (s .args .out .now) (no .1)
-    ∙ sym (says-rule (s .args .script .now) (s .args .moves .now) (s .args .rule .now) (s .args .patience) (s .args .out .now) (s .args .parts) (s .pre) (no .0 .0) (no .0 .1 .0) (rule-refused (s .args .parts .count) (s .args .rule .now) (r .read-whole-rule .result) (r .read-whole-rule .ensures .0) (no .0 .0) (no .0 .1 .0) (no .1)))
+    ∙ sym (says-rule (s .args .script .now) (s .args .moves .now) (s .args .rule .now) (s .args .patience) (s .args .out .now) (s .args .parts) (s .pre) (no .0 .0) (no .0 .1 .0) (rule-refused (s .args .parts .count) (s .args .rule .now) (r .read-whole-rule .result) (r .read-whole-rule .ensures .answer) (no .0 .0) (no .0 .1 .0) (no .1)))
 
 pub with-script-spec : {M : Type 1} → statement M
 with-script-spec =

@@ -1,7 +1,7 @@
 -- `engine_message_words::arity` meets its contract. Assumes nothing.
 use native.Mathlib.Omega.{arith}
 use borrow.Author.Needs.{needs}
-use Rattle.engine_message_words.proofs.FirstWords.{arity-small}
+use Rattle.engine_message_words.proofs.FirstWords.{shape-small}
 use Rattle.engine_message_words.proofs.arity.Statement.{statement}
 use Rattle.engine_message_words.proofs.arity.Tie as tie
 
@@ -10,5 +10,5 @@ arity-spec =
     tie.close
     (tie.spec
     (λ c κs. search needs)
-    (λ c. rw (c .before .shape-of .ensures) (let l = arity-small (c .before .before .args .m) in omega arith))
+    (λ c. omega (arith, shape-small _ _ (c .before .shape-of .ensures)))
     (λ c. rw (c .before .shape-of .ensures)))

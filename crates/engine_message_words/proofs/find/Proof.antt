@@ -13,24 +13,15 @@ abbrev μ-loop : tie.MeasureT-loop
 μ-loop variables v n i₀ i = n - i
 
 returns : tie.Need-returns Inv-loop μ-loop
-returns c =
-    let at-in-loop = c .before .before in
-    past-here _ _ _ (at-in-loop .before .loop .inv .1) (at-in-loop .loop-test .taken) (c .if1 .taken)
+returns c = search (needs, past-here)
 
 loop-again : tie.Need-loop-again Inv-loop μ-loop
-loop-again c =
-    let at-in-loop = c .before .before in
-    (omega (arith, at-in-loop .loop-test .taken), past-more _ _ _ (at-in-loop .before .loop .inv .1) (at-in-loop .loop-test .taken) (c .if1 .left))
+loop-again c = (search needs, search (needs, past-more))
 
 pub find-spec : {M : Type 1} → statement M
 find-spec =
     tie.close
     (tie.spec
-    Inv-loop
-    μ-loop
-    (λ c. (omega arith, past-none _ _))
-    (λ c. search needs) (λ c. search needs)
-    returns
-    (λ c. search needs) (λ c. search needs)
-    loop-again
+    Inv-loop μ-loop (λ c. (omega arith, past-none _ _))
+    (λ c. search needs) (λ c. search needs) returns (λ c. search needs) (λ c. search needs) loop-again
     (λ c. past-all _ _ _ (c .before .loop .inv .1) (omega (arith, c .before .loop .inv .0, c .loop-test .left))))

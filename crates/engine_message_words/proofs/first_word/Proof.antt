@@ -11,4 +11,4 @@ first-word-spec =
     (tie.spec
     (λ c. first-none _ (c .if1 .taken))
     (λ c. search needs) (λ c κs. search needs)
-    (λ c. c .message-word .ensures ∙ first-some _ (c .before .before .if1 .left)))
+    (λ c. c .message-word .ensures ∙ search (needs, first-some)))

@@ -13,7 +13,7 @@ use Rattle.read_messages.specs.Words.{member}
 use Rattle.base_slices.proofs.Tails.{no-element, first, part, part-drop, length-part}
 use Rattle.read_messages.proofs.is_around.Reads as is-around
 use Rattle.read_messages.proofs.is_around.Kinds as is-around-kinds
-use Rattle.read_messages.proofs.+is_around.Lts-is_around as is-around-lts
+use Rattle.read_messages.proofs.+is_around.Lts-is_around as lts
 use Rattle.read_messages.proofs.+is_around.{statement}
 use Rattle.read_messages.proofs.+is_around.Tie.{close}
 
@@ -38,43 +38,30 @@ abbrev μ-is-around : Measures 1 is-around-kinds.ps ℕ
 abbrev is-around-at : ℕ → In 1 is-around-kinds.ps
 is-around-at t = and 1 is-around-kinds.ps (is 1 is-around-kinds.ps μ-is-around t) is-around.Pre
 
-abbrev is-around-below : ℕ → In 1 is-around-kinds.ps
-is-around-below t =
-    and 1 is-around-kinds.ps (falls 1 is-around-kinds.ps _<_ μ-is-around t) is-around.Pre
+abbrev claims : ℕ → lts.Claims
+claims t = (and 1 is-around-kinds.ps (falls 1 is-around-kinds.ps _<_ μ-is-around t) is-around.Pre, is-around.Post)
 
-abbrev claims : ℕ → is-around-lts.Claims
-claims t = (is-around-below t, is-around.Post)
+module _ (t : ℕ) where
+  -- the way from a place to one before it
+  abbrev rest-start : lts.After-is-around-arg (claims t) (is-around-at t) is-around.Post → lts.Start (claims t) (is-around-at t) is-around.Post
+  rest-start c = c .before .before .before .before .before
 
-is-around-returns : (t : ℕ) → is-around-lts.Need-returns (claims t) (is-around-at t) is-around.Post
-is-around-returns t c = member-none _ _ (c .if1 .taken)
+  abbrev rest-other : lts.After-is-around (claims t) (is-around-at t) is-around.Post → lts.Else2 (claims t) (is-around-at t) is-around.Post
+  rest-other c = c .before .before
 
-is-around-cast-if2 : (t : ℕ) → is-around-lts.Need-cast-if2 (claims t) (is-around-at t) is-around.Post
-is-around-cast-if2 t c = omega (arith, c .shared-slice-known2 .given 0)
+  returns : lts.Need-returns (claims t) (is-around-at t) is-around.Post
+  returns c = member-none _ _ (c .if1 .taken)
 
-is-around-returns-2 : (t : ℕ) → is-around-lts.Need-returns-2 (claims t) (is-around-at t) is-around.Post
-is-around-returns-2 t c = member-here _ _ (omega arith) (c .if2 .taken)
+  returns-2 : lts.Need-returns-2 (claims t) (is-around-at t) is-around.Post
+  returns-2 c = member-here _ _ (omega arith) (c .if2 .taken)
 
-abbrev arg-start : (t : ℕ) → is-around-lts.After-is-around-arg (claims t) (is-around-at t) is-around.Post → is-around-lts.Start (claims t) (is-around-at t) is-around.Post
-arg-start t c = c .before .before .before .before .before
-
-is-around-is-around-requires : (t : ℕ) → is-around-lts.Need-is-around-requires (claims t) (is-around-at t) is-around.Post
-is-around-is-around-requires t c κs = (omega (arith, length-part (arg-start t c .args .around .now) 1), tt)
-
-is-around-returns-3 : (t : ℕ) → is-around-lts.Need-returns-3 (claims t) (is-around-at t) is-around.Post
-is-around-returns-3 t c = c .is-around .ensures ∙ member-later _ _ (omega arith) (c .before .before .if2 .left)
+  returns-3 : lts.Need-returns-3 (claims t) (is-around-at t) is-around.Post
+  returns-3 c = c .is-around .ensures ∙ member-later _ _ (omega arith) (rest-other c .if2 .left)
 
 pub +is-around-spec : {M : Type 1} → statement M
 +is-around-spec =
     close
     μ-is-around
-    λ t. is-around-lts.spec
-    (claims t)
-    (is-around-at t)
-    is-around.Post
-    (is-around-returns t)
-    (λ c. omega arith)
-    (is-around-cast-if2 t)
-    (is-around-returns-2 t)
-    (λ c. omega arith) (λ c. omega arith) (λ c. omega arith)
-    (is-around-is-around-requires t)
-    (is-around-returns-3 t)
+    λ t. lts.spec (claims t) (is-around-at t) is-around.Post
+    (returns t) (λ c. omega arith) (λ c. omega (arith, c .shared-slice-known2 .given 0)) (returns-2 t) (λ c. omega arith) (λ c. omega arith) (λ c. omega arith)
+    (λ c κs. (omega (arith, length-part (rest-start t c .args .around .now) 1), tt)) (returns-3 t)

@@ -5,7 +5,7 @@ use native.Mathlib.Omega.{arith}
 use borrow.Author.Needs.{needs}
 use lib.ListN.{length, drop}
 use Rattle.read_rule_words.specs.Rule.{greatestRuleName}
-use Rattle.read_rule_words.proofs.Words.{greatest-end, greatest-more}
+use Rattle.read_rule_words.proofs.Words.{greatest-end, greatest-more, greatest-kept}
 use Rattle.read_rule_words.proofs.greatest_rule_name.Statement.{statement}
 use Rattle.read_rule_words.proofs.greatest_rule_name.Tie as tie
 
@@ -16,14 +16,10 @@ abbrev μ-loop : tie.MeasureT-loop
 μ-loop rule greatest₀ i₀ greatest i = i
 
 loop-again : tie.Need-loop-again Inv-loop μ-loop
-loop-again c =
-    let at-in-loop = c .before .before .before in
-    (search needs, greatest-more _ _ _ _ (at-in-loop .loop-test .taken) (at-in-loop .before .loop .inv .0) (at-in-loop .before .loop .inv .1) (omega arith))
+loop-again c = (search needs, search (needs, greatest-more))
 
 loop-again-2 : tie.Need-loop-again-2 Inv-loop μ-loop
-loop-again-2 c =
-    let at-in-loop = c .before .before .before in
-    (search needs, greatest-more _ _ _ _ (at-in-loop .loop-test .taken) (at-in-loop .before .loop .inv .0) (at-in-loop .before .loop .inv .1) (omega arith))
+loop-again-2 c = (search needs, search (needs, greatest-kept))
 
 returns : tie.Need-returns Inv-loop μ-loop
 returns c =
@@ -34,11 +30,6 @@ pub greatest-rule-name-spec : {M : Type 1} → statement M
 greatest-rule-name-spec =
     tie.close
     (tie.spec
-    Inv-loop
-    μ-loop
-    (λ c. (search needs, sym (greatest-end (c .before .args .rule .now))))
+    Inv-loop μ-loop (λ c. (search needs, sym (greatest-end (c .before .args .rule .now))))
     (λ c. search needs) (λ c. search needs) (λ c. search needs) (λ c κs. search needs) (λ c. search needs)
-    loop-again
-    (λ c. search needs)
-    loop-again-2
-    returns)
+    loop-again (λ c. search needs) loop-again-2 returns)

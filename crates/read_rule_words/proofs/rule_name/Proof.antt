@@ -3,6 +3,7 @@ use Prim.Native.Nat.{ℕ, _≤_}
 use mathlib.Core.Bool.{Bool, true, false, _&&_, _||_, cond}
 use lib.Dec.{eqb}
 use mathlib.Core.Path.{_≡_, refl}
+use borrow.Author.Needs.{needs}
 use borrow.Author.Tests.{le-ltb, lt-ltb, ne-eqb}
 use Rattle.read_messages.specs.Words.{kind, operand}
 use Rattle.read_rule_words.specs.Rule.{ruleName}
@@ -28,7 +29,7 @@ returns-2 c = rw (c .if2 .taken, lt-ltb _ _ (c .before .if1 .left))
 
 returns-3 : tie.Need-returns-3
 unfolding ruleName kind operand
-returns-3 c = rw (c .if3 .taken, lt-ltb _ _ (c .before .before .if1 .left))
+returns-3 c = search (needs, c .if3 .taken, lt-ltb)
 
 returns-4 : tie.Need-returns-4
 unfolding ruleName kind operand

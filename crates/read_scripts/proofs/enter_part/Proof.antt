@@ -11,6 +11,9 @@ use Rattle.read_scripts.proofs.enter_part.Statement.{statement}
 use Rattle.read_scripts.proofs.enter_part.Tie as tie
 
 -- the way from a place to one before it
+abbrev out-start : tie.Then2 → tie.Start
+out-start c = c .before .before
+
 abbrev with-start : tie.After-with → tie.Start
 with-start c = c .before .before .before .before
 
@@ -21,8 +24,8 @@ returns c = rw (le-ltb (c .before .args .table .count) 64 (omega arith))
 returns-2 : tie.Need-returns-2
 unfolding entered
 returns-2 c =
-    let start = c .before .before in let l : length (start .args .table .kids) ≡ 65 = search needs in
-    rw (lt-ltb (start .args .table .count) 64 (omega arith), set-out (start .args .table .kids) (start .args .owner) _ (omega arith))
+    let l : length (out-start c .args .table .kids) ≡ 65 = search needs in
+    rw (lt-ltb (out-start c .args .table .count) 64 (omega arith), set-out (out-start c .args .table .kids) (out-start c .args .owner) _ (omega arith))
 
 returns-3 : tie.Need-returns-3
 unfolding entered
@@ -32,9 +35,5 @@ pub enter-part-spec : {M : Type 1} → statement M
 enter-part-spec =
     tie.close
     (tie.spec
-    (λ c. search needs)
-    returns
-    (λ c. search needs) (λ c. search needs) (λ c. search needs)
-    returns-2
-    (λ c. search needs) (λ c. search needs) (λ c κs. search needs) (λ c. search needs) (λ c. search needs)
-    returns-3)
+    (λ c. search needs) returns (λ c. search needs) (λ c. search needs) (λ c. search needs) returns-2
+    (λ c. search needs) (λ c. search needs) (λ c κs. search needs) (λ c. search needs) (λ c. search needs) returns-3)

@@ -6,7 +6,7 @@ use borrow.Author.Needs.{needs}
 use lib.ListN.{length, drop}
 use Rattle.read_messages.specs.Words.{kind, operand}
 use Rattle.read_scripts.specs.Measures.{greatestName}
-use Rattle.read_scripts.proofs.Words.{greatest-end, greatest-other, greatest-name}
+use Rattle.read_scripts.proofs.Words.{greatest-end, greatest-other, greatest-more, greatest-kept}
 use Rattle.read_scripts.proofs.greatest_name.Statement.{statement}
 use Rattle.read_scripts.proofs.greatest_name.Tie as tie
 
@@ -18,21 +18,15 @@ abbrev μ-loop : tie.MeasureT-loop
 
 loop-again : tie.Need-loop-again Inv-loop μ-loop
 unfolding kind operand
-loop-again c =
-    let at-in-loop = c .before .before .before in
-    (search needs, greatest-name _ _ _ (at-in-loop .loop-test .taken) (at-in-loop .before .loop .inv .0) (at-in-loop .before .loop .inv .1) _ (c .before .if1 .taken) (omega arith))
+loop-again c = (search needs, search (needs, greatest-more))
 
 loop-again-2 : tie.Need-loop-again-2 Inv-loop μ-loop
 unfolding kind operand
-loop-again-2 c =
-    let at-in-loop = c .before .before .before in
-    (search needs, greatest-name _ _ _ (at-in-loop .loop-test .taken) (at-in-loop .before .loop .inv .0) (at-in-loop .before .loop .inv .1) _ (c .before .if1 .taken) (omega arith))
+loop-again-2 c = (search needs, search (needs, greatest-kept))
 
 loop-again-3 : tie.Need-loop-again-3 Inv-loop μ-loop
 unfolding kind operand
-loop-again-3 c =
-    let at-in-loop = c .before .before in
-    (search needs, greatest-other _ _ _ (at-in-loop .loop-test .taken) (at-in-loop .before .loop .inv .0) (at-in-loop .before .loop .inv .1) (c .if1 .left))
+loop-again-3 c = (search needs, search (needs, greatest-other, c .if1 .left))
 
 returns : tie.Need-returns Inv-loop μ-loop
 returns c =
@@ -43,13 +37,6 @@ pub greatest-name-spec : {M : Type 1} → statement M
 greatest-name-spec =
     tie.close
     (tie.spec
-    Inv-loop
-    μ-loop
-    (λ c. (search needs, sym (greatest-end (c .args .s .now))))
+    Inv-loop μ-loop (λ c. (search needs, sym (greatest-end (c .args .s .now))))
     (λ c. search needs) (λ c. search needs) (λ c. search needs) (λ c. search needs)
-    loop-again
-    (λ c. search needs)
-    loop-again-2
-    (λ c. search needs)
-    loop-again-3
-    returns)
+    loop-again (λ c. search needs) loop-again-2 (λ c. search needs) loop-again-3 returns)

@@ -8,41 +8,28 @@ use borrow.Author.Needs.{needs}
 use Rattle.read_scripts.proofs.read_script.Statement.{statement}
 use Rattle.read_scripts.proofs.read_script.Tie as tie
 
--- the way from a place to one before it
-abbrev vacant-start : tie.After-vacant → tie.Start
-vacant-start c = c .before .before .before .before
-
-abbrev refused4-o : tie.After-refused4 → tie.After-o
-refused4-o c = c .before .before .before .before
+-- the way from the place behind the reader to the start
+abbrev read-start : tie.After-read-body → tie.Start
+read-start c = c .before .before .before .before .before
 
 -- question 1 and the body's reading
-read : (c : tie.After-read-body) → BodyAsked (vacant-start (c .before) .args .s .now) (c .read-body .result)
+read : (c : tie.After-read-body) → BodyAsked (read-start c .args .s .now) (c .read-body .result)
 read c = record { some = omega arith; most = omega arith; body = rw (c .before .vacant .ensures) at (c .read-body .ensures) }
 
 returns-4 : tie.Need-returns-4
-returns-4 c =
-    let at-o = c .before .before .before in
-    answers _ _ (c .refused3 .ensures ∙ script-behind (read (at-o .before .before)) _ (at-o .o .given .1) (omega arith))
+returns-4 c = answers _ _ (c .refused3 .ensures ∙ search (needs, script-behind, read))
 
 returns-6 : tie.Need-returns-6
-returns-6 c =
-    let at-o = c .before .before .before in
-    answers _ _ (script-read (read (at-o .before .before)) _ (at-o .o .given .1) (omega arith) (omega arith))
+returns-6 c = answers _ _ (search (needs, script-read, read))
 
 pub read-script-spec : {M : Type 1} → statement M
 read-script-spec =
     tie.close
     (tie.spec
-    (λ c κs. search needs)
-    (λ c. answers _ _ (c .refused .ensures ∙ script-none _ (c .before .if1 .taken)))
-    (λ c κs. search needs)
-    (λ c. answers _ _ (c .refused2 .ensures ∙ script-long _ (c .before .if2 .taken)))
-    (λ c κs. search needs)
-    (λ c κs. omega (arith, ap (λ (x : Table). x .count) (c .vacant .ensures)))
-    (λ c. search needs) (λ c. search needs)
-    (λ c. answers _ _ (script-refused (read (c .before .before)) _ _ (c .enum-told .given .1)))
-    (λ c κs. search needs)
-    returns-4
-    (λ c κs. search needs)
-    (λ c. answers _ _ (c .refused4 .ensures ∙ script-many (read (refused4-o c .before .before)) _ (refused4-o c .o .given .1) (omega arith) (omega arith)))
+    (λ c κs. search needs) (λ c. answers _ _ (c .refused .ensures ∙ script-none _ (c .before .if1 .taken)))
+    (λ c κs. search needs) (λ c. answers _ _ (c .refused2 .ensures ∙ script-long _ (c .before .if2 .taken)))
+    (λ c κs. search needs) (λ c κs. search (needs, ap (λ (x : Table). x .count) (c .vacant .ensures))) (λ c. search needs) (λ c. search needs)
+    (λ c. answers _ _ (search (needs, script-refused, read)))
+    (λ c κs. search needs) returns-4 (λ c κs. search needs)
+    (λ c. answers _ _ (c .refused4 .ensures ∙ search (needs, script-many, read)))
     returns-6)

@@ -37,20 +37,14 @@ read-body-below t = and 1 read-body-kinds.ps (falls 1 read-body-kinds.ps _<_ μ-
 abbrev pub read-guarded-at : ℕ → In 1 read-guarded-kinds.ps
 read-guarded-at t = and 1 read-guarded-kinds.ps (is 1 read-guarded-kinds.ps μ-read-guarded t) read-guarded.Pre
 
-abbrev read-guarded-below : ℕ → In 1 read-guarded-kinds.ps
-read-guarded-below t = and 1 read-guarded-kinds.ps (falls 1 read-guarded-kinds.ps _<_ μ-read-guarded t) read-guarded.Pre
-
 abbrev pub read-part-at : ℕ → In 1 read-part-kinds.ps
 read-part-at t = and 1 read-part-kinds.ps (is 1 read-part-kinds.ps μ-read-part t) read-part.Pre
 
-abbrev read-part-below : ℕ → In 1 read-part-kinds.ps
-read-part-below t = and 1 read-part-kinds.ps (falls 1 read-part-kinds.ps _<_ μ-read-part t) read-part.Pre
-
 abbrev pub read-body-claims : ℕ → read-body-lts.Claims
-read-body-claims t = (ask-part-reads.Asked, ask-part-reads.Learnt, read-part-below t, read-part.Post, refused-reads.Asked, refused-reads.Learnt)
+read-body-claims t = (ask-part-reads.Asked, ask-part-reads.Learnt, and 1 read-part-kinds.ps (falls 1 read-part-kinds.ps _<_ μ-read-part t) read-part.Pre, read-part.Post, refused-reads.Asked, refused-reads.Learnt)
 
 abbrev pub read-guarded-claims : ℕ → read-guarded-lts.Claims
 read-guarded-claims t = (read-message-reads.Asked, read-message-reads.Learnt, vacant-reads.Asked, vacant-reads.Learnt, enter-part-reads.Asked, enter-part-reads.Learnt, read-body-below t, read-body.Post)
 
 abbrev pub read-part-claims : ℕ → read-part-lts.Claims
-read-part-claims t = (refused-reads.Asked, refused-reads.Learnt, read-guarded-below t, read-guarded.Post, with-receipt-reads.Asked, with-receipt-reads.Learnt, enter-part-reads.Asked, enter-part-reads.Learnt, read-body-below t, read-body.Post, read-message-reads.Asked, read-message-reads.Learnt, vacant-reads.Asked, vacant-reads.Learnt)
+read-part-claims t = (refused-reads.Asked, refused-reads.Learnt, and 1 read-guarded-kinds.ps (falls 1 read-guarded-kinds.ps _<_ μ-read-guarded t) read-guarded.Pre, read-guarded.Post, with-receipt-reads.Asked, with-receipt-reads.Learnt, enter-part-reads.Asked, enter-part-reads.Learnt, read-body-below t, read-body.Post, read-message-reads.Asked, read-message-reads.Learnt, vacant-reads.Asked, vacant-reads.Learnt)
