@@ -28,14 +28,14 @@ use Rattle.read_rules.specs.Ruled as ruled
 use Rattle.read_rules.specs.RuleTable as rules
 use Rattle.read_rules.specs.declared.RuleTable.{RuleTable}
 use Rattle.read_rules.specs.declared.RuleScan.{RuleScan}
-use Rattle.theory_closures.specs.Closure.{Closure, ClosureMachine, settleUnder, closureOf, Bindings}
+use Rattle.theory_closures.specs.Closure.{ClosureMachine, settleUnder, closureOf, Bindings}
 use Rattle.engine_states.specs.Represents.{boundIn, Represents}
 use Rattle.engine_states.specs.declared.State.{State}
 use Rattle.theory_call.specs.Call.{Call, refusal, startOf, Question, question, asking, terms, door, answer}
 use Rattle.theory_call.specs.ClosureCall.{ClosureRan, halted, moved, closureRun, begun}
 use Rattle.call_lists.specs.Running.{endedOf, madeOf, Left, Runs}
 use Rattle.checker.specs.Answering.{askedOf, callOf}
-use Rattle.checker.specs.Calling.{ScriptHeld, RuleHeld, Stands}
+use Rattle.checker.specs.Calling.{ScriptHeld, RuleHeld, LetIn, Stands}
 use Rattle.call_lists.specs.declared.Ended.{Ended}
 use Rattle.call_lists.specs.declared.Ended.the-variants.{Made, Halted}
 use Rattle.theory_call.proofs.Asking.{AllYes, asking-yes, asking-no}
@@ -166,61 +166,57 @@ ends-halted q i (moved m) e = let z : _≡_ {A = ℕ} 0 1 = cc in absurd (let w 
 -- ---- questions 7 to 16
 
 -- the part table counts the parts that are read
-pub number-is : (script : List ℕ) (t : Table) (H : ScriptHeld script t) → t .count ≡ H .read .1 .number
-number-is script t H = H .tabled .counted ∙ sym (script-number script (H .read) (H .reads))
+pub number-is : {script : List ℕ} {t : Table} (H : ScriptHeld script t) → t .count ≡ H .read .1 .number
+number-is {script} H = H .tabled .counted ∙ sym (script-number script (H .read) (H .reads))
 
-module _ (script moves words : List ℕ) (patience : ℕ) (buffer : List ℕ) (t : Table) (H : ScriptHeld script t) where
-  abbrev c : Call
-  c = callOf script moves words patience buffer
+module _ {script : List ℕ} {t : Table} (H : ScriptHeld script t) (words : List ℕ) where
+  pub reads-rule : (x : Reading (Rule × Cursor)) → readWholeRule (t .count) words ≡ x → readWholeRule (H .read .1 .number) words ≡ x
+  reads-rule x e = subst (λ (k : ℕ). readWholeRule k words ≡ x) (number-is H) e
 
-  abbrev n : ℕ
-  n = H .read .1 .number
+  module _ (moves : List ℕ) (patience : ℕ) (buffer : List ℕ) (q i : ℕ) where
+    abbrev c : Call
+    c = callOf script moves words patience buffer
 
-  reads-rule : (x : Reading (Rule × Cursor)) → readWholeRule (t .count) words ≡ x → readWholeRule n words ≡ x
-  reads-rule x e = subst (λ (k : ℕ). readWholeRule k words ≡ x) (number-is script t H) e
+    pub says-rule : readWholeRule (t .count) words ≡ refuse q i → answer c ≡ refusal q i 0 0 buffer
+    says-rule e = answers-door c (H .read) (H .reads) q i (door-unread c (startOf script (H .read)) q i (reads-rule (refuse q i) e))
 
-  pub says-rule : (q i : ℕ) → readWholeRule (t .count) words ≡ refuse q i → answer c ≡ refusal q i 0 0 buffer
-  says-rule q i e = answers-door c (H .read) (H .reads) q i (door-unread c (startOf script (H .read)) q i (reads-rule (refuse q i) e))
+    pub says-terms : {u : RuleTable} → RuleHeld (t .count) words u → (x : Outcome) → x ≡ Asked patience (length moves) → x ≡ Refused q i → answer c ≡ refusal q i 0 0 buffer
+    says-terms R x e d = answers-door c (H .read) (H .reads) q i (own-unasked c (H .read) (R .read) (reads-rule (got (R .read)) (R .reads)) q i (asked-refused (asking (terms patience (length moves))) q i (sym e ∙ d)))
 
-  module _ (u : RuleTable) (R : RuleHeld (t .count) words u) where
-    reads : readWholeRule n words ≡ got (R .read)
-    reads = reads-rule (got (R .read)) (R .reads)
+module _ {script moves words : List ℕ} {patience : ℕ} {t : Table} {u : RuleTable} (L : LetIn script moves words patience t u) where
+  pub enters : (buffer : List ℕ) → door (callOf script moves words patience buffer) (startOf script (L .held .read)) ≡ got (L .ruled .read)
+  enters buffer = own-got (callOf script moves words patience buffer) (L .held .read) (L .ruled .read) (reads-rule (L .held) words (got (L .ruled .read)) (L .ruled .reads)) (L .asked)
 
-    pub says-terms : (q i : ℕ) (x : Outcome) → x ≡ Asked patience (length moves) → x ≡ Refused q i → answer c ≡ refusal q i 0 0 buffer
-    says-terms q i x e d = answers-door c (H .read) (H .reads) q i (own-unasked c (H .read) (R .read) reads q i (asked-refused (asking (terms patience (length moves))) q i (sym e ∙ d)))
+  pub short : length moves ≤ 4096
+  short = terms-few patience (length moves) (L .asked)
 
-    module _ (asked : asking (terms patience (length moves)) ≡ got tt)
-        (s : State) (first : Represents script (t .kinds) (t .starts) (parts (H .read .0)) 0 s (settleUnder [] (closureOf (H .read .0)))) (none : boundIn script s ≡ []) (r : State) where
-      abbrev b : Closure
-      b = settleUnder [] (closureOf (H .read .0))
+  abbrev run : List ℕ → ClosureRan
+  run ws = closureRun (t .count) 0 ws (begun (L .held .read .0))
 
-      short : length moves ≤ 4096
-      short = terms-few patience (length moves) asked
+  -- the list ends as the closure machine's that begins with the script, and leaves that state
+  abbrev pub Ends : Ended → State → Type 0
+  Ends e r = (e ≡ endedOf (run moves)) × Left script (t .kinds) (t .starts) r (t .count) (0 + madeOf moves e) (run (take (madeOf moves e) moves))
 
-      -- the list as the engine begins it is the closure machine's
-      ran : (e : Ended) → Runs script (t .kinds) (t .starts) (t .count) moves s e r
-          → (e ≡ endedOf (closureRun (t .count) 0 moves (begun (H .read .0)))) × Left script (t .kinds) (t .starts) r (t .count) (0 + madeOf moves e) (closureRun (t .count) 0 (take (madeOf moves e) moves) (begun (H .read .0)))
-      ran e g =
-          let x = g (t .count) 0 b (omega (arith, short)) (subst (λ (k : ℕ). Represents script (t .kinds) (t .starts) k 0 s b) (sym (H .tabled .counted)) first) in
-          subst (λ (σ : Bindings). (e ≡ endedOf (closureRun (t .count) 0 moves (record { tree = b; bindings = σ }))) × Left script (t .kinds) (t .starts) r (t .count) (0 + madeOf moves e) (closureRun (t .count) 0 (take (madeOf moves e) moves) (record { tree = b; bindings = σ }))) none x
+  -- so does the list as the engine begins it
+  pub ends : (s : State) → Represents script (t .kinds) (t .starts) (parts (L .held .read .0)) 0 s (settleUnder [] (closureOf (L .held .read .0))) → boundIn script s ≡ []
+      → (e : Ended) (r : State) → Runs script (t .kinds) (t .starts) (t .count) moves s e r → Ends e r
+  ends s first none e r g =
+      let b = settleUnder [] (closureOf (L .held .read .0)) in
+      let x = g (t .count) 0 b (omega (arith, short)) (subst (λ (k : ℕ). Represents script (t .kinds) (t .starts) k 0 s b) (sym (L .held .tabled .counted)) first) in
+      subst (λ (σ : Bindings). (e ≡ endedOf (closureRun (t .count) 0 moves (record { tree = b; bindings = σ }))) × Left script (t .kinds) (t .starts) r (t .count) (0 + madeOf moves e) (closureRun (t .count) 0 (take (madeOf moves e) moves) (record { tree = b; bindings = σ }))) none x
 
-      enters : door c (startOf script (H .read)) ≡ got (R .read)
-      enters = own-got c (H .read) (R .read) reads asked
+  pub list-halted : (buffer : List ℕ) (q i : ℕ) (r : State) → Ends (Halted q i) r → answer (callOf script moves words patience buffer) ≡ refusal q i i 0 buffer
+  list-halted buffer q i r g = answers-halted (callOf script moves words patience buffer) (L .held .read) (L .held .reads) (L .ruled .read) (enters buffer) q i
+      (subst (λ (k : ℕ). closureRun k 0 moves (begun (L .held .read .0)) ≡ halted q i) (number-is (L .held)) (ends-halted q i _ (g .0)))
 
-      pub list-halted : (q i : ℕ) → Runs script (t .kinds) (t .starts) (t .count) moves s (Halted q i) r → answer c ≡ refusal q i i 0 buffer
-      list-halted q i g = answers-halted c (H .read) (H .reads) (R .read) enters q i
-          (subst (λ (k : ℕ). closureRun k 0 moves (begun (H .read .0)) ≡ halted q i) (number-is script t H) (ends-halted q i _ (ran (Halted q i) g .0)))
-
-      pub list-made : Runs script (t .kinds) (t .starts) (t .count) moves s Made r → Stands script moves words patience t u r
-      list-made g =
-          let z : 0 + length moves ≡ length moves = omega arith in
-          let (m, x, R', d) = left-made script (t .kinds) (t .starts) r (t .count) (0 + length moves) _ (ran Made g .1) in
-          record {
-            held = H;
-            ruled = R;
-            asked = asked;
-            machine = m;
-            runs = ap (λ (ws : List ℕ). closureRun (t .count) 0 ws (begun (H .read .0))) (sym (take-all (length moves) moves (omega arith))) ∙ x;
-            stands = subst (λ (k : ℕ). Represents script (t .kinds) (t .starts) (t .count) k r (m .tree)) z R';
-            bound = d;
-          }
+  pub list-made : (r : State) → Ends Made r → Stands script moves words patience t u r
+  list-made r g =
+      let z : 0 + length moves ≡ length moves = omega arith in
+      let (m, x, R, d) = left-made script (t .kinds) (t .starts) r (t .count) (0 + length moves) _ (g .1) in
+      record {
+        let-in = L;
+        machine = m;
+        runs = ap run (sym (take-all (length moves) moves (omega arith))) ∙ x;
+        stands = subst (λ (k : ℕ). Represents script (t .kinds) (t .starts) (t .count) k r (m .tree)) z R;
+        bound = d;
+      }

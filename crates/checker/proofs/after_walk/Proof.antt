@@ -1,59 +1,71 @@
 -- `after_walk` meets its contract: a stop is a refusal. Assumes nothing.
+use Prim.Native.Nat.{ℕ}
+use mathlib.Core.List.{List}
 use mathlib.Core.Path.{sym, ap, _∙_}
-use Rattle.theory_closures.specs.Closure.{unfoldMachine}
+use Rattle.theory_closures.specs.Closure.{Closure, unfoldMachine}
 use Rattle.engine_states.specs.Represents.{boundIn}
 use Rattle.walk_stages.specs.Visits.{walkedOf}
-use Rattle.walk_stages.specs.declared.Walked as declared
-use Rattle.theory_call.specs.Call.{refusal, walked}
+use Rattle.walk_stages.specs.declared.Walked.{Walked}
+use Rattle.theory_call.specs.Call.{Answer, refusal, walked}
 use Rattle.checker.specs.Answering.{callOf}
 use borrow.Author.Needs.{needs}
 use Rattle.checker.proofs.after_walk.Statement.{statement}
 use Rattle.checker.proofs.after_walk.Tie as tie
 
--- the way from a place to one before it
-abbrev w-start : tie.After-w → tie.Start
-w-start c = c .before .before .before .before
+-- ---- the ways from a place to one before it
 
-abbrev w3-start : tie.After-w3 → tie.Start
-w3-start c = c .before .before .before .before
+abbrev known-start : tie.After-slice-known → tie.Start
+known-start c = c .before .before
 
-abbrev w2-start : tie.After-w2 → tie.Start
-w2-start c = c .before .before .before .before
+abbrev yes : tie.After-finish-arg → tie.After-w
+yes c = c .before .before
 
-abbrev finish-w : tie.After-finish → tie.After-w
-finish-w c = c .before .before .before
+abbrev yes-start : tie.After-w → tie.Start
+yes-start c = known-start (c .before .before)
 
-abbrev finish2-w2 : tie.After-finish2 → tie.After-w2
-finish2-w2 c = c .before .before .before
+abbrev yes-finished : tie.After-slice-known2 → tie.After-finish
+yes-finished c = c .before .before
+
+abbrev no : tie.After-finish-arg2 → tie.After-w2
+no c = c .before .before
+
+abbrev no-start : tie.After-w2 → tie.Start
+no-start c = known-start (c .before .before)
+
+abbrev no-finished : tie.After-slice-known3 → tie.After-finish2
+no-finished c = c .before .before
+
+abbrev stopped : tie.After-refused → tie.After-w3
+stopped c = c .before .before
+
+abbrev stopped-start : tie.After-w3 → tie.Start
+stopped-start c = known-start (c .before .before)
+
+-- what the call comes to where the walk answers so
+abbrev comes : tie.Start → (list rule : List ℕ) (patience : ℕ) → Closure → Walked → Answer
+comes s list rule patience b w = let a = s .args in walked (callOf (a .script .now) list rule patience (a .out .now)) (unfoldMachine (record { tree = b; bindings = boundIn (a .script .now) (a .state) })) (walkedOf w)
 
 returns : tie.Need-returns
 unfolding walked walkedOf
 returns c list rule patience weight spent b em R =
-    let at-finish = c .before .before in let at-w = finish-w at-finish in
-    at-finish .finish .ensures list rule patience weight spent b em R ∙ ap (λ (x : declared.Walked). walked (callOf (w-start at-w .args .script .now) list rule patience (w-start at-w .args .out .now)) (unfoldMachine (record { tree = b; bindings = boundIn (w-start at-w .args .script .now) (w-start at-w .args .state) })) (walkedOf x)) (sym (at-w .w .given .1))
+    let f = yes-finished c in let w = yes (f .before) in
+    f .finish .ensures list rule patience weight spent b em R ∙ ap (comes (yes-start w) list rule patience b) (sym (w .w .given .1))
 
 returns-2 : tie.Need-returns-2
 unfolding walked walkedOf
 returns-2 c list rule patience weight spent b em R =
-    let at-finish2 = c .before .before in let at-w2 = finish2-w2 at-finish2 in let start = w2-start at-w2 in
-    at-finish2 .finish2 .ensures list rule patience weight spent b em R ∙ ap (λ (x : declared.Walked). walked (callOf (start .args .script .now) list rule patience (start .args .out .now)) (unfoldMachine (record { tree = b; bindings = boundIn (start .args .script .now) (start .args .state) })) (walkedOf x)) (sym (at-w2 .w2 .given .1))
+    let f = no-finished c in let w = no (f .before) in
+    f .finish2 .ensures list rule patience weight spent b em R ∙ ap (comes (no-start w) list rule patience b) (sym (w .w2 .given .1))
 
 returns-3 : tie.Need-returns-3
 unfolding walked walkedOf
 returns-3 c list rule patience weight spent b em R =
-    let at-w3 = c .before .before in let start = w3-start at-w3 in
-    c .refused .ensures (start .args .out .now) ∙ (λ i. refusal (at-w3 .w3 .given .0 .0) (at-w3 .w3 .given .0 .1 .0) (em i) (at-w3 .w3 .given .0 .1 .1 .0) (start .args .out .now)) ∙ ap (λ (x : declared.Walked). walked (callOf (start .args .script .now) list rule patience (start .args .out .now)) (unfoldMachine (record { tree = b; bindings = boundIn (start .args .script .now) (start .args .state) })) (walkedOf x)) (sym (at-w3 .w3 .given .1))
+    let s = stopped-start (stopped c) in let at = stopped c .w3 .given in
+    c .refused .ensures (s .args .out .now) ∙ (λ i. refusal (at .0 .0) (at .0 .1 .0) (em i) (at .0 .1 .1 .0) (s .args .out .now)) ∙ ap (comes s list rule patience b) (sym (at .1))
 
 pub after-walk-spec : {M : Type 1} → statement M
 after-walk-spec =
     tie.close
     (tie.spec
-    (λ c. search needs)
-    (λ c κs. w-start (c .before .before) .pre)
-    (λ c. search needs)
-    (λ c κs. w2-start (c .before .before) .pre)
-    (λ c. search needs) (λ c κs. search needs) (λ c. search needs)
-    returns
-    (λ c. search needs)
-    returns-2
-    returns-3)
+    (λ c. search needs) (λ c κs. yes-start (yes c) .pre) (λ c. search needs) (λ c κs. no-start (no c) .pre) (λ c. search needs)
+    (λ c κs. search needs) (λ c. search needs) returns (λ c. search needs) returns-2 returns-3)

@@ -5,16 +5,20 @@ use borrow.Author.Needs.{needs}
 use Rattle.checker.proofs.greatest.Statement.{statement}
 use Rattle.checker.proofs.greatest.Tie as tie
 
--- the way from a place to one before it
-abbrev greatest-name-start : tie.After-greatest-name → tie.Start
-greatest-name-start c = c .before .before .before
+-- ---- the ways from a place to one before it
+
+abbrev read-start : tie.After-greatest-name → tie.Start
+read-start c = c .before .before .before
 
 returns : tie.Need-returns
-returns c = (omega (arith, c .before .before .greatest-name .ensures, c .before .greatest-rule-name .ensures, c .if1 .taken), omega (arith, c .before .greatest-rule-name .ensures, rule-names (greatest-name-start (c .before .before) .args .rule .now)))
+returns c =
+    let r = c .before in let n = r .before in
+    record { most = omega (arith, n .greatest-name .ensures, r .greatest-rule-name .ensures, c .if1 .taken); small = omega (arith, r .greatest-rule-name .ensures, rule-names (read-start n .args .rule .now)) }
 
 returns-2 : tie.Need-returns-2
-returns-2 c = (omega (arith, c .before .before .greatest-name .ensures, c .before .greatest-rule-name .ensures, c .if1 .left), omega (arith, c .before .before .greatest-name .ensures, script-names (greatest-name-start (c .before .before) .args .script .now)))
+returns-2 c =
+    let r = c .before in let n = r .before in
+    record { most = omega (arith, n .greatest-name .ensures, r .greatest-rule-name .ensures, c .if1 .left); small = omega (arith, n .greatest-name .ensures, script-names (read-start n .args .script .now)) }
 
 pub greatest-spec : {M : Type 1} → statement M
-greatest-spec =
-    tie.close (tie.spec (λ c κs. search needs) (λ c κs. search needs) returns returns-2)
+greatest-spec = tie.close (tie.spec (λ c κs. search needs) (λ c κs. search needs) returns returns-2)
