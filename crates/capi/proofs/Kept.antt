@@ -17,7 +17,7 @@ use Rattle.theory_call.proofs.Runs.{weight-holds}
 use Rattle.theory_call.proofs.Reducing.{reduces}
 use Rattle.theory_call.proofs.Leaving as leaving
 use Rattle.theory_call.proofs.Small.{PlaceWithin, Small, answer-small, weight-bounded}
-use Rattle.host_answer_words.specs.Told.{saidOf, placeOf, told}
+use Rattle.host_answer_words.specs.Told.{saidOf, placeOf, told, Tellable}
 use Rattle.capi.specs.Told.{returned, answered, written, Decided, ReducedBy, ReturnedBy, ReadmittedBy, left}
 
 -- what is kept to where the call returns r, given words for its answer, and leaves these and those in the output buffer
@@ -35,13 +35,9 @@ one≢none e = absurd (let z : ⊥ = omega arith in z)
 
 -- no room: nothing is done
 pub short : (c : Call) (words : List ℕ) → length words < 8 → (0 ≡ returned words) × ((words ≡ answered c words) × ((c .buffer ≡ written c words) × Keeps c 0 words words (c .buffer)))
-short c words l = (
-  rw (lt-leb 8 (length words) l) refl,
-  (
-    rw (lt-leb 8 (length words) l) refl,
-    (rw (lt-leb 8 (length words) l) refl, (λ e. (refl, refl), (one≢none, (one≢none, ((weight-holds c, one≢none), (one≢none, (one≢none, one≢none))))))),
-  ),
-)
+short c words l =
+    let none : Keeps c 0 words words (c .buffer) = (λ e. (refl, refl), (one≢none, (one≢none, ((weight-holds c, one≢none), (one≢none, (one≢none, one≢none)))))) in
+    rw (lt-leb 8 (length words) l) (refl, (refl, (refl, none)))
 
 -- what the first word says of a verdict
 said-yes : (v : Verdict) → saidOf v ≡ 2 → v ≡ accepted true
@@ -113,8 +109,8 @@ unfolding placeOf
 place-fits (accepted a) h = omega arith
 place-fits (refused q i) h = omega arith
 
-pub numbers-fit : (c : Call) (r : engine.Answer) (out : List ℕ) → answerOf r out ≡ answer c → (placeOf (verdictOf (r .verdict)) < 2 ^ 32) × (r .moves < 2 ^ 32) × (r .weight < 2 ^ 32)
+pub tellable : (c : Call) (r : engine.Answer) (out words : List ℕ) → answerOf r out ≡ answer c → 8 ≤ length words → Tellable r words
 unfolding answerOf
-numbers-fit c r out e =
+tellable c r out words e l =
     let s : Small (answerOf r out) = subst Small (sym e) (answer-small c) in
-    (place-fits (verdictOf (r .verdict)) (s .place), omega (arith, s .moves), omega (arith, s .weight))
+    record { room = l; place = place-fits (verdictOf (r .verdict)) (s .place); moves = omega (arith, s .moves); weight = omega (arith, s .weight) }
