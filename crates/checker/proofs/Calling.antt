@@ -34,7 +34,8 @@ use Rattle.engine_states.specs.declared.State.{State}
 use Rattle.theory_call.specs.Call.{Call, refusal, startOf, Question, question, asking, terms, door, answer}
 use Rattle.theory_call.specs.ClosureCall.{ClosureRan, halted, moved, closureRun, begun}
 use Rattle.call_lists.specs.Running.{endedOf, madeOf, Left, Runs}
-use Rattle.checker.specs.Answering.{askedOf, callOf}
+use Rattle.checker.specs.Answering.{answerOf, askedOf, callOf}
+use Rattle.checker.specs.declared.Answer.{Answer}
 use Rattle.checker.specs.Calling.{ScriptHeld, RuleHeld, LetIn, Stands}
 use Rattle.call_lists.specs.declared.Ended.{Ended}
 use Rattle.call_lists.specs.declared.Ended.the-variants.{Made, Halted}
@@ -116,10 +117,19 @@ unfolding askedOf
 asked-refused (refuse p j) q i e = let a : p ≡ q = cc in let b : j ≡ i = cc in λ k. refuse (a k) (b k)
 asked-refused (got u) q i e = Read≢Refused e
 
-pub asked-read : (x : Reading (Unit {0})) (n : ℕ) → askedOf x ≡ Read n → x ≡ got tt
+asked-read : (x : Reading (Unit {0})) (n : ℕ) → askedOf x ≡ Read n → x ≡ got tt
 unfolding askedOf
 asked-read (refuse q i) n e = Read≢Refused (sym e)
 asked-read (got u) n e = refl
+
+pub asked-so : (p k n : ℕ) (x : Outcome) → x ≡ Asked p k → x ≡ Read n → asking (terms p k) ≡ got tt
+asked-so p k n x e d = asked-read (asking (terms p k)) n (sym e ∙ d)
+
+-- a refusal that is handed up is the call's answer
+pub handed : (r : Answer) (x : Outcome) (script moves words : List ℕ) (patience : ℕ) (buffer : List ℕ) (q i : ℕ)
+    → ((question place : ℕ) (out : List ℕ) → x ≡ Refused question place → answerOf r out ≡ refusal question place 0 0 out) → x ≡ Refused q i → answer (callOf script moves words patience buffer) ≡ refusal q i 0 0 buffer
+    → answerOf r buffer ≡ answer (callOf script moves words patience buffer)
+handed r x script moves words patience buffer q i f e d = f q i buffer e ∙ sym d
 
 script-outcome : (x : Reading (Script × Cursor)) → table.scanned 64 table.vacant x .outcome ≡ outcome x
 unfolding table.scanned outcome
