@@ -36,7 +36,7 @@ use Rattle.theory_call.specs.ClosureCall.{ClosureRan, halted, moved, closureRun
 use Rattle.call_lists.specs.Running.{endedOf, madeOf, Left, Runs}
 use Rattle.checker.specs.Answering.{answerOf, askedOf, callOf}
 use Rattle.checker.specs.declared.Answer.{Answer}
-use Rattle.checker.specs.Calling.{ScriptHeld, RuleHeld, LetIn, Stands}
+use Rattle.checker.specs.Calling.{ScriptHeld, RuleHeld, LetIn, Stands, Greatest}
 use Rattle.call_lists.specs.declared.Ended.{Ended}
 use Rattle.call_lists.specs.declared.Ended.the-variants.{Made, Halted}
 use Rattle.theory_call.proofs.Asking.{AllYes, asking-yes, asking-no}
@@ -49,7 +49,7 @@ operand-small : (w : ℕ) → operand w < 268435456
 unfolding operand
 operand-small w = omega arith
 
-pub script-names : (ws : List ℕ) → greatestName ws < 268435456
+script-names : (ws : List ℕ) → greatestName ws < 268435456
 unfolding greatestName
 script-names [] = omega arith
 script-names (w ∷ ws) = byTest (eqb (kind w) 8) (λ t. rw t (omega (arith, operand-small w, script-names ws))) (λ t. rw t (script-names ws))
@@ -58,10 +58,17 @@ rule-name : (w : ℕ) → ruleName w < 268435456
 unfolding ruleName
 rule-name w = byTest ((eqb (kind w) 4 || eqb (kind w) 9) && ltb (operand w) 134217728) (λ t. rw t (operand-small w)) (λ t. rw t (omega arith))
 
-pub rule-names : (ws : List ℕ) → greatestRuleName ws < 268435456
+rule-names : (ws : List ℕ) → greatestRuleName ws < 268435456
 unfolding greatestRuleName
 rule-names [] = omega arith
 rule-names (w ∷ ws) = omega (arith, rule-name w, rule-names ws)
+
+-- the greater of both
+pub greatest-rule : (script words : List ℕ) (s r : ℕ) → s ≡ greatestName script → r ≡ greatestRuleName words → s < r → Greatest script words r
+greatest-rule script words s r e f l = record { most = omega arith; small = omega (arith, rule-names words) }
+
+pub greatest-script : (script words : List ℕ) (s r : ℕ) → s ≡ greatestName script → r ≡ greatestRuleName words → r ≤ s → Greatest script words s
+greatest-script script words s r e f l = record { most = omega arith; small = omega (arith, script-names script) }
 
 -- ---- questions 13 and 14
 
@@ -78,19 +85,19 @@ unfolding askedOf
 read-by qs h = sym (ap askedOf (asking-yes qs h))
 
 module _ (p k : ℕ) where
-  calm : 1 ≤ p → p ≤ 16777216 → (leb 1 p && leb p 16777216) ≡ true
-  calm l h = rw (le-leb 1 p l, le-leb p 16777216 h)
+  calm : (p ≡ 0 → ⊥) → p ≤ 16777216 → (leb 1 p && leb p 16777216) ≡ true
+  calm l h = let m : 1 ≤ p = omega arith in rw (le-leb 1 p m, le-leb p 16777216 h)
 
-  not-calm : (1 ≤ p → p ≤ 16777216 → ⊥) → (leb 1 p && leb p 16777216) ≡ false
-  not-calm f = byTest (leb 1 p) (λ l. byTest (leb p 16777216) (λ h. absurd (f (leb-true 1 p l) (leb-true p 16777216 h))) (λ h. rw (l, h))) (λ l. rw l)
+  pub no-patience : p ≡ 0 → Refused 13 0 ≡ Asked p k
+  no-patience e = let l : p < 1 = omega arith in refused-by [] (question 13 0 (leb 1 p && leb p 16777216)) _ tt (rw (lt-leb 1 p l) refl)
 
-  pub restless : (1 ≤ p → p ≤ 16777216 → ⊥) → Refused 13 0 ≡ Asked p k
-  restless f = refused-by [] (question 13 0 (leb 1 p && leb p 16777216)) _ tt (not-calm f)
+  pub too-patient : (p ≡ 0 → ⊥) → 16777216 < p → Refused 13 0 ≡ Asked p k
+  too-patient l h = let m : 1 ≤ p = omega arith in refused-by [] (question 13 0 (leb 1 p && leb p 16777216)) _ tt (rw (le-leb 1 p m, lt-leb p 16777216 h) refl)
 
-  pub too-many : 1 ≤ p → p ≤ 16777216 → 4096 < k → Refused 14 0 ≡ Asked p k
+  pub too-many : (p ≡ 0 → ⊥) → p ≤ 16777216 → 4096 < k → Refused 14 0 ≡ Asked p k
   too-many l h m = refused-by (question 13 0 (leb 1 p && leb p 16777216) ∷ []) (question 14 0 (leb k 4096)) _ (calm l h, tt) (lt-leb k 4096 m)
 
-  pub let-in : 1 ≤ p → p ≤ 16777216 → k ≤ 4096 → Read 0 ≡ Asked p k
+  pub let-in : (p ≡ 0 → ⊥) → p ≤ 16777216 → k ≤ 4096 → Read 0 ≡ Asked p k
   let-in l h m = read-by (terms p k) (calm l h, (le-leb k 4096 m, tt))
 
 -- ---- what a reader's outcome says
@@ -99,8 +106,8 @@ pub Read≢Refused : {B : Type 0} {n q i : ℕ} → Read n ≡ Refused q i → B
 Read≢Refused e = let z : _≡_ {A = ℕ} 0 1 = cc in absurd (let w : ⊥ = omega arith in w)
 
 -- an outcome is one refusal only
-pub one-refusal : (p j q i : ℕ) (b : List ℕ) → Refused p j ≡ Refused q i → refusal p j 0 0 b ≡ refusal q i 0 0 b
-one-refusal p j q i b e = let x : p ≡ q = cc in let y : j ≡ i = cc in ap₂ (λ (m n : ℕ). refusal m n 0 0 b) x y
+pub one-refusal : (r : Answer) (x : Outcome) (p j q i : ℕ) (b : List ℕ) → ((out : List ℕ) → answerOf r out ≡ refusal p j 0 0 out) → x ≡ Refused p j → x ≡ Refused q i → answerOf r b ≡ refusal q i 0 0 b
+one-refusal r x p j q i b f d e = let y : p ≡ q = cc in let z : j ≡ i = cc in f b ∙ ap₂ (λ (m n : ℕ). refusal m n 0 0 b) y z
 
 refused-so : {A : Type 0} (x : Reading (A × Cursor)) (q i : ℕ) → outcome x ≡ Refused q i → x ≡ refuse q i
 unfolding outcome
