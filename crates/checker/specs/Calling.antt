@@ -13,12 +13,15 @@ use Rattle.read_rule_words.specs.Rule.{Rule, greatestRuleName}
 use Rattle.read_rule_words.specs.ReadRule.{readWholeRule}
 use Rattle.read_rules.specs.Ruled as rules
 use Rattle.read_rules.specs.declared.RuleTable.{RuleTable}
-use Rattle.theory_closures.specs.Closure.{ClosureMachine}
+use Rattle.theory_closures.specs.Closure.{Closure, ClosureMachine, unfoldMachine}
 use Rattle.engine_states.specs.Represents.{boundIn, Ready, Represents}
 use Rattle.engine_states.specs.declared.State.{State}
 use Rattle.write_trees.specs.Bodies.{Scripted}
-use Rattle.theory_call.specs.Call.{asking, terms}
+use Rattle.theory_decision.specs.Walk.{Walked}
+use Rattle.theory_call.specs.Call.{asking, terms, walked}
 use Rattle.theory_call.specs.ClosureCall.{moved, closureRun, begun}
+use Rattle.checker.specs.Answering.{answerOf, callOf}
+use Rattle.checker.specs.declared.Answer.{Answer}
 
 -- the script is read, and the table holds it
 pub record ScriptHeld (script : List ℕ) (t : Table) : Type 0 where
@@ -74,3 +77,9 @@ pub record Greatest (script words : List ℕ) (g : ℕ) : Type 0 where
   pub most : g ≡ max (greatestName script) (greatestRuleName words)
   -- names have 28 bits
   pub small : g < 268435456
+
+-- For every list of so many moves and every closure for which the state stands: the answer, with the buffer as it is at exit,
+-- is what the call comes to where the walk, on the machine that stands, says v.
+pub record ComesTo (script kinds starts : List ℕ) (s : State) (moves : ℕ) (before after : List ℕ) (r : Answer) (v : Walked) : Type 0 where
+  pub ends : (list rule : List ℕ) (patience weight spent : ℕ) (b : Closure) → moves ≡ length list → Represents script kinds starts weight spent s b
+      → answerOf r after ≡ walked (callOf script list rule patience before) (unfoldMachine (record { tree = b; bindings = boundIn script s })) v

@@ -24,15 +24,16 @@ ghost use mathlib.Core.List.{List, []};
 ghost use Prim.Native.Nat.{ℕ};
 ghost use lib.ListN.{length, take};
 ghost use Rattle.read_messages.specs.declared.Outcome.the-variants.{Refused};
-ghost use Rattle.theory_closures.specs.Closure.{Closure, unfolded, unfoldMachine};
+ghost use Rattle.theory_closures.specs.Closure.{Closure, unfolded};
 ghost use Rattle.engine_states.specs.Represents.{boundIn, Represents};
 ghost use Rattle.walk_stages.specs.Visits.{walkedOf};
 ghost use Rattle.theory_written_trees.specs.Write.{write};
 ghost use Rattle.write_trees.specs.Room.{Fitted};
-ghost use Rattle.theory_call.specs.Call.{accepted, refusal, walked, asking, terms, answer, finish as finished};
+ghost use Rattle.theory_decision.specs.Walk.{says};
+ghost use Rattle.theory_call.specs.Call.{accepted, refusal, asking, terms, answer};
 ghost use Rattle.checker.specs.Answering.{verdictOf, answerOf, askedOf, callOf};
 ghost use Rattle.theory_call.specs.Standing.{Decides, Reduces, Returned, Readmitted, MovesBounded, WeightHolds, WeightBounded};
-ghost use Rattle.checker.specs.Calling.{ScriptHeld, BothHeld, LetIn, Stands, Writable, Walkable, Greatest};
+ghost use Rattle.checker.specs.Calling.{ScriptHeld, BothHeld, LetIn, Stands, Writable, Walkable, ComesTo, Greatest};
 
 // The most visits that may be asked for, and the most moves of a list: questions 13 and 14.
 const MOST_PATIENCE: u32 = 16777216;
@@ -130,7 +131,7 @@ fn finish<'a, 'b>(
     out: &'b mut [u32],
 ) -> Answer
     requires { ⌜ Writable (now script) (now kinds) (now starts) state ⌝ }
-    ensures { λ r. ⌜ ((list rule : List ℕ) (patience weight spent : ℕ) (b : Closure) → moves ≡ length list → Represents (now (script .entry)) (now (kinds .entry)) (now (starts .entry)) weight spent state b → answerOf r (now (out .exit)) ≡ finished (callOf (now (script .entry)) list rule patience (now (out .entry))) (unfoldMachine (record { tree = b; bindings = boundIn (now (script .entry)) state })) yes (record { visits = visits; deepest = deepest })) ⌝ }
+    ensures { λ r. ⌜ ComesTo (now (script .entry)) (now (kinds .entry)) (now (starts .entry)) state moves (now (out .entry)) (now (out .exit)) r (says yes (record { visits = visits; deepest = deepest })) ⌝ }
 {
     let fitting = write_state(script, kinds, starts, state, out);
     match fitting {
@@ -167,7 +168,7 @@ fn after_walk<'a, 'b>(
     out: &'b mut [u32],
 ) -> Answer
     requires { ⌜ Writable (now script) (now kinds) (now starts) state ⌝ }
-    ensures { λ r. ⌜ ((list rule : List ℕ) (patience weight spent : ℕ) (b : Closure) → moves ≡ length list → Represents (now (script .entry)) (now (kinds .entry)) (now (starts .entry)) weight spent state b → answerOf r (now (out .exit)) ≡ walked (callOf (now (script .entry)) list rule patience (now (out .entry))) (unfoldMachine (record { tree = b; bindings = boundIn (now (script .entry)) state })) (walkedOf w)) ⌝ }
+    ensures { λ r. ⌜ ComesTo (now (script .entry)) (now (kinds .entry)) (now (starts .entry)) state moves (now (out .entry)) (now (out .exit)) r (walkedOf w) ⌝ }
 {
     match w {
         Walked::Yes(c) => finish(

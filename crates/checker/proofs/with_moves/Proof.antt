@@ -29,7 +29,7 @@ walk-rule-requires c κs =
 returns : tie.Need-returns
 returns c list em S =
     let w = ended-walk (ended c) in let g = limits-greatest (w .before) in let s = greatest-start g in
-    ended c .after-walk .ensures list (s .args .rule .now) (s .args .patience) (s .args .parts .count) (length list) (S .machine .tree) em (S .stands)
+    ended c .after-walk .ensures .ends list (s .args .rule .now) (s .args .patience) (s .args .parts .count) (length list) (S .machine .tree) em (S .stands)
     ∙ walk-answers (s .args .out .now) S (g .greatest .result) (g .greatest .ensures .most) (w .walk-rule .result) (w .walk-rule .ensures)
 
 pub with-moves-spec : {M : Type 1} → statement M
