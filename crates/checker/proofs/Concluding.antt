@@ -1,6 +1,6 @@
 -- The end of the call: the walk's answer on the state that stands is the call's, and so decided by the paper's own relation.
 -- Assumes nothing.
-use Prim.Native.Nat.{ℕ, _+_, _≤_, max}
+use Prim.Native.Nat.{ℕ, _+_, _≤_}
 use mathlib.Core.Bool.{true, false}
 use mathlib.Core.List.{List}
 use mathlib.Core.Path.{_≡_, refl, sym, ap, _∙_, subst}
@@ -9,11 +9,10 @@ use lib.Dec.{eqb}
 use lib.ListN.{length, take}
 use Rattle.read_messages.specs.Reading.{Cursor}
 use Rattle.read_scripts.specs.Tree.{oneIf, timesIn}
-use Rattle.read_scripts.specs.Measures.{greatestName}
 use Rattle.read_scripts.specs.Script.{Script}
 use Rattle.read_scripts.specs.declared.Table.{Table}
 use Rattle.theory_machine.proofs.Sums.{map-total}
-use Rattle.read_rule_words.specs.Rule.{Rule, greatestRuleName}
+use Rattle.read_rule_words.specs.Rule.{Rule}
 use Rattle.read_rules.specs.declared.RuleTable.{RuleTable}
 use Rattle.theory_closures.specs.Closure.{unfoldHead, unfolded, unfoldMachine}
 use Rattle.engine_states.specs.Represents.{boundIn}
@@ -29,7 +28,7 @@ use Rattle.theory_call.specs.Call as plain
 use Rattle.theory_call.specs.ClosureCall.{moved, closureRun, unfoldRan, begun}
 use Rattle.checker.specs.Answering.{verdictOf, answerOf, callOf}
 use Rattle.checker.specs.declared.Answer.{Answer}
-use Rattle.checker.specs.Calling.{Stands}
+use Rattle.checker.specs.Calling.{Stands, Greatest, ComesTo}
 use Rattle.theory_call.specs.Standing.{Standing, Decides, Reduces, Returned, Readmitted, MovesBounded, WeightHolds, WeightBounded}
 use Rattle.theory_call.proofs.ClosureRuns.{started-unfolded, moves-bounded}
 use Rattle.theory_call.proofs.Runs.{weight-holds}
@@ -84,15 +83,21 @@ module _ (buffer : List ℕ) {script moves words : List ℕ} {patience : ℕ} {t
   script-fits = record { placed = λ i. omega (arith, S .let-in .held .tabled .low i); spent = λ i. omega (arith, S .stands .spends i, short (S .let-in)) }
 
   -- THEOREM: what the engine's walk answers, with the tree that stands, is the call's answer.
-  pub walk-answers : (greatest : ℕ) → greatest ≡ max (greatestName script) (greatestRuleName words) → (w : Walked)
+  walk-answers : (greatest : ℕ) → Greatest script words greatest → (w : Walked)
       → Walks words u script (t .kinds) (t .starts) s (record { patience = patience; greatest = greatest; parts = t .count; limit = t .count + u .count }) w
       → walked c (unfoldMachine (record { tree = S .machine .tree; bindings = boundIn script s })) (walkedOf w) ≡ answer c
-  walk-answers g e w W =
+  walk-answers g G w W =
       let x = W (t .count) (length moves) (S .machine .tree) rule-read (S .let-in .ruled .tabled) (rule-ordered (t .count) words rule-read (S .let-in .ruled .reads)) refl (S .stands) (omega arith) below (omega (arith, short (S .let-in))) in
       let k : u .count ≡ rule-read .1 .number = S .let-in .ruled .tabled .counted in
       let d : walkedOf w ≡ walkFrom (closureSpace (n + rule-read .1 .number)) (setting c (startOf script script-read)) (rule-read .0) (record { tree = S .machine .tree; bindings = S .machine .bindings })
-      = x ∙ (λ i. walkFrom (closureSpace (number i + k i)) (record { patience = patience; greatest = e i; parts = number i }) (rule-read .0) (record { tree = S .machine .tree; bindings = S .bound i })) in
+      = x ∙ (λ i. walkFrom (closureSpace (number i + k i)) (record { patience = patience; greatest = G .most i; parts = number i }) (rule-read .0) (record { tree = S .machine .tree; bindings = S .bound i })) in
       (λ i. walked c (unfoldMachine (record { tree = S .machine .tree; bindings = S .bound i })) (d i)) ∙ sym (answers-walked c script-read (S .let-in .held .reads) rule-read (enters (S .let-in) buffer) (S .machine) made)
+
+-- so is what the call comes to by it
+pub walk-answered : (script moves words : List ℕ) (patience : ℕ) (buffer : List ℕ) (t : Table) (u : RuleTable) (s : State) (greatest : ℕ) (w : Walked) (k : ℕ) (after : List ℕ) (r : Answer)
+    → Stands script moves words patience t u s → Greatest script words greatest → Walks words u script (t .kinds) (t .starts) s (record { patience = patience; greatest = greatest; parts = t .count; limit = t .count + u .count }) w
+    → ComesTo script (t .kinds) (t .starts) s k buffer after r (walkedOf w) → k ≡ length moves → answerOf r after ≡ answer (callOf script moves words patience buffer)
+walk-answered script moves words patience buffer t u s g w k after r S G W C e = C .ends moves words patience (t .count) (length moves) (S .machine .tree) e (S .stands) ∙ walk-answers buffer S g G w W
 
 -- ---- demand 2
 
