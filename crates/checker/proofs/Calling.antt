@@ -8,9 +8,9 @@ use native.Mathlib.Omega.{arith}
 use lib.Dec.{leb, ltb, eqb}
 use lib.ListN.{length, take}
 use lib.Seq.{take-all}
-use borrow.Author.Tests.{leb-true, le-leb, lt-leb}
+use borrow.Author.Tests.{le-leb, lt-leb}
 use Rattle.read_messages.specs.Words.{kind, operand}
-use Rattle.read_messages.specs.Reading.{Cursor, Reading, refuse, got, _>>=_, outcome}
+use Rattle.read_messages.specs.Reading.{Cursor, Reading, refuse, got, outcome}
 use Rattle.read_messages.specs.declared.Outcome.{Outcome}
 use Rattle.read_messages.specs.declared.Outcome.the-variants.{Read, Refused}
 use Rattle.read_scripts.specs.Tree.{parts}
@@ -187,7 +187,7 @@ pub number-is : {script : List ℕ} {t : Table} (H : ScriptHeld script t) → t 
 number-is {script} H = H .tabled .counted ∙ sym (script-number script (H .read) (H .reads))
 
 module _ {script : List ℕ} {t : Table} (H : ScriptHeld script t) (words : List ℕ) where
-  pub reads-rule : (x : Reading (Rule × Cursor)) → readWholeRule (t .count) words ≡ x → readWholeRule (H .read .1 .number) words ≡ x
+  reads-rule : (x : Reading (Rule × Cursor)) → readWholeRule (t .count) words ≡ x → readWholeRule (H .read .1 .number) words ≡ x
   reads-rule x e = subst (λ (k : ℕ). readWholeRule k words ≡ x) (number-is H) e
 
   module _ (moves : List ℕ) (patience : ℕ) (buffer : List ℕ) (q i : ℕ) where

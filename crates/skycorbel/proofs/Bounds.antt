@@ -28,7 +28,7 @@ Long c a = length (a .buffer) ≡ length (c .buffer)
 over-long : (ws b : List ℕ) → length ws ≤ length b → length (ws ++ drop (length ws) b) ≡ length b
 over-long ws b l = let e : length ws + (length b - length ws) ≡ length b = omega arith in length-append ws (drop (length ws) b) ∙ ap (λ (k : ℕ). length ws + k) (length-drop (length ws) b) ∙ e
 
-pub answer-long : (c : Call) → length (answer c .buffer) ≡ length (c .buffer)
+answer-long : (c : Call) → length (answer c .buffer) ≡ length (c .buffer)
 unfolding refusal
 answer-long c = answer-ends c (Long c) (record {
   unread = λ q i e. refl;

@@ -13,17 +13,14 @@ told c = c .before .before
 abbrev told-call : tie.After-tell → tie.After-call
 told-call c = c .before .before .before .before
 
-abbrev call-room : tie.After-call → tie.Else1
-call-room c = c .before .before
-
 returns : tie.Need-returns
-returns c = short _ _ (c .if1 .taken)
+returns c = short _ _ (search needs)
 
 tell-requires : tie.Need-tell-requires
 tell-requires c κs = search (tellable, needs)
 
 returns-2 : tie.Need-returns-2
-returns-2 c = let a = told-call (told c) in told-whole _ _ _ _ (a .call .ensures .0) (call-room a .if1 .left) (told c .tell .ensures _)
+returns-2 c = told-whole _ _ _ _ (told-call (told c) .call .ensures .0) (search needs) (told c .tell .ensures _)
 
 pub skycorbel-call-spec : {M : Type 1} → statement M
 skycorbel-call-spec =

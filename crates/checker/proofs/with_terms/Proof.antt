@@ -98,12 +98,6 @@ run-list-requires c κs =
       };
     }
 
-with-moves-requires : tie.Need-with-moves-requires
-with-moves-requires c κs =
-    let b = c .before in
-    let s = list-start (borrowed-list b) in
-    record { writable = record { ready = ready b; scripted = script-fits (s .args .out .now) (stood b) }; room = s .pre .ruled .tabled .room }
-
 returns : tie.Need-returns
 returns c =
     let no = halted c .ended .given in
@@ -116,6 +110,12 @@ returns-2 : tie.Need-returns-2
 returns-2 c =
     let b = walked-borrowed (walked c) in
     walked c .with-moves .ensures (list-start (borrowed-list b) .args .moves .now) refl (stood b)
+
+with-moves-requires : tie.Need-with-moves-requires
+with-moves-requires c κs =
+    let b = c .before in
+    let s = list-start (borrowed-list b) in
+    record { writable = record { ready = ready b; scripted = script-fits (s .args .out .now) (stood b) }; room = s .pre .ruled .tabled .room }
 
 pub with-terms-spec : {M : Type 1} → statement M
 with-terms-spec =
