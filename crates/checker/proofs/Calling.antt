@@ -3,7 +3,7 @@
 use Prim.Native.Nat.{ℕ, _+_, _≤_, _<_}
 use mathlib.Core.Bool.{true, false, _&&_, _||_}
 use mathlib.Core.List.{List, [], _∷_, _++_}
-use mathlib.Core.Path.{_≡_, refl, sym, ap, ap₂, _∙_, subst}
+use mathlib.Core.Path.{_≡_, refl, sym, ap, ap₂, _∙_, subst, transport}
 use native.Mathlib.Omega.{arith}
 use lib.Dec.{leb, ltb, eqb}
 use lib.ListN.{length, take}
@@ -29,14 +29,15 @@ use Rattle.read_rules.specs.RuleTable as rules
 use Rattle.read_rules.specs.declared.RuleTable.{RuleTable}
 use Rattle.read_rules.specs.declared.RuleScan.{RuleScan}
 use Rattle.theory_closures.specs.Closure.{ClosureMachine, settleUnder, closureOf, Bindings}
-use Rattle.engine_states.specs.Represents.{boundIn, Represents}
+use Rattle.engine_states.specs.Represents.{boundIn, Ready, Represents}
 use Rattle.engine_states.specs.declared.State.{State}
+use Rattle.engine_state_arrays.specs.Lent.{kindsIn, startsIn, standing, Small}
 use Rattle.theory_call.specs.Call.{Call, refusal, startOf, Question, question, asking, terms, door, answer}
 use Rattle.theory_call.specs.ClosureCall.{ClosureRan, halted, moved, closureRun, begun}
-use Rattle.call_lists.specs.Running.{endedOf, madeOf, Left, Runs}
+use Rattle.call_lists.specs.Running.{endedOf, madeOf, Left, Runs, Runnable, ListRan}
 use Rattle.checker.specs.Answering.{answerOf, askedOf, callOf}
 use Rattle.checker.specs.declared.Answer.{Answer}
-use Rattle.checker.specs.Calling.{ScriptHeld, RuleHeld, LetIn, Stands, Greatest}
+use Rattle.checker.specs.Calling.{ScriptHeld, RuleHeld, LetIn, Stands, Walkable, Greatest}
 use Rattle.call_lists.specs.declared.Ended.{Ended}
 use Rattle.call_lists.specs.declared.Ended.the-variants.{Made, Halted}
 use Rattle.theory_call.proofs.Asking.{AllYes, asking-yes, asking-no}
@@ -200,6 +201,17 @@ module _ {script : List ℕ} {t : Table} (H : ScriptHeld script t) (words : List
     pub says-terms : {u : RuleTable} → RuleHeld (t .count) words u → (x : Outcome) → x ≡ Asked patience (length moves) → x ≡ Refused q i → answer c ≡ refusal q i 0 0 buffer
     says-terms R x e d = answers-door c (H .read) (H .reads) q i (own-unasked c (H .read) (R .read) (reads-rule (got (R .read)) (R .reads)) q i (asked-refused (asking (terms patience (length moves))) q i (sym e ∙ d)))
 
+-- the arrays that are lent hold the state that the list begins with, and it stands for the script's closure
+pub record Began (script : List ℕ) (t : Table) (s : State) (sets numbers : List ℕ) : Type 0 where
+  pub kinds : kindsIn numbers ≡ t .kinds
+  pub starts : startsIn numbers ≡ t .starts
+  pub small : Small numbers
+  pub state : standing sets numbers ≡ s
+  pub ready : Ready script (t .kinds) (t .starts) s
+  pub none : boundIn script s ≡ []
+  pub first : (count : ℕ) (b : Script) → Tabled script (record { kinds = t .kinds; starts = t .starts; kids = t .kids; count = count }) b
+      → Represents script (t .kinds) (t .starts) (parts b) 0 s (settleUnder [] (closureOf b))
+
 module _ {script moves words : List ℕ} {patience : ℕ} {t : Table} {u : RuleTable} (L : LetIn script moves words patience t u) where
   pub enters : (buffer : List ℕ) → door (callOf script moves words patience buffer) (startOf script (L .held .read)) ≡ got (L .ruled .read)
   enters buffer = own-got (callOf script moves words patience buffer) (L .held .read) (L .ruled .read) (reads-rule (L .held) words (got (L .ruled .read)) (L .ruled .reads)) (L .asked)
@@ -211,22 +223,14 @@ module _ {script moves words : List ℕ} {patience : ℕ} {t : Table} {u : RuleT
   run ws = closureRun (t .count) 0 ws (begun (L .held .read .0))
 
   -- the list ends as the closure machine's that begins with the script, and leaves that state
-  abbrev pub Ends : Ended → State → Type 0
+  abbrev Ends : Ended → State → Type 0
   Ends e r = (e ≡ endedOf (run moves)) × Left script (t .kinds) (t .starts) r (t .count) (0 + madeOf moves e) (run (take (madeOf moves e) moves))
 
-  -- so does the list as the engine begins it
-  pub ends : (s : State) → Represents script (t .kinds) (t .starts) (parts (L .held .read .0)) 0 s (settleUnder [] (closureOf (L .held .read .0))) → boundIn script s ≡ []
-      → (e : Ended) (r : State) → Runs script (t .kinds) (t .starts) (t .count) moves s e r → Ends e r
-  ends s first none e r g =
-      let b = settleUnder [] (closureOf (L .held .read .0)) in
-      let x = g (t .count) 0 b (omega (arith, short)) (subst (λ (k : ℕ). Represents script (t .kinds) (t .starts) k 0 s b) (sym (L .held .tabled .counted)) first) in
-      subst (λ (σ : Bindings). (e ≡ endedOf (closureRun (t .count) 0 moves (record { tree = b; bindings = σ }))) × Left script (t .kinds) (t .starts) r (t .count) (0 + madeOf moves e) (closureRun (t .count) 0 (take (madeOf moves e) moves) (record { tree = b; bindings = σ }))) none x
-
-  pub list-halted : (buffer : List ℕ) (q i : ℕ) (r : State) → Ends (Halted q i) r → answer (callOf script moves words patience buffer) ≡ refusal q i i 0 buffer
+  list-halted : (buffer : List ℕ) (q i : ℕ) (r : State) → Ends (Halted q i) r → answer (callOf script moves words patience buffer) ≡ refusal q i i 0 buffer
   list-halted buffer q i r g = answers-halted (callOf script moves words patience buffer) (L .held .read) (L .held .reads) (L .ruled .read) (enters buffer) q i
       (subst (λ (k : ℕ). closureRun k 0 moves (begun (L .held .read .0)) ≡ halted q i) (number-is (L .held)) (ends-halted q i _ (g .0)))
 
-  pub list-made : (r : State) → Ends Made r → Stands script moves words patience t u r
+  list-made : (r : State) → Ends Made r → Stands script moves words patience t u r
   list-made r g =
       let z : 0 + length moves ≡ length moves = omega arith in
       let (m, x, R, d) = left-made script (t .kinds) (t .starts) r (t .count) (0 + length moves) _ (g .1) in
@@ -237,3 +241,45 @@ module _ {script moves words : List ℕ} {patience : ℕ} {t : Table} {u : RuleT
         stands = subst (λ (k : ℕ). Represents script (t .kinds) (t .starts) (t .count) k r (m .tree)) z R;
         bound = d;
       }
+
+  module _ {s : State} {sets numbers : List ℕ} (B : Began script t s sets numbers) where
+    pub runnable : length sets ≡ 131 → length numbers ≡ 481 → Runnable script sets numbers moves (t .count)
+    runnable l m = record {
+      few = L .held .tabled .few;
+      short = short;
+      lends = record { sets-long = l; numbers-long = m; small = B .small; ready = transport (λ q. Ready script (sym (B .kinds) q) (sym (B .starts) q) (sym (B .state) q)) (B .ready) };
+    }
+
+    module _ {sets₁ numbers₁ : List ℕ} {x : Ended} (R : ListRan script sets numbers moves (t .count) sets₁ numbers₁ x) where
+      abbrev left : State
+      left = standing sets₁ numbers₁
+
+      ran : Ends x left
+      ran =
+          let b = settleUnder [] (closureOf (L .held .read .0)) in
+          let stands = subst (λ (k : ℕ). Represents script (t .kinds) (t .starts) k 0 s b) (sym (L .held .tabled .counted)) (B .first (t .count) (L .held .read .0) (L .held .tabled)) in
+          let g : Runs script (t .kinds) (t .starts) (t .count) moves s x left = transport (λ q. Runs script (B .kinds q) (B .starts q) (t .count) moves (B .state q) x left) (R .runs) in
+          subst (λ (σ : Bindings). (x ≡ endedOf (closureRun (t .count) 0 moves (record { tree = b; bindings = σ }))) × Left script (t .kinds) (t .starts) left (t .count) (0 + madeOf moves x) (closureRun (t .count) 0 (take (madeOf moves x) moves) (record { tree = b; bindings = σ }))) (B .none)
+          (g (t .count) 0 b (omega (arith, short)) stands)
+
+      pub list-refused : {q i : ℕ} (r : Answer) (buffer : List ℕ) → x ≡ Halted q i → ((out : List ℕ) → answerOf r out ≡ refusal q i i 0 out) → answerOf r buffer ≡ answer (callOf script moves words patience buffer)
+      list-refused {q} {i} r buffer d f = f buffer ∙ sym (list-halted buffer q i left (transport (λ z. Ends (d z) left) ran))
+
+      -- the state that is borrowed where all moves are made
+      module _ (d : x ≡ Made) {k l : List ℕ} {b : State} (f : Small numbers₁ → (k ≡ kindsIn numbers₁) × (l ≡ startsIn numbers₁) × (b ≡ left)) where
+        stood : Stands script moves words patience t u b
+        stood = list-made b (transport (λ z. Ends (d z) (sym (f (R .lends .small) .2) z)) ran)
+
+        pub list-walkable : Walkable script t u b
+        list-walkable = record {
+          writable = record {
+            ready = transport (λ z. Ready script ((R .same-kinds ∙ B .kinds) z) ((R .same-starts ∙ B .starts) z) (sym (f (R .lends .small) .2) z)) (R .lends .ready);
+            scripted = record { placed = λ i. omega (arith, L .held .tabled .low i); spent = λ i. omega (arith, stood .stands .spends i, short) };
+          };
+          room = L .ruled .tabled .room;
+        }
+
+        pub list-answered : (r : Answer) (after buffer : List ℕ)
+            → ((list : List ℕ) → length moves ≡ length list → Stands script list words patience t u b → answerOf r after ≡ answer (callOf script list words patience buffer))
+            → answerOf r after ≡ answer (callOf script moves words patience buffer)
+        list-answered r after buffer g = g moves refl stood

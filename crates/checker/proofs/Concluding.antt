@@ -17,7 +17,6 @@ use Rattle.read_rules.specs.declared.RuleTable.{RuleTable}
 use Rattle.theory_closures.specs.Closure.{unfoldHead, unfolded, unfoldMachine}
 use Rattle.engine_states.specs.Represents.{boundIn}
 use Rattle.engine_states.specs.declared.State.{State}
-use Rattle.write_trees.specs.Bodies.{Scripted}
 use Rattle.theory_decision.specs.Walk.{walkFrom}
 use Rattle.theory_decision.specs.ClosureWalk.{closureSpace}
 use Rattle.walk_stages.specs.Visits.{walkedOf, Walks}
@@ -78,9 +77,6 @@ module _ (buffer : List ℕ) {script moves words : List ℕ} {patience : ℕ} {t
   below i l =
       let z : n ≤ i = omega (arith, number) in
       sym (map-total (λ k h. oneIf (eqb i k)) (unfoldHead (S .machine .bindings)) (S .machine .tree)) ∙ standing-good c standing .below i z
-
-  pub script-fits : Scripted (t .starts) (s .offsets)
-  script-fits = record { placed = λ i. omega (arith, S .let-in .held .tabled .low i); spent = λ i. omega (arith, S .stands .spends i, short (S .let-in)) }
 
   -- THEOREM: what the engine's walk answers, with the tree that stands, is the call's answer.
   walk-answers : (greatest : ℕ) → Greatest script words greatest → (w : Walked)

@@ -1,13 +1,5 @@
 -- `with_terms` meets its contract: questions 15 and 16, and the list as the closure machine runs it. Assumes nothing.
-use mathlib.Core.Path.{_≡_, refl, sym, _∙_, transport}
-use lib.ListN.{length}
-use Rattle.engine_states.specs.Represents.{Ready}
-use Rattle.engine_states.specs.declared.State.{State}
-use Rattle.engine_state_arrays.specs.Lent.{standing}
-use Rattle.call_lists.specs.Running.{Runs}
-use Rattle.checker.specs.Calling.{Stands}
-use Rattle.checker.proofs.Calling.{short, Ends, ends, list-halted, list-made}
-use Rattle.checker.proofs.Concluding.{script-fits}
+use Rattle.checker.proofs.Calling.{Began, runnable, list-refused, list-walkable, list-answered}
 use borrow.Author.Needs.{needs}
 use Rattle.checker.proofs.with_terms.Statement.{statement}
 use Rattle.checker.proofs.with_terms.Tie as tie
@@ -41,86 +33,32 @@ walked c = c .before .before
 abbrev walked-borrowed : tie.After-with-moves → tie.After-borrowed
 walked-borrowed c = c .before .before
 
--- ---- what is lent are arrays
-
-long-sets : (c : tie.After-lend) → length (c .lend .result .sets) ≡ 131
-long-sets c = search needs
-
-long-numbers : (c : tie.After-lend) → length (c .lend .result .numbers) ≡ 481
-long-numbers c = search needs
-
--- ---- the list
-
--- the state that it leaves
-abbrev left : tie.After-run-list → State
-left c = standing (c .run-list .last .1 .0) (c .run-list .last .1 .1 .0)
-
-ran : (c : tie.After-run-list) → Ends (list-start c .pre) (c .run-list .result) (left c)
-ran c =
-    let s = list-start c in
-    let f = lent (c .before) .before .first-state in
-    let z = lent (c .before) .lend .ensures in
-    ends (s .pre) (f .result) (f .ensures .1 (s .args .parts .count) (s .pre .held .read .0) (s .pre .held .tabled)) (f .ensures .0 .1) _ _
-    (transport (λ q. Runs (s .args .script .now) (z .0 .0 q) (z .0 .1 q) (s .args .parts .count) (s .args .moves .now) (z .1 q) (c .run-list .result) (left c)) (c .run-list .ensures .runs))
-
--- ---- the state that is borrowed
-
-borrowed-is : (c : tie.After-borrowed) → c .borrowed .result .state ≡ left (borrowed-list c)
-borrowed-is c = c .borrowed .ensures (borrowed-list c .run-list .ensures .lends .small) .2
-
-stood : (c : tie.After-borrowed) → let a = list-start (borrowed-list c) .args in Stands (a .script .now) (a .moves .now) (a .rule .now) (a .patience) (a .parts) (a .table) (c .borrowed .result .state)
-stood c =
-    let l = borrowed-list c in
-    list-made (list-start l .pre) _ (transport (λ q. Ends (list-start l .pre) (made c .enum-told .given .1 q) (sym (borrowed-is c) q)) (ran l))
-
-ready : (c : tie.After-borrowed) → let a = list-start (borrowed-list c) .args in Ready (a .script .now) (a .parts .kinds) (a .parts .starts) (c .borrowed .result .state)
-ready c =
-    let l = borrowed-list c in
-    let k = l .run-list .ensures in
-    let z = lent (l .before) .lend .ensures in
-    transport (λ q. Ready (list-start l .args .script .now) ((k .same-kinds ∙ z .0 .0) q) ((k .same-starts ∙ z .0 .1) q) (sym (borrowed-is c) q)) (k .lends .ready)
+began : (c : tie.After-lend) → let a = first-start (c .before) .args in Began (a .script .now) (a .parts) (c .before .first-state .result) (c .lend .result .sets) (c .lend .result .numbers)
+began c = search needs
 
 -- ---- the needs
 
 run-list-requires : tie.Need-run-list-requires
-run-list-requires c κs =
-    let l = lent c in
-    let s = first-start (l .before) in
-    let z = l .lend .ensures in
-    record {
-      few = s .pre .held .tabled .few;
-      short = short (s .pre);
-      lends = record {
-        sets-long = long-sets l;
-        numbers-long = long-numbers l;
-        small = z .0 .2;
-        ready = transport (λ q. Ready (s .args .script .now) (sym (z .0 .0) q) (sym (z .0 .1) q) (sym (z .1) q)) (l .before .first-state .ensures .0 .0);
-      };
-    }
+run-list-requires c κs = runnable (first-start (lent c .before) .pre) (began (lent c)) (search needs) (search needs)
 
 returns : tie.Need-returns
 returns c =
-    let no = halted c .ended .given in
     let l = ended-list (halted c) in
-    let s = list-start l in
-    c .refused .ensures (s .args .out .now)
-    ∙ sym (list-halted (s .pre) (s .args .out .now) (no .0 .0) (no .0 .1 .0) (left l) (transport (λ q. Ends (s .pre) (no .1 q) (left l)) (ran l)))
+    list-refused (list-start l .pre) (began (lent (l .before))) (l .run-list .ensures) _ _ (halted c .ended .given .1) (c .refused .ensures)
 
 returns-2 : tie.Need-returns-2
 returns-2 c =
-    let b = walked-borrowed (walked c) in
-    walked c .with-moves .ensures (list-start (borrowed-list b) .args .moves .now) refl (stood b)
+    let b = walked-borrowed (walked c) in let l = borrowed-list b in
+    list-answered (list-start l .pre) (began (lent (l .before))) (l .run-list .ensures) (made b .enum-told .given .1) (b .borrowed .ensures) _ _ _ (walked c .with-moves .ensures)
 
 with-moves-requires : tie.Need-with-moves-requires
 with-moves-requires c κs =
-    let b = c .before in
-    let s = list-start (borrowed-list b) in
-    record { writable = record { ready = ready b; scripted = script-fits (s .args .out .now) (stood b) }; room = s .pre .ruled .tabled .room }
+    let b = c .before in let l = borrowed-list b in
+    list-walkable (list-start l .pre) (began (lent (l .before))) (l .run-list .ensures) (made b .enum-told .given .1) (b .borrowed .ensures)
 
 pub with-terms-spec : {M : Type 1} → statement M
 with-terms-spec =
     tie.close
     (tie.spec
-    (λ c κs. search needs) (λ c κs. c .first-state .ensures .0 .0 .bound .within) run-list-requires (λ c. search needs) (λ c κs. search needs)
-    returns
+    (λ c κs. search needs) (λ c κs. search needs) run-list-requires (λ c. search needs) (λ c κs. search needs) returns
     (λ c. search needs) (λ c. search needs) (λ c κs. search needs) with-moves-requires (λ c. search needs) returns-2)
