@@ -1,17 +1,21 @@
 -- `write_state` meets its contract: the arrays of the state are lent to the writer. Assumes nothing.
-use Prim.Native.Nat.{ℕ}
+use Prim.Native.Nat.{ℕ, _≤_}
 use mathlib.Core.List.{List, []}
-use mathlib.Core.Path.{_≡_, sym, subst, transport}
-use lib.ListN.{length}
+use mathlib.Core.Path.{_≡_, sym, transport}
+use lib.ListN.{length, drop}
 use native.Mathlib.Omega.{arith}
 use Rattle.engine_bindings.specs.Bindings.{bindingsIn}
 use Rattle.engine_held_bindings.specs.Held.{bindingsOf}
 use Rattle.engine_held_bindings.specs.Sizes.{Cached}
-use Rattle.theory_closures.specs.Closure.{Closure, Bindings, unfolded}
-use Rattle.engine_states.specs.Represents.{boundIn}
+use Rattle.theory_closures.specs.Closure.{Closure, unfolded}
+use Rattle.read_scripts.specs.Tree.{tops, parts}
+use Rattle.read_scripts.specs.Represents.{Held, bodyIn}
+use Rattle.engine_states.specs.Represents.{heads, boundIn, Represents}
+use Rattle.engine_states.specs.declared.State.{State}
 use Rattle.theory_written_trees.specs.Write.{write}
 use Rattle.write_trees.specs.Room.{Fitted}
 use Rattle.write_trees.specs.declared.Fitting.{Fitting}
+use Rattle.checker.specs.Calling.{Writable}
 use borrow.Author.Needs.{needs}
 use Rattle.checker.proofs.write_state.Statement.{statement}
 use Rattle.checker.proofs.write_state.Tie as tie
@@ -36,34 +40,27 @@ bulks-sizes c = c .before .before
 abbrev counts-start : tie.After-counts2 → tie.Start
 counts-start c = variables-start (places-variables (counts-places c))
 
-abbrev lent-bulks : tie.After-write-tree-arg → tie.After-bulks2
-lent-bulks c = c .before .before
-
-abbrev written : tie.After-slice-known2 → tie.After-write-tree
-written c = c .before .before
-
 -- the bindings' arrays
 long : (s : tie.Start) → let b = s .args .state .bindings in (length (b .variables) ≡ 32) × (length (b .places) ≡ 32) × (length (b .counts) ≡ 32) × (length (b .sizes) ≡ 32) × (length (b .bulks) ≡ 32)
 long s = search (s .good .1 .1 .1 .0 .1 .1 .1 .1 .1 .0, needs)
 
--- the bindings that are lent are the state's
-bound : (c : tie.After-counts2) → let a = counts-start c .args in bindingsIn (a .script .now) (counts-places c .before .tail .result .now) (c .before .tail2 .result .now) ≡ boundIn (a .script .now) (a .state)
-unfolding bindingsOf
-bound c = λ q. bindingsIn (counts-start c .args .script .now) (counts-places c .before .tail .ensures q) (c .before .tail2 .ensures q)
+module _ (script kinds starts : List ℕ) (s : State) (vs ps : List ℕ) (ev : vs ≡ drop (s .bindings .first) (s .bindings .variables)) (ep : ps ≡ drop (s .bindings .first) (s .bindings .places)) where
+  lent-cached : (ns zs us : List ℕ) → ns ≡ drop (s .bindings .first) (s .bindings .counts) → zs ≡ drop (s .bindings .first) (s .bindings .sizes) → us ≡ drop (s .bindings .first) (s .bindings .bulks)
+      → Writable script kinds starts s → Cached script vs ps ns zs us
+  lent-cached ns zs us en ez eu W = transport (λ q. Cached script (sym ev q) (sym ep q) (sym en q) (sym ez q) (sym eu q)) (W .ready .bound .cached)
 
-fitted : {σ τ : Bindings} {before after : List ℕ} {r : Fitting} (b : Closure) → σ ≡ τ → Fitted (write [] 0 (unfolded σ b)) before after r → Fitted (write [] 0 (unfolded τ b)) before after r
-fitted {before = before} {after} {r} b e f = subst (λ (σ : Bindings). Fitted (write [] 0 (unfolded σ b)) before after r) e f
+  -- the bindings that are lent are the state's
+  lent-fits : (weight spent : ℕ) (b : Closure) (before after : List ℕ) (r : Fitting) → Represents script kinds starts weight spent s b
+      → ((b : Closure) → bodyIn (s .kids) 64 ≡ tops b → Held (bodyIn (s .kids)) (heads script kinds starts (s .offsets)) b → parts b ≤ 64 → Fitted (write [] 0 (unfolded (bindingsIn script vs ps) b)) before after r)
+      → Fitted (write [] 0 (unfolded (boundIn script s) b)) before after r
+  unfolding bindingsOf
+  lent-fits weight spent b before after r R f = transport (λ q. Fitted (write [] 0 (unfolded (bindingsIn script (ev q) (ep q)) b)) before after r) (f b (R .top) (R .held) (omega (arith, R .weighs, R .light)))
 
 write-tree-requires : tie.Need-write-tree-requires
-write-tree-requires c κs =
-    let b = lent-bulks c in let z = bulks-sizes b in let n = sizes-counts z in
-    let s = counts-start n in
-    (transport (λ q. Cached (s .args .script .now) (sym (counts-places n .before .tail .ensures) q) (sym (n .before .tail2 .ensures) q) (sym (z .before .tail3 .ensures) q) (sym (b .before .tail4 .ensures) q) (sym (c .before .tail5 .ensures) q)) (s .pre .ready .bound .cached), s .pre .scripted)
+write-tree-requires c κs = search (lent-cached, needs)
 
 returns : tie.Need-returns
-returns c weight spent b R =
-    let w = written c in
-    fitted b (bound (sizes-counts (bulks-sizes (lent-bulks (w .before))))) (w .write-tree .ensures b (R .top) (R .held) (omega (arith, R .weighs, R .light)))
+returns c weight spent b R = search (lent-fits, needs)
 
 pub write-state-spec : {M : Type 1} → statement M
 write-state-spec =
