@@ -48,8 +48,9 @@ pub record Runnable (script sets numbers moves : List ℕ) (parts : ℕ) : Type 
 pub record ListRan (script sets numbers moves : List ℕ) (parts : ℕ) (sets₁ numbers₁ : List ℕ) (e : Ended) : Type 0 where
   -- the arrays hold a state again
   pub lends : Lends script sets₁ numbers₁
-  -- the part table stays
+  -- the kinds of the parts stay
   pub same-kinds : kindsIn numbers₁ ≡ kindsIn numbers
+  -- so do their starts
   pub same-starts : startsIn numbers₁ ≡ startsIn numbers
   -- the list ends as the closure machine's, and the state stands for the machine that it leaves
   pub runs : Runs script (kindsIn numbers) (startsIn numbers) parts moves (standing sets numbers) e (standing sets₁ numbers₁)

@@ -213,22 +213,22 @@ pub record Began (script : List ℕ) (t : Table) (s : State) (sets numbers : Lis
       → Represents script (t .kinds) (t .starts) (parts b) 0 s (settleUnder [] (closureOf b))
 
 module _ {script moves words : List ℕ} {patience : ℕ} {t : Table} {u : RuleTable} (L : LetIn script moves words patience t u) where
-  pub enters : (buffer : List ℕ) → door (callOf script moves words patience buffer) (startOf script (L .held .read)) ≡ got (L .ruled .read)
-  enters buffer = own-got (callOf script moves words patience buffer) (L .held .read) (L .ruled .read) (reads-rule (L .held) words (got (L .ruled .read)) (L .ruled .reads)) (L .asked)
+  pub enters : (buffer : List ℕ) → door (callOf script moves words patience buffer) (startOf script (L .both .held .read)) ≡ got (L .both .ruled .read)
+  enters buffer = own-got (callOf script moves words patience buffer) (L .both .held .read) (L .both .ruled .read) (reads-rule (L .both .held) words (got (L .both .ruled .read)) (L .both .ruled .reads)) (L .asked)
 
   pub short : length moves ≤ 4096
   short = terms-few patience (length moves) (L .asked)
 
   abbrev run : List ℕ → ClosureRan
-  run ws = closureRun (t .count) 0 ws (begun (L .held .read .0))
+  run ws = closureRun (t .count) 0 ws (begun (L .both .held .read .0))
 
   -- the list ends as the closure machine's that begins with the script, and leaves that state
   abbrev Ends : Ended → State → Type 0
   Ends e r = (e ≡ endedOf (run moves)) × Left script (t .kinds) (t .starts) r (t .count) (0 + madeOf moves e) (run (take (madeOf moves e) moves))
 
   list-halted : (buffer : List ℕ) (q i : ℕ) (r : State) → Ends (Halted q i) r → answer (callOf script moves words patience buffer) ≡ refusal q i i 0 buffer
-  list-halted buffer q i r g = answers-halted (callOf script moves words patience buffer) (L .held .read) (L .held .reads) (L .ruled .read) (enters buffer) q i
-      (subst (λ (k : ℕ). closureRun k 0 moves (begun (L .held .read .0)) ≡ halted q i) (number-is (L .held)) (ends-halted q i _ (g .0)))
+  list-halted buffer q i r g = answers-halted (callOf script moves words patience buffer) (L .both .held .read) (L .both .held .reads) (L .both .ruled .read) (enters buffer) q i
+      (subst (λ (k : ℕ). closureRun k 0 moves (begun (L .both .held .read .0)) ≡ halted q i) (number-is (L .both .held)) (ends-halted q i _ (g .0)))
 
   list-made : (r : State) → Ends Made r → Stands script moves words patience t u r
   list-made r g =
@@ -245,7 +245,7 @@ module _ {script moves words : List ℕ} {patience : ℕ} {t : Table} {u : RuleT
   module _ {s : State} {sets numbers : List ℕ} (B : Began script t s sets numbers) where
     pub runnable : length sets ≡ 131 → length numbers ≡ 481 → Runnable script sets numbers moves (t .count)
     runnable l m = record {
-      few = L .held .tabled .few;
+      few = L .both .held .tabled .few;
       short = short;
       lends = record { sets-long = l; numbers-long = m; small = B .small; ready = transport (λ q. Ready script (sym (B .kinds) q) (sym (B .starts) q) (sym (B .state) q)) (B .ready) };
     }
@@ -256,8 +256,8 @@ module _ {script moves words : List ℕ} {patience : ℕ} {t : Table} {u : RuleT
 
       ran : Ends x left
       ran =
-          let b = settleUnder [] (closureOf (L .held .read .0)) in
-          let stands = subst (λ (k : ℕ). Represents script (t .kinds) (t .starts) k 0 s b) (sym (L .held .tabled .counted)) (B .first (t .count) (L .held .read .0) (L .held .tabled)) in
+          let b = settleUnder [] (closureOf (L .both .held .read .0)) in
+          let stands = subst (λ (k : ℕ). Represents script (t .kinds) (t .starts) k 0 s b) (sym (L .both .held .tabled .counted)) (B .first (t .count) (L .both .held .read .0) (L .both .held .tabled)) in
           let g : Runs script (t .kinds) (t .starts) (t .count) moves s x left = transport (λ q. Runs script (B .kinds q) (B .starts q) (t .count) moves (B .state q) x left) (R .runs) in
           subst (λ (σ : Bindings). (x ≡ endedOf (closureRun (t .count) 0 moves (record { tree = b; bindings = σ }))) × Left script (t .kinds) (t .starts) left (t .count) (0 + madeOf moves x) (closureRun (t .count) 0 (take (madeOf moves x) moves) (record { tree = b; bindings = σ }))) (B .none)
           (g (t .count) 0 b (omega (arith, short)) stands)
@@ -274,9 +274,9 @@ module _ {script moves words : List ℕ} {patience : ℕ} {t : Table} {u : RuleT
         list-walkable = record {
           writable = record {
             ready = transport (λ z. Ready script ((R .same-kinds ∙ B .kinds) z) ((R .same-starts ∙ B .starts) z) (sym (f (R .lends .small) .2) z)) (R .lends .ready);
-            scripted = record { placed = λ i. omega (arith, L .held .tabled .low i); spent = λ i. omega (arith, stood .stands .spends i, short) };
+            scripted = record { placed = λ i. omega (arith, L .both .held .tabled .low i); spent = λ i. omega (arith, stood .stands .spends i, short) };
           };
-          room = L .ruled .tabled .room;
+          room = L .both .ruled .tabled .room;
         }
 
         pub list-answered : (r : Answer) (after buffer : List ℕ)

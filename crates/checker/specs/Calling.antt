@@ -44,10 +44,8 @@ pub record BothHeld (script words : List ℕ) (parts : Table) (table : RuleTable
 
 -- questions 1 to 14 are answered by yes
 pub record LetIn (script moves words : List ℕ) (patience : ℕ) (parts : Table) (table : RuleTable) : Type 0 where
-  -- the script is read, and its table holds it
-  pub held : ScriptHeld script parts
-  -- the rule is read beside the script's parts, and its table holds it
-  pub ruled : RuleHeld (parts .count) words table
+  -- script and rule are read, and their tables hold them
+  pub both : BothHeld script words parts table
   -- the patience and the number of moves fit
   pub asked : asking (terms patience (length moves)) ≡ got tt
 
@@ -55,7 +53,7 @@ pub record LetIn (script moves words : List ℕ) (patience : ℕ) (parts : Table
 pub record Stands (script moves words : List ℕ) (patience : ℕ) (parts : Table) (table : RuleTable) (s : State) : Type 0 where
   pub let-in : LetIn script moves words patience parts table
   pub machine : ClosureMachine
-  pub runs : closureRun (parts .count) 0 moves (begun (let-in .held .read .0)) ≡ moved machine
+  pub runs : closureRun (parts .count) 0 moves (begun (let-in .both .held .read .0)) ≡ moved machine
   pub stands : Represents script (parts .kinds) (parts .starts) (parts .count) (length moves) s (machine .tree)
   pub bound : boundIn script s ≡ machine .bindings
 
@@ -68,12 +66,14 @@ pub record Writable (script kinds starts : List ℕ) (s : State) : Type 0 where
 
 -- the state can be walked with the rule, and written
 pub record Walkable (script : List ℕ) (parts : Table) (table : RuleTable) (s : State) : Type 0 where
+  -- it can be written
   pub writable : Writable script (parts .kinds) (parts .starts) s
   -- the parts that PLACED words make have numbers behind the script's
   pub room : parts .count + table .count ≤ 64
 
 -- "G the greatest name in script and rule (0 if none)"
 pub record Greatest (script words : List ℕ) (g : ℕ) : Type 0 where
+  -- it is the greater of both
   pub most : g ≡ max (greatestName script) (greatestRuleName words)
   -- names have 28 bits
   pub small : g < 268435456

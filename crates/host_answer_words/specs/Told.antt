@@ -39,7 +39,9 @@ told a =
 pub record Tellable (a : engine.Answer) (words : List ℕ) : Type 0 where
   -- there is room for eight
   pub room : 8 ≤ length words
-  -- place, moves and weight have 32 bits
+  -- the place has 32 bits
   pub place : placeOf (verdictOf (a .verdict)) < 2 ^ 32
+  -- so has the number of moves
   pub moves : a .moves < 2 ^ 32
+  -- and the weight
   pub weight : a .weight < 2 ^ 32
