@@ -3,7 +3,7 @@ use Prim.Native.Nat.{ℕ, suc, _+_, _≤_, _<_}
 use mathlib.Core.Bool.{Bool, true, false, true≢false, and-eq-true-iff}
 use mathlib.Core.List.{List, [], _∷_, _++_, append-nil, append-assoc}
 use mathlib.Core.Option.{Option, none, some}
-use mathlib.Core.Path.{_≡_, refl, sym, ap, _∙_, subst}
+use mathlib.Core.Path.{_≡_, refl, sym, ap, _∙_, subst, transport}
 use native.Mathlib.Omega.{arith}
 use lib.Dec.{ltb, eqb}
 use lib.ListN.{getD, take, drop, length, take-append-drop, drop-of-length-le}
@@ -13,11 +13,13 @@ use Rattle.read_messages.specs.Words.{kind, operand}
 use Rattle.theory_closures.specs.Closure.{Closure, Bindings, closureMove, ClosureMachine}
 use Rattle.engine_states.specs.Represents.{boundIn, Represents}
 use Rattle.engine_states.specs.declared.State.{State}
+use Rattle.engine_state_arrays.specs.Lent.{kindsIn, startsIn, standing, Lends}
 use Rattle.engine_targets.specs.Targets.{isSome}
 use Rattle.engine_targets.specs.Makes.{Makes, Tries}
 use Rattle.theory_call.specs.Call.{actor, target, moveFits}
 use Rattle.theory_call.specs.ClosureCall.{halted, moved, afterMove, ifMade, closureRun}
-use Rattle.call_lists.specs.Running.{endedOf, Left, Runs}
+use Rattle.call_lists.specs.Running.{endedOf, Left, Runs, ListRan}
+use Rattle.call_lists.specs.declared.Ended.{Ended}
 use Rattle.call_lists.specs.declared.Ended.the-variants.{Made, Halted}
 
 -- the word at an index, and those behind it
@@ -48,7 +50,7 @@ module _ (script kinds starts : List ℕ) (n : ℕ) (moves : List ℕ) (s : Stat
   abbrev pub Going : (i : ℕ) → State → Type 0
   Going i r = (weight spent : ℕ) (b : Closure) → spent + length moves < 4294967295 → Represents script kinds starts weight spent s b → Reached weight spent b i r
 
-  pub going-none : Going 0 s
+  going-none : Going 0 s
   going-none weight spent b few R = record {
     machine = from b;
     goes = λ ws. refl;
@@ -68,7 +70,7 @@ module _ (script kinds starts : List ℕ) (n : ℕ) (moves : List ℕ) (s : Stat
         subst (Left script kinds starts r weight (spent + i)) (sym e) (q .stands, q .bound)
 
     -- the list is made
-    pub going-ends : length moves ≤ i → i ≤ length moves → Runs script kinds starts n moves s Made r
+    going-ends : length moves ≤ i → i ≤ length moves → Runs script kinds starts n moves s Made r
     unfolding closureRun endedOf
     going-ends m l weight spent b few R =
         let q = G weight spent b few R in
@@ -88,7 +90,7 @@ module _ (script kinds starts : List ℕ) (n : ℕ) (moves : List ℕ) (s : Stat
       on M = ap (λ (ws : List ℕ). closureRun n i ws M) (drop-word moves i m)
 
       -- question 15
-      pub going-unfit : moveFits n w ≡ false → Runs script kinds starts n moves s (Halted 15 i) r
+      going-unfit : moveFits n w ≡ false → Runs script kinds starts n moves s (Halted 15 i) r
       unfolding closureRun endedOf
       going-unfit e weight spent b few R =
           let q = G weight spent b few R in
@@ -104,7 +106,7 @@ module _ (script kinds starts : List ℕ) (n : ℕ) (moves : List ℕ) (s : Stat
             (x .0 ∙ ap (λ (σ : Bindings). isSome (closureMove σ (actor w) (target w) (q .machine .tree))) (q .bound), x .1)
 
         -- question 16
-        pub going-stuck : made ≡ false → Runs script kinds starts n moves s (Halted 16 i) t
+        going-stuck : made ≡ false → Runs script kinds starts n moves s (Halted 16 i) t
         unfolding closureRun ifMade endedOf
         going-stuck e weight spent b few R =
             let q = G weight spent b few R in
@@ -115,7 +117,7 @@ module _ (script kinds starts : List ℕ) (n : ℕ) (moves : List ℕ) (s : Stat
             )
 
         -- one move more
-        pub going-on : made ≡ true → Going (i + 1) t
+        going-on : made ≡ true → Going (i + 1) t
         unfolding closureRun ifMade
         going-on e weight spent b few R =
             let q = G weight spent b few R in
@@ -132,9 +134,55 @@ module _ (script kinds starts : List ℕ) (n : ℕ) (moves : List ℕ) (s : Stat
               bound = bound ∙ ap (λ (σ : Bindings). v .news ++ σ) (q .bound);
             }
 
+-- ---- the turns of the loop, on arrays that are lent
+
+-- i moves are made, and the arrays hold the state behind them
+pub record Turn (script sets₀ numbers₀ moves : List ℕ) (n i : ℕ) (sets numbers : List ℕ) : Type 0 where
+  pub within : i ≤ length moves
+  pub lends : Lends script sets numbers
+  pub same-kinds : kindsIn numbers ≡ kindsIn numbers₀
+  pub same-starts : startsIn numbers ≡ startsIn numbers₀
+  pub going : Going script (kindsIn numbers₀) (startsIn numbers₀) n moves (standing sets₀ numbers₀) i (standing sets numbers)
+
+module _ (script sets₀ numbers₀ moves : List ℕ) (n : ℕ) where
+  pub turn-none : Lends script sets₀ numbers₀ → Turn script sets₀ numbers₀ moves n 0 sets₀ numbers₀
+  turn-none l = record { within = omega arith; lends = l; same-kinds = refl; same-starts = refl; going = going-none script (kindsIn numbers₀) (startsIn numbers₀) n moves (standing sets₀ numbers₀) }
+
+  module _ (i : ℕ) (sets numbers : List ℕ) (T : Turn script sets₀ numbers₀ moves n i sets numbers) where
+    -- the list ends with this turn, which has changed nothing
+    ended : (e : Ended) → Runs script (kindsIn numbers₀) (startsIn numbers₀) n moves (standing sets₀ numbers₀) e (standing sets numbers) → ListRan script sets₀ numbers₀ moves n sets numbers e
+    ended e r = record { lends = T .lends; same-kinds = T .same-kinds; same-starts = T .same-starts; runs = r }
+
+    pub turn-ends : length moves ≤ i → ListRan script sets₀ numbers₀ moves n sets numbers Made
+    turn-ends m = ended Made (going-ends _ _ _ _ _ _ _ _ (T .going) m (T .within))
+
+    module _ (m : i < length moves) (f : Bool) (asked : f ≡ moveFits n (getD moves i 0)) where
+      pub turn-unfit : f ≡ false → ListRan script sets₀ numbers₀ moves n sets numbers (Halted 15 i)
+      turn-unfit e = ended (Halted 15 i) (going-unfit _ _ _ _ _ _ _ _ (T .going) m (sym asked ∙ e))
+
+      module _ (fits : f ≡ true) (a b : ℕ) (ea : a ≡ actor (getD moves i 0)) (eb : b ≡ target (getD moves i 0)) (sets₁ numbers₁ : List ℕ) (L : Lends script sets₁ numbers₁)
+          (ek : kindsIn numbers₁ ≡ kindsIn numbers) (es : startsIn numbers₁ ≡ startsIn numbers) (made : Bool)
+          (X : Tries script (kindsIn numbers) (startsIn numbers) (standing sets numbers) (standing sets₁ numbers₁) made a b) where
+        -- by the move word, and by the part table that the list began with
+        tried-so : Tries script (kindsIn numbers₀) (startsIn numbers₀) (standing sets numbers) (standing sets₁ numbers₁) made (actor (getD moves i 0)) (target (getD moves i 0))
+        tried-so = transport (λ q. Tries script (T .same-kinds q) (T .same-starts q) (standing sets numbers) (standing sets₁ numbers₁) made (ea q) (eb q)) X
+
+        pub turn-stuck : made ≡ false → ListRan script sets₀ numbers₀ moves n sets₁ numbers₁ (Halted 16 i)
+        turn-stuck e = record { lends = L; same-kinds = ek ∙ T .same-kinds; same-starts = es ∙ T .same-starts; runs = going-stuck _ _ _ _ _ _ _ _ (T .going) m (sym asked ∙ fits) _ made tried-so e }
+
+        pub turn-on : made ≡ true → Turn script sets₀ numbers₀ moves n (i + 1) sets₁ numbers₁
+        turn-on e = record { within = omega arith; lends = L; same-kinds = ek ∙ T .same-kinds; same-starts = es ∙ T .same-starts; going = going-on _ _ _ _ _ _ _ _ (T .going) m (sym asked ∙ fits) _ made tried-so e }
+
 -- a word that fits names parts of the script, of which there are at most 64
-pub fitting : (n w : ℕ) → n ≤ 64 → moveFits n w ≡ true → (actor w < 64) × (target w < 64)
-unfolding moveFits
-fitting n w l e =
-    let x = and-eq-true-iff (ltb (actor w) n) (ltb (target w) n) .0 (and-eq-true-iff (ltb (operand w) 65536) _ .0 (and-eq-true-iff (eqb (kind w) 1) _ .0 e .1) .1) in
-    (omega (arith, ltb-true (actor w) n (x .0)), omega (arith, ltb-true (target w) n (x .1)))
+module _ (n w a : ℕ) (f : Bool) (few : n ≤ 64) (asked : f ≡ moveFits n w) (e : f ≡ true) where
+  fitting : (actor w < n) × (target w < n)
+  unfolding moveFits
+  fitting =
+      let x = and-eq-true-iff (ltb (actor w) n) (ltb (target w) n) .0 (and-eq-true-iff (ltb (operand w) 65536) _ .0 (and-eq-true-iff (eqb (kind w) 1) _ .0 (sym asked ∙ e) .1) .1) in
+      (ltb-true (actor w) n (x .0), ltb-true (target w) n (x .1))
+
+  pub actor-small : a ≡ actor w → a < 64
+  actor-small d = omega (arith, fitting .0)
+
+  pub target-small : a ≡ target w → a < 64
+  target-small d = omega (arith, fitting .1)

@@ -1,11 +1,12 @@
 -- How the engine's run of a list of moves ends, against the closure machine's. Assumes nothing: these are definitions.
-use Prim.Native.Nat.{ℕ, _+_, _<_}
+use Prim.Native.Nat.{ℕ, _+_, _≤_, _<_}
 use mathlib.Core.List.{List}
 use mathlib.Core.Path.{_≡_}
 use lib.ListN.{length, take}
 use Rattle.theory_closures.specs.Closure.{Closure}
 use Rattle.engine_states.specs.Represents.{boundIn, Represents}
 use Rattle.engine_states.specs.declared.State.{State}
+use Rattle.engine_state_arrays.specs.Lent.{kindsIn, startsIn, standing, Lends}
 use Rattle.theory_call.specs.ClosureCall.{ClosureRan, halted, moved, closureRun}
 use Rattle.call_lists.specs.declared.Ended.{Ended}
 use Rattle.call_lists.specs.declared.Ended.the-variants.{Made, Halted}
@@ -33,3 +34,23 @@ module _ (script kinds starts : List ℕ) where
       (weight spent : ℕ) (b : Closure) → spent + length moves < 4294967295 → Represents script kinds starts weight spent s b
       → (e ≡ endedOf (closureRun n 0 moves (record { tree = b; bindings = boundIn script s })))
       × Left r weight (spent + madeOf moves e) (closureRun n 0 (take (madeOf moves e) moves) (record { tree = b; bindings = boundIn script s }))
+
+-- what is lent to the run of a list
+pub record Runnable (script sets numbers moves : List ℕ) (parts : ℕ) : Type 0 where
+  -- a script has at most 64 parts
+  pub few : parts ≤ 64
+  -- question 14 lets at most 4,096 moves in
+  pub short : length moves ≤ 4096
+  -- the arrays hold a state
+  pub lends : Lends script sets numbers
+
+-- what the run of a list leaves of the arrays, and how it ends
+pub record ListRan (script sets numbers moves : List ℕ) (parts : ℕ) (sets₁ numbers₁ : List ℕ) (e : Ended) : Type 0 where
+  -- the arrays hold a state again
+  pub lends : Lends script sets₁ numbers₁
+  -- the kinds of the parts stay
+  pub same-kinds : kindsIn numbers₁ ≡ kindsIn numbers
+  -- so do their starts
+  pub same-starts : startsIn numbers₁ ≡ startsIn numbers
+  -- the list ends as the closure machine's, and the state stands for the machine that it leaves
+  pub runs : Runs script (kindsIn numbers) (startsIn numbers) parts moves (standing sets numbers) e (standing sets₁ numbers₁)

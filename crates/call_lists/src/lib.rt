@@ -2,11 +2,8 @@
 // lent. It rests on the promises of moves, and on plain_call.
 use engine_moves::try_move;
 ghost use mathlib.Core.Path.{_≡_};
-ghost use Prim.Native.Nat.{_≤_};
-ghost use lib.ListN.{length};
-ghost use Rattle.engine_state_arrays.specs.Lent.{kindsIn, startsIn, standing, Lends};
 ghost use Rattle.theory_call.specs.Call.{actor, target, moveFits};
-ghost use Rattle.call_lists.specs.Running.{Runs};
+ghost use Rattle.call_lists.specs.Running.{Runnable, ListRan};
 
 // How a list of moves ends: all are made, or a question stops it at a place.
 pub enum Ended {
@@ -51,10 +48,8 @@ pub fn run_list<'a, 'b>(
     moves: &'a [u32],
     parts: usize,
 ) -> Ended
-    requires { ⌜ (parts ≤ 64) × (length (now moves) ≤ 4096) × Lends (now script) (now sets) (now numbers) ⌝ }
-    ensures lends { λ r. ⌜ Lends (now (script .entry)) (now (sets .exit)) (now (numbers .exit)) ⌝ }
-    ensures table { λ r. ⌜ (kindsIn (now (numbers .exit)) ≡ kindsIn (now (numbers .entry))) × (startsIn (now (numbers .exit)) ≡ startsIn (now (numbers .entry))) ⌝ }
-    ensures runs { λ r. ⌜ Runs (now (script .entry)) (kindsIn (now (numbers .entry))) (startsIn (now (numbers .entry))) parts (now (moves .entry)) (standing (now (sets .entry)) (now (numbers .entry))) r (standing (now (sets .exit)) (now (numbers .exit))) ⌝ }
+    requires { ⌜ Runnable (now script) (now sets) (now numbers) (now moves) parts ⌝ }
+    ensures { λ r. ⌜ ListRan (now (script .entry)) (now (sets .entry)) (now (numbers .entry)) (now (moves .entry)) parts (now (sets .exit)) (now (numbers .exit)) r ⌝ }
 {
     let mut i: usize = 0;
     while i < moves.len() {

@@ -10,14 +10,14 @@ use borrow.Author.Tests.{le-leb, lt-leb}
 use Rattle.theory_call.specs.Call.{Call, Verdict, accepted, refused, Answer, leftBy, answer}
 use Rattle.checker.specs.Answering.{verdictOf, answerOf}
 use Rattle.checker.specs.declared.Answer as engine
-use Rattle.theory_call.specs.Standing.{Decides, Reduces, MovesBounded, WeightHolds, WeightBounded}
+use Rattle.theory_call.specs.Standing.{Decides, Reduces, Returned, Readmitted, MovesBounded, WeightHolds, WeightBounded}
 use Rattle.checker.proofs.Concluding.{decides}
 use Rattle.theory_call.proofs.ClosureRuns.{moves-bounded}
 use Rattle.theory_call.proofs.Runs.{weight-holds}
 use Rattle.theory_call.proofs.Reducing.{reduces}
 use Rattle.theory_call.proofs.Leaving as leaving
 use Rattle.theory_call.proofs.Small.{PlaceWithin, Small, answer-small, weight-bounded}
-use Rattle.host_answer_words.specs.Told.{saidOf, placeOf, told}
+use Rattle.host_answer_words.specs.Told.{saidOf, placeOf, told, Tellable}
 use Rattle.capi.specs.Told.{returned, answered, written, Decided, ReducedBy, ReturnedBy, ReadmittedBy, left}
 
 -- what is kept to where the call returns r, given words for its answer, and leaves these and those in the output buffer
@@ -35,13 +35,9 @@ one≢none e = absurd (let z : ⊥ = omega arith in z)
 
 -- no room: nothing is done
 pub short : (c : Call) (words : List ℕ) → length words < 8 → (0 ≡ returned words) × ((words ≡ answered c words) × ((c .buffer ≡ written c words) × Keeps c 0 words words (c .buffer)))
-short c words l = (
-  rw (lt-leb 8 (length words) l) refl,
-  (
-    rw (lt-leb 8 (length words) l) refl,
-    (rw (lt-leb 8 (length words) l) refl, (λ e. (refl, refl), (one≢none, (one≢none, ((weight-holds c, one≢none), (one≢none, (one≢none, one≢none))))))),
-  ),
-)
+short c words l =
+    let none : Keeps c 0 words words (c .buffer) = (λ e. (refl, refl), (one≢none, (one≢none, ((weight-holds c, one≢none), (one≢none, (one≢none, one≢none)))))) in
+    rw (lt-leb 8 (length words) l) (refl, (refl, (refl, none)))
 
 -- what the first word says of a verdict
 said-yes : (v : Verdict) → saidOf v ≡ 2 → v ≡ accepted true
@@ -56,38 +52,32 @@ said-no (accepted true) e = absurd (let z : ⊥ = omega arith in z)
 said-no (accepted false) e = refl
 said-no (refused q i) e = absurd (let z : ⊥ = omega arith in z)
 
-decided : (c : Call) → Decided c (saidOf (answer c .verdict))
-unfolding Decides
-decided c = (
-  λ e. decides c (accepted true) (said-yes (answer c .verdict) e),
-  λ e. decides c (accepted false) (said-no (answer c .verdict) e),
-)
-
 said-none : (v : Verdict) → saidOf v ≡ 0 → (q : ℕ) × (i : ℕ) × (v ≡ refused q i)
 unfolding saidOf
 said-none (accepted true) e = absurd (let z : ⊥ = omega arith in z)
 said-none (accepted false) e = absurd (let z : ⊥ = omega arith in z)
 said-none (refused q i) e = (q, i, refl)
 
-reduced : (c : Call) → ReducedBy c (saidOf (answer c .verdict)) (answer c .moves)
-unfolding Reduces
-reduced c = (
-  λ e. reduces c (accepted true) (answer c .moves) (said-yes (answer c .verdict) e) refl,
-  λ e. reduces c (accepted false) (answer c .moves) (said-no (answer c .verdict) e) refl,
-  λ e q i. let (k, j, x) = said-none (answer c .verdict) e in reduces c (refused k j) (answer c .moves) x refl,
-)
+module _ (c : Call) where
+  -- what holds of every verdict that the call's is, holds by the first word
+  by-word : (P : Verdict → Type 0) → ((v : Verdict) → answer c .verdict ≡ v → P v) → (saidOf (answer c .verdict) ≡ 2 → P (accepted true)) × (saidOf (answer c .verdict) ≡ 1 → P (accepted false))
+  by-word P f = (λ e. f (accepted true) (said-yes (answer c .verdict) e), λ e. f (accepted false) (said-no (answer c .verdict) e))
 
-returning : (c : Call) → ReturnedBy c (saidOf (answer c .verdict)) (leftBy (answer c))
-returning c = (
-  λ e. leaving.returned c (accepted true) (leftBy (answer c)) (said-yes (answer c .verdict) e) refl,
-  λ e. leaving.returned c (accepted false) (leftBy (answer c)) (said-no (answer c .verdict) e) refl,
-)
+  decided : Decided c (saidOf (answer c .verdict))
+  unfolding Decides
+  decided = by-word (Decides c) (decides c)
 
-readmitted : (c : Call) → ReadmittedBy (saidOf (answer c .verdict)) (leftBy (answer c))
-readmitted c = (
-  λ e. leaving.readmitted c (accepted true) (leftBy (answer c)) (said-yes (answer c .verdict) e) refl,
-  λ e. leaving.readmitted c (accepted false) (leftBy (answer c)) (said-no (answer c .verdict) e) refl,
-)
+  reduced : ReducedBy c (saidOf (answer c .verdict)) (answer c .moves)
+  unfolding Reduces
+  reduced =
+      let b = by-word (λ v. Reduces c v (answer c .moves)) (λ v e. reduces c v (answer c .moves) e refl) in
+      (b .0, b .1, λ e q i. let (k, j, x) = said-none (answer c .verdict) e in reduces c (refused k j) (answer c .moves) x refl)
+
+  returning : ReturnedBy c (saidOf (answer c .verdict)) (leftBy (answer c))
+  returning = by-word (λ v. Returned c v (leftBy (answer c))) (λ v e. leaving.returned c v (leftBy (answer c)) e refl)
+
+  readmitted : ReadmittedBy (saidOf (answer c .verdict)) (leftBy (answer c))
+  readmitted = by-word (λ v. Readmitted v (leftBy (answer c))) (λ v e. leaving.readmitted c v (leftBy (answer c)) e refl)
 
 -- the words of an answer and of the tree keep to it
 told-keeps : (c : Call) (given rest : List ℕ) → Keeps c 1 given (told (answer c) ++ rest) (answer c .buffer)
@@ -113,8 +103,8 @@ unfolding placeOf
 place-fits (accepted a) h = omega arith
 place-fits (refused q i) h = omega arith
 
-pub numbers-fit : (c : Call) (r : engine.Answer) (out : List ℕ) → answerOf r out ≡ answer c → (placeOf (verdictOf (r .verdict)) < 2 ^ 32) × (r .moves < 2 ^ 32) × (r .weight < 2 ^ 32)
+pub tellable : (c : Call) (r : engine.Answer) (out words : List ℕ) → answerOf r out ≡ answer c → 8 ≤ length words → Tellable r words
 unfolding answerOf
-numbers-fit c r out e =
+tellable c r out words e l =
     let s : Small (answerOf r out) = subst Small (sym e) (answer-small c) in
-    (place-fits (verdictOf (r .verdict)) (s .place), omega (arith, s .moves), omega (arith, s .weight))
+    record { room = l; place = place-fits (verdictOf (r .verdict)) (s .place); moves = omega (arith, s .moves); weight = omega (arith, s .weight) }

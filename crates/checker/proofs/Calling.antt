@@ -3,14 +3,14 @@
 use Prim.Native.Nat.{ℕ, _+_, _≤_, _<_}
 use mathlib.Core.Bool.{true, false, _&&_, _||_}
 use mathlib.Core.List.{List, [], _∷_, _++_}
-use mathlib.Core.Path.{_≡_, refl, sym, ap, ap₂, _∙_, subst}
+use mathlib.Core.Path.{_≡_, refl, sym, ap, ap₂, _∙_, subst, transport}
 use native.Mathlib.Omega.{arith}
 use lib.Dec.{leb, ltb, eqb}
 use lib.ListN.{length, take}
 use lib.Seq.{take-all}
-use borrow.Author.Tests.{leb-true, le-leb, lt-leb}
+use borrow.Author.Tests.{le-leb, lt-leb}
 use Rattle.read_messages.specs.Words.{kind, operand}
-use Rattle.read_messages.specs.Reading.{Cursor, Reading, refuse, got, _>>=_, outcome}
+use Rattle.read_messages.specs.Reading.{Cursor, Reading, refuse, got, outcome}
 use Rattle.read_messages.specs.declared.Outcome.{Outcome}
 use Rattle.read_messages.specs.declared.Outcome.the-variants.{Read, Refused}
 use Rattle.read_scripts.specs.Tree.{parts}
@@ -28,14 +28,16 @@ use Rattle.read_rules.specs.Ruled as ruled
 use Rattle.read_rules.specs.RuleTable as rules
 use Rattle.read_rules.specs.declared.RuleTable.{RuleTable}
 use Rattle.read_rules.specs.declared.RuleScan.{RuleScan}
-use Rattle.theory_closures.specs.Closure.{Closure, ClosureMachine, settleUnder, closureOf, Bindings}
-use Rattle.engine_states.specs.Represents.{boundIn, Represents}
+use Rattle.theory_closures.specs.Closure.{ClosureMachine, settleUnder, closureOf, Bindings}
+use Rattle.engine_states.specs.Represents.{boundIn, Ready, Represents}
 use Rattle.engine_states.specs.declared.State.{State}
+use Rattle.engine_state_arrays.specs.Lent.{kindsIn, startsIn, standing, Small}
 use Rattle.theory_call.specs.Call.{Call, refusal, startOf, Question, question, asking, terms, door, answer}
 use Rattle.theory_call.specs.ClosureCall.{ClosureRan, halted, moved, closureRun, begun}
-use Rattle.call_lists.specs.Running.{endedOf, madeOf, Left, Runs}
-use Rattle.checker.specs.Answering.{askedOf, callOf}
-use Rattle.checker.specs.Calling.{ScriptHeld, RuleHeld, Stands}
+use Rattle.call_lists.specs.Running.{endedOf, madeOf, Left, Runs, Runnable, ListRan}
+use Rattle.checker.specs.Answering.{answerOf, askedOf, callOf}
+use Rattle.checker.specs.declared.Answer.{Answer}
+use Rattle.checker.specs.Calling.{ScriptHeld, RuleHeld, LetIn, Stands, Walkable, Greatest}
 use Rattle.call_lists.specs.declared.Ended.{Ended}
 use Rattle.call_lists.specs.declared.Ended.the-variants.{Made, Halted}
 use Rattle.theory_call.proofs.Asking.{AllYes, asking-yes, asking-no}
@@ -48,7 +50,7 @@ operand-small : (w : ℕ) → operand w < 268435456
 unfolding operand
 operand-small w = omega arith
 
-pub script-names : (ws : List ℕ) → greatestName ws < 268435456
+script-names : (ws : List ℕ) → greatestName ws < 268435456
 unfolding greatestName
 script-names [] = omega arith
 script-names (w ∷ ws) = byTest (eqb (kind w) 8) (λ t. rw t (omega (arith, operand-small w, script-names ws))) (λ t. rw t (script-names ws))
@@ -57,10 +59,17 @@ rule-name : (w : ℕ) → ruleName w < 268435456
 unfolding ruleName
 rule-name w = byTest ((eqb (kind w) 4 || eqb (kind w) 9) && ltb (operand w) 134217728) (λ t. rw t (operand-small w)) (λ t. rw t (omega arith))
 
-pub rule-names : (ws : List ℕ) → greatestRuleName ws < 268435456
+rule-names : (ws : List ℕ) → greatestRuleName ws < 268435456
 unfolding greatestRuleName
 rule-names [] = omega arith
 rule-names (w ∷ ws) = omega (arith, rule-name w, rule-names ws)
+
+-- the greater of both
+pub greatest-rule : (script words : List ℕ) (s r : ℕ) → s ≡ greatestName script → r ≡ greatestRuleName words → s < r → Greatest script words r
+greatest-rule script words s r e f l = record { most = omega arith; small = omega (arith, rule-names words) }
+
+pub greatest-script : (script words : List ℕ) (s r : ℕ) → s ≡ greatestName script → r ≡ greatestRuleName words → r ≤ s → Greatest script words s
+greatest-script script words s r e f l = record { most = omega arith; small = omega (arith, script-names script) }
 
 -- ---- questions 13 and 14
 
@@ -77,19 +86,19 @@ unfolding askedOf
 read-by qs h = sym (ap askedOf (asking-yes qs h))
 
 module _ (p k : ℕ) where
-  calm : 1 ≤ p → p ≤ 16777216 → (leb 1 p && leb p 16777216) ≡ true
-  calm l h = rw (le-leb 1 p l, le-leb p 16777216 h)
+  calm : (p ≡ 0 → ⊥) → p ≤ 16777216 → (leb 1 p && leb p 16777216) ≡ true
+  calm l h = let m : 1 ≤ p = omega arith in rw (le-leb 1 p m, le-leb p 16777216 h)
 
-  not-calm : (1 ≤ p → p ≤ 16777216 → ⊥) → (leb 1 p && leb p 16777216) ≡ false
-  not-calm f = byTest (leb 1 p) (λ l. byTest (leb p 16777216) (λ h. absurd (f (leb-true 1 p l) (leb-true p 16777216 h))) (λ h. rw (l, h))) (λ l. rw l)
+  pub no-patience : p ≡ 0 → Refused 13 0 ≡ Asked p k
+  no-patience e = let l : p < 1 = omega arith in refused-by [] (question 13 0 (leb 1 p && leb p 16777216)) _ tt (rw (lt-leb 1 p l) refl)
 
-  pub restless : (1 ≤ p → p ≤ 16777216 → ⊥) → Refused 13 0 ≡ Asked p k
-  restless f = refused-by [] (question 13 0 (leb 1 p && leb p 16777216)) _ tt (not-calm f)
+  pub too-patient : (p ≡ 0 → ⊥) → 16777216 < p → Refused 13 0 ≡ Asked p k
+  too-patient l h = let m : 1 ≤ p = omega arith in refused-by [] (question 13 0 (leb 1 p && leb p 16777216)) _ tt (rw (le-leb 1 p m, lt-leb p 16777216 h) refl)
 
-  pub too-many : 1 ≤ p → p ≤ 16777216 → 4096 < k → Refused 14 0 ≡ Asked p k
+  pub too-many : (p ≡ 0 → ⊥) → p ≤ 16777216 → 4096 < k → Refused 14 0 ≡ Asked p k
   too-many l h m = refused-by (question 13 0 (leb 1 p && leb p 16777216) ∷ []) (question 14 0 (leb k 4096)) _ (calm l h, tt) (lt-leb k 4096 m)
 
-  pub let-in : 1 ≤ p → p ≤ 16777216 → k ≤ 4096 → Read 0 ≡ Asked p k
+  pub let-in : (p ≡ 0 → ⊥) → p ≤ 16777216 → k ≤ 4096 → Read 0 ≡ Asked p k
   let-in l h m = read-by (terms p k) (calm l h, (le-leb k 4096 m, tt))
 
 -- ---- what a reader's outcome says
@@ -98,8 +107,8 @@ pub Read≢Refused : {B : Type 0} {n q i : ℕ} → Read n ≡ Refused q i → B
 Read≢Refused e = let z : _≡_ {A = ℕ} 0 1 = cc in absurd (let w : ⊥ = omega arith in w)
 
 -- an outcome is one refusal only
-pub one-refusal : (p j q i : ℕ) (b : List ℕ) → Refused p j ≡ Refused q i → refusal p j 0 0 b ≡ refusal q i 0 0 b
-one-refusal p j q i b e = let x : p ≡ q = cc in let y : j ≡ i = cc in ap₂ (λ (m n : ℕ). refusal m n 0 0 b) x y
+pub one-refusal : (r : Answer) (x : Outcome) (p j q i : ℕ) (b : List ℕ) → ((out : List ℕ) → answerOf r out ≡ refusal p j 0 0 out) → x ≡ Refused p j → x ≡ Refused q i → answerOf r b ≡ refusal q i 0 0 b
+one-refusal r x p j q i b f d e = let y : p ≡ q = cc in let z : j ≡ i = cc in f b ∙ ap₂ (λ (m n : ℕ). refusal m n 0 0 b) y z
 
 refused-so : {A : Type 0} (x : Reading (A × Cursor)) (q i : ℕ) → outcome x ≡ Refused q i → x ≡ refuse q i
 unfolding outcome
@@ -116,10 +125,19 @@ unfolding askedOf
 asked-refused (refuse p j) q i e = let a : p ≡ q = cc in let b : j ≡ i = cc in λ k. refuse (a k) (b k)
 asked-refused (got u) q i e = Read≢Refused e
 
-pub asked-read : (x : Reading (Unit {0})) (n : ℕ) → askedOf x ≡ Read n → x ≡ got tt
+asked-read : (x : Reading (Unit {0})) (n : ℕ) → askedOf x ≡ Read n → x ≡ got tt
 unfolding askedOf
 asked-read (refuse q i) n e = Read≢Refused (sym e)
 asked-read (got u) n e = refl
+
+pub asked-so : (p k n : ℕ) (x : Outcome) → x ≡ Asked p k → x ≡ Read n → asking (terms p k) ≡ got tt
+asked-so p k n x e d = asked-read (asking (terms p k)) n (sym e ∙ d)
+
+-- a refusal that is handed up is the call's answer
+pub handed : (r : Answer) (x : Outcome) (script moves words : List ℕ) (patience : ℕ) (buffer : List ℕ) (q i : ℕ)
+    → ((question place : ℕ) (out : List ℕ) → x ≡ Refused question place → answerOf r out ≡ refusal question place 0 0 out) → x ≡ Refused q i → answer (callOf script moves words patience buffer) ≡ refusal q i 0 0 buffer
+    → answerOf r buffer ≡ answer (callOf script moves words patience buffer)
+handed r x script moves words patience buffer q i f e d = f q i buffer e ∙ sym d
 
 script-outcome : (x : Reading (Script × Cursor)) → table.scanned 64 table.vacant x .outcome ≡ outcome x
 unfolding table.scanned outcome
@@ -166,61 +184,102 @@ ends-halted q i (moved m) e = let z : _≡_ {A = ℕ} 0 1 = cc in absurd (let w 
 -- ---- questions 7 to 16
 
 -- the part table counts the parts that are read
-pub number-is : (script : List ℕ) (t : Table) (H : ScriptHeld script t) → t .count ≡ H .read .1 .number
-number-is script t H = H .tabled .counted ∙ sym (script-number script (H .read) (H .reads))
+pub number-is : {script : List ℕ} {t : Table} (H : ScriptHeld script t) → t .count ≡ H .read .1 .number
+number-is {script} H = H .tabled .counted ∙ sym (script-number script (H .read) (H .reads))
 
-module _ (script moves words : List ℕ) (patience : ℕ) (buffer : List ℕ) (t : Table) (H : ScriptHeld script t) where
-  abbrev c : Call
-  c = callOf script moves words patience buffer
+module _ {script : List ℕ} {t : Table} (H : ScriptHeld script t) (words : List ℕ) where
+  reads-rule : (x : Reading (Rule × Cursor)) → readWholeRule (t .count) words ≡ x → readWholeRule (H .read .1 .number) words ≡ x
+  reads-rule x e = subst (λ (k : ℕ). readWholeRule k words ≡ x) (number-is H) e
 
-  abbrev n : ℕ
-  n = H .read .1 .number
+  module _ (moves : List ℕ) (patience : ℕ) (buffer : List ℕ) (q i : ℕ) where
+    abbrev c : Call
+    c = callOf script moves words patience buffer
 
-  reads-rule : (x : Reading (Rule × Cursor)) → readWholeRule (t .count) words ≡ x → readWholeRule n words ≡ x
-  reads-rule x e = subst (λ (k : ℕ). readWholeRule k words ≡ x) (number-is script t H) e
+    pub says-rule : readWholeRule (t .count) words ≡ refuse q i → answer c ≡ refusal q i 0 0 buffer
+    says-rule e = answers-door c (H .read) (H .reads) q i (door-unread c (startOf script (H .read)) q i (reads-rule (refuse q i) e))
 
-  pub says-rule : (q i : ℕ) → readWholeRule (t .count) words ≡ refuse q i → answer c ≡ refusal q i 0 0 buffer
-  says-rule q i e = answers-door c (H .read) (H .reads) q i (door-unread c (startOf script (H .read)) q i (reads-rule (refuse q i) e))
+    pub says-terms : {u : RuleTable} → RuleHeld (t .count) words u → (x : Outcome) → x ≡ Asked patience (length moves) → x ≡ Refused q i → answer c ≡ refusal q i 0 0 buffer
+    says-terms R x e d = answers-door c (H .read) (H .reads) q i (own-unasked c (H .read) (R .read) (reads-rule (got (R .read)) (R .reads)) q i (asked-refused (asking (terms patience (length moves))) q i (sym e ∙ d)))
 
-  module _ (u : RuleTable) (R : RuleHeld (t .count) words u) where
-    reads : readWholeRule n words ≡ got (R .read)
-    reads = reads-rule (got (R .read)) (R .reads)
+-- the arrays that are lent hold the state that the list begins with, and it stands for the script's closure
+pub record Began (script : List ℕ) (t : Table) (s : State) (sets numbers : List ℕ) : Type 0 where
+  pub kinds : kindsIn numbers ≡ t .kinds
+  pub starts : startsIn numbers ≡ t .starts
+  pub small : Small numbers
+  pub state : standing sets numbers ≡ s
+  pub ready : Ready script (t .kinds) (t .starts) s
+  pub none : boundIn script s ≡ []
+  pub first : (count : ℕ) (b : Script) → Tabled script (record { kinds = t .kinds; starts = t .starts; kids = t .kids; count = count }) b
+      → Represents script (t .kinds) (t .starts) (parts b) 0 s (settleUnder [] (closureOf b))
 
-    pub says-terms : (q i : ℕ) (x : Outcome) → x ≡ Asked patience (length moves) → x ≡ Refused q i → answer c ≡ refusal q i 0 0 buffer
-    says-terms q i x e d = answers-door c (H .read) (H .reads) q i (own-unasked c (H .read) (R .read) reads q i (asked-refused (asking (terms patience (length moves))) q i (sym e ∙ d)))
+module _ {script moves words : List ℕ} {patience : ℕ} {t : Table} {u : RuleTable} (L : LetIn script moves words patience t u) where
+  pub enters : (buffer : List ℕ) → door (callOf script moves words patience buffer) (startOf script (L .both .held .read)) ≡ got (L .both .ruled .read)
+  enters buffer = own-got (callOf script moves words patience buffer) (L .both .held .read) (L .both .ruled .read) (reads-rule (L .both .held) words (got (L .both .ruled .read)) (L .both .ruled .reads)) (L .asked)
 
-    module _ (asked : asking (terms patience (length moves)) ≡ got tt)
-        (s : State) (first : Represents script (t .kinds) (t .starts) (parts (H .read .0)) 0 s (settleUnder [] (closureOf (H .read .0)))) (none : boundIn script s ≡ []) (r : State) where
-      abbrev b : Closure
-      b = settleUnder [] (closureOf (H .read .0))
+  pub short : length moves ≤ 4096
+  short = terms-few patience (length moves) (L .asked)
 
-      short : length moves ≤ 4096
-      short = terms-few patience (length moves) asked
+  abbrev run : List ℕ → ClosureRan
+  run ws = closureRun (t .count) 0 ws (begun (L .both .held .read .0))
 
-      -- the list as the engine begins it is the closure machine's
-      ran : (e : Ended) → Runs script (t .kinds) (t .starts) (t .count) moves s e r
-          → (e ≡ endedOf (closureRun (t .count) 0 moves (begun (H .read .0)))) × Left script (t .kinds) (t .starts) r (t .count) (0 + madeOf moves e) (closureRun (t .count) 0 (take (madeOf moves e) moves) (begun (H .read .0)))
-      ran e g =
-          let x = g (t .count) 0 b (omega (arith, short)) (subst (λ (k : ℕ). Represents script (t .kinds) (t .starts) k 0 s b) (sym (H .tabled .counted)) first) in
-          subst (λ (σ : Bindings). (e ≡ endedOf (closureRun (t .count) 0 moves (record { tree = b; bindings = σ }))) × Left script (t .kinds) (t .starts) r (t .count) (0 + madeOf moves e) (closureRun (t .count) 0 (take (madeOf moves e) moves) (record { tree = b; bindings = σ }))) none x
+  -- the list ends as the closure machine's that begins with the script, and leaves that state
+  abbrev Ends : Ended → State → Type 0
+  Ends e r = (e ≡ endedOf (run moves)) × Left script (t .kinds) (t .starts) r (t .count) (0 + madeOf moves e) (run (take (madeOf moves e) moves))
 
-      enters : door c (startOf script (H .read)) ≡ got (R .read)
-      enters = own-got c (H .read) (R .read) reads asked
+  list-halted : (buffer : List ℕ) (q i : ℕ) (r : State) → Ends (Halted q i) r → answer (callOf script moves words patience buffer) ≡ refusal q i i 0 buffer
+  list-halted buffer q i r g = answers-halted (callOf script moves words patience buffer) (L .both .held .read) (L .both .held .reads) (L .both .ruled .read) (enters buffer) q i
+      (subst (λ (k : ℕ). closureRun k 0 moves (begun (L .both .held .read .0)) ≡ halted q i) (number-is (L .both .held)) (ends-halted q i _ (g .0)))
 
-      pub list-halted : (q i : ℕ) → Runs script (t .kinds) (t .starts) (t .count) moves s (Halted q i) r → answer c ≡ refusal q i i 0 buffer
-      list-halted q i g = answers-halted c (H .read) (H .reads) (R .read) enters q i
-          (subst (λ (k : ℕ). closureRun k 0 moves (begun (H .read .0)) ≡ halted q i) (number-is script t H) (ends-halted q i _ (ran (Halted q i) g .0)))
+  list-made : (r : State) → Ends Made r → Stands script moves words patience t u r
+  list-made r g =
+      let z : 0 + length moves ≡ length moves = omega arith in
+      let (m, x, R, d) = left-made script (t .kinds) (t .starts) r (t .count) (0 + length moves) _ (g .1) in
+      record {
+        let-in = L;
+        machine = m;
+        runs = ap run (sym (take-all (length moves) moves (omega arith))) ∙ x;
+        stands = subst (λ (k : ℕ). Represents script (t .kinds) (t .starts) (t .count) k r (m .tree)) z R;
+        bound = d;
+      }
 
-      pub list-made : Runs script (t .kinds) (t .starts) (t .count) moves s Made r → Stands script moves words patience t u r
-      list-made g =
-          let z : 0 + length moves ≡ length moves = omega arith in
-          let (m, x, R', d) = left-made script (t .kinds) (t .starts) r (t .count) (0 + length moves) _ (ran Made g .1) in
-          record {
-            held = H;
-            ruled = R;
-            asked = asked;
-            machine = m;
-            runs = ap (λ (ws : List ℕ). closureRun (t .count) 0 ws (begun (H .read .0))) (sym (take-all (length moves) moves (omega arith))) ∙ x;
-            stands = subst (λ (k : ℕ). Represents script (t .kinds) (t .starts) (t .count) k r (m .tree)) z R';
-            bound = d;
-          }
+  module _ {s : State} {sets numbers : List ℕ} (B : Began script t s sets numbers) where
+    pub runnable : length sets ≡ 131 → length numbers ≡ 481 → Runnable script sets numbers moves (t .count)
+    runnable l m = record {
+      few = L .both .held .tabled .few;
+      short = short;
+      lends = record { sets-long = l; numbers-long = m; small = B .small; ready = transport (λ q. Ready script (sym (B .kinds) q) (sym (B .starts) q) (sym (B .state) q)) (B .ready) };
+    }
+
+    module _ {sets₁ numbers₁ : List ℕ} {x : Ended} (R : ListRan script sets numbers moves (t .count) sets₁ numbers₁ x) where
+      abbrev left : State
+      left = standing sets₁ numbers₁
+
+      ran : Ends x left
+      ran =
+          let b = settleUnder [] (closureOf (L .both .held .read .0)) in
+          let stands = subst (λ (k : ℕ). Represents script (t .kinds) (t .starts) k 0 s b) (sym (L .both .held .tabled .counted)) (B .first (t .count) (L .both .held .read .0) (L .both .held .tabled)) in
+          let g : Runs script (t .kinds) (t .starts) (t .count) moves s x left = transport (λ q. Runs script (B .kinds q) (B .starts q) (t .count) moves (B .state q) x left) (R .runs) in
+          subst (λ (σ : Bindings). (x ≡ endedOf (closureRun (t .count) 0 moves (record { tree = b; bindings = σ }))) × Left script (t .kinds) (t .starts) left (t .count) (0 + madeOf moves x) (closureRun (t .count) 0 (take (madeOf moves x) moves) (record { tree = b; bindings = σ }))) (B .none)
+          (g (t .count) 0 b (omega (arith, short)) stands)
+
+      pub list-refused : {q i : ℕ} (r : Answer) (buffer : List ℕ) → x ≡ Halted q i → ((out : List ℕ) → answerOf r out ≡ refusal q i i 0 out) → answerOf r buffer ≡ answer (callOf script moves words patience buffer)
+      list-refused {q} {i} r buffer d f = f buffer ∙ sym (list-halted buffer q i left (transport (λ z. Ends (d z) left) ran))
+
+      -- the state that is borrowed where all moves are made
+      module _ (d : x ≡ Made) {k l : List ℕ} {b : State} (f : Small numbers₁ → (k ≡ kindsIn numbers₁) × (l ≡ startsIn numbers₁) × (b ≡ left)) where
+        stood : Stands script moves words patience t u b
+        stood = list-made b (transport (λ z. Ends (d z) (sym (f (R .lends .small) .2) z)) ran)
+
+        pub list-walkable : Walkable script t u b
+        list-walkable = record {
+          writable = record {
+            ready = transport (λ z. Ready script ((R .same-kinds ∙ B .kinds) z) ((R .same-starts ∙ B .starts) z) (sym (f (R .lends .small) .2) z)) (R .lends .ready);
+            scripted = record { placed = λ i. omega (arith, L .both .held .tabled .low i); spent = λ i. omega (arith, stood .stands .spends i, short) };
+          };
+          room = L .both .ruled .tabled .room;
+        }
+
+        pub list-answered : (r : Answer) (after buffer : List ℕ)
+            → ((list : List ℕ) → length moves ≡ length list → Stands script list words patience t u b → answerOf r after ≡ answer (callOf script list words patience buffer))
+            → answerOf r after ≡ answer (callOf script moves words patience buffer)
+        list-answered r after buffer g = g moves refl stood

@@ -1,22 +1,27 @@
 -- What the call's functions hand on: a script and a rule that are read, with the tables that hold them, and the state that
 -- stands when the walk begins. Assumes nothing: these are definitions.
-use Prim.Native.Nat.{ℕ}
+use Prim.Native.Nat.{ℕ, _+_, _≤_, _<_, max}
 use mathlib.Core.List.{List}
 use mathlib.Core.Path.{_≡_}
 use lib.ListN.{length}
 use Rattle.read_messages.specs.Reading.{Cursor, got}
 use Rattle.read_scripts.specs.Script.{Script, readScript}
 use Rattle.read_scripts.specs.Represents.{Tabled}
+use Rattle.read_scripts.specs.Measures.{greatestName}
 use Rattle.read_scripts.specs.declared.Table.{Table}
-use Rattle.read_rule_words.specs.Rule.{Rule}
+use Rattle.read_rule_words.specs.Rule.{Rule, greatestRuleName}
 use Rattle.read_rule_words.specs.ReadRule.{readWholeRule}
 use Rattle.read_rules.specs.Ruled as rules
 use Rattle.read_rules.specs.declared.RuleTable.{RuleTable}
-use Rattle.theory_closures.specs.Closure.{ClosureMachine}
-use Rattle.engine_states.specs.Represents.{boundIn, Represents}
+use Rattle.theory_closures.specs.Closure.{Closure, ClosureMachine, unfoldMachine}
+use Rattle.engine_states.specs.Represents.{boundIn, Ready, Represents}
 use Rattle.engine_states.specs.declared.State.{State}
-use Rattle.theory_call.specs.Call.{asking, terms}
+use Rattle.write_trees.specs.Bodies.{Scripted}
+use Rattle.theory_decision.specs.Walk.{Walked}
+use Rattle.theory_call.specs.Call.{asking, terms, walked}
 use Rattle.theory_call.specs.ClosureCall.{moved, closureRun, begun}
+use Rattle.checker.specs.Answering.{answerOf, callOf}
+use Rattle.checker.specs.declared.Answer.{Answer}
 
 -- the script is read, and the table holds it
 pub record ScriptHeld (script : List ℕ) (t : Table) : Type 0 where
@@ -30,12 +35,51 @@ pub record RuleHeld (n : ℕ) (words : List ℕ) (t : RuleTable) : Type 0 where
   pub reads : readWholeRule n words ≡ got read
   pub tabled : rules.Tabled n words t read
 
+-- questions 1 to 12 are answered by yes
+pub record BothHeld (script words : List ℕ) (parts : Table) (table : RuleTable) : Type 0 where
+  -- the script is read, and its table holds it
+  pub held : ScriptHeld script parts
+  -- the rule is read beside the script's parts, and its table holds it
+  pub ruled : RuleHeld (parts .count) words table
+
+-- questions 1 to 14 are answered by yes
+pub record LetIn (script moves words : List ℕ) (patience : ℕ) (parts : Table) (table : RuleTable) : Type 0 where
+  -- script and rule are read, and their tables hold them
+  pub both : BothHeld script words parts table
+  -- the patience and the number of moves fit
+  pub asked : asking (terms patience (length moves)) ≡ got tt
+
 -- questions 1 to 16 are answered by yes, and the state stands for the machine that the moves leave
 pub record Stands (script moves words : List ℕ) (patience : ℕ) (parts : Table) (table : RuleTable) (s : State) : Type 0 where
-  pub held : ScriptHeld script parts
-  pub ruled : RuleHeld (parts .count) words table
-  pub asked : asking (terms patience (length moves)) ≡ got tt
+  pub let-in : LetIn script moves words patience parts table
   pub machine : ClosureMachine
-  pub runs : closureRun (parts .count) 0 moves (begun (held .read .0)) ≡ moved machine
+  pub runs : closureRun (parts .count) 0 moves (begun (let-in .both .held .read .0)) ≡ moved machine
   pub stands : Represents script (parts .kinds) (parts .starts) (parts .count) (length moves) s (machine .tree)
   pub bound : boundIn script s ≡ machine .bindings
+
+-- the state can be written
+pub record Writable (script kinds starts : List ℕ) (s : State) : Type 0 where
+  -- what is counted with its bindings is right, and what is kept of its parts
+  pub ready : Ready script kinds starts s
+  -- the parts' messages stand in the script, and no action has too many items spent
+  pub scripted : Scripted starts (s .offsets)
+
+-- the state can be walked with the rule, and written
+pub record Walkable (script : List ℕ) (parts : Table) (table : RuleTable) (s : State) : Type 0 where
+  -- it can be written
+  pub writable : Writable script (parts .kinds) (parts .starts) s
+  -- the parts that PLACED words make have numbers behind the script's
+  pub room : parts .count + table .count ≤ 64
+
+-- "G the greatest name in script and rule (0 if none)"
+pub record Greatest (script words : List ℕ) (g : ℕ) : Type 0 where
+  -- it is the greater of both
+  pub most : g ≡ max (greatestName script) (greatestRuleName words)
+  -- names have 28 bits
+  pub small : g < 268435456
+
+-- For every list of so many moves and every closure for which the state stands: the answer, with the buffer as it is at exit,
+-- is what the call comes to where the walk, on the machine that stands, says v.
+pub record ComesTo (script kinds starts : List ℕ) (s : State) (moves : ℕ) (before after : List ℕ) (r : Answer) (v : Walked) : Type 0 where
+  pub ends : (list rule : List ℕ) (patience weight spent : ℕ) (b : Closure) → moves ≡ length list → Represents script kinds starts weight spent s b
+      → answerOf r after ≡ walked (callOf script list rule patience before) (unfoldMachine (record { tree = b; bindings = boundIn script s })) v

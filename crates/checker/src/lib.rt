@@ -21,22 +21,19 @@ use write_trees::Fitting;
 use write_trees::write_tree;
 ghost use mathlib.Core.Path.{_≡_};
 ghost use mathlib.Core.List.{List, []};
-ghost use Prim.Native.Nat.{ℕ, _+_, _≤_, _<_, max};
+ghost use Prim.Native.Nat.{ℕ};
 ghost use lib.ListN.{length, take};
-ghost use Rattle.read_messages.specs.Reading.{got};
 ghost use Rattle.read_messages.specs.declared.Outcome.the-variants.{Refused};
-ghost use Rattle.read_scripts.specs.Measures.{greatestName};
-ghost use Rattle.read_rule_words.specs.Rule.{greatestRuleName};
-ghost use Rattle.theory_closures.specs.Closure.{Closure, unfolded, unfoldMachine};
-ghost use Rattle.engine_states.specs.Represents.{boundIn, Ready, Represents};
+ghost use Rattle.theory_closures.specs.Closure.{Closure, unfolded};
+ghost use Rattle.engine_states.specs.Represents.{boundIn, Represents};
 ghost use Rattle.walk_stages.specs.Visits.{walkedOf};
 ghost use Rattle.theory_written_trees.specs.Write.{write};
-ghost use Rattle.write_trees.specs.Bodies.{Scripted};
-ghost use Rattle.write_trees.specs.Room.{answered, buffered};
-ghost use Rattle.theory_call.specs.Call.{accepted, refusal, walked, asking, terms, answer, finish as finished};
+ghost use Rattle.write_trees.specs.Room.{Fitted};
+ghost use Rattle.theory_decision.specs.Walk.{says};
+ghost use Rattle.theory_call.specs.Call.{accepted, refusal, asking, terms, answer};
 ghost use Rattle.checker.specs.Answering.{verdictOf, answerOf, askedOf, callOf};
 ghost use Rattle.theory_call.specs.Standing.{Decides, Reduces, Returned, Readmitted, MovesBounded, WeightHolds, WeightBounded};
-ghost use Rattle.checker.specs.Calling.{ScriptHeld, RuleHeld, Stands};
+ghost use Rattle.checker.specs.Calling.{ScriptHeld, BothHeld, LetIn, Stands, Writable, Walkable, ComesTo, Greatest};
 
 // The most visits that may be asked for, and the most moves of a list: questions 13 and 14.
 const MOST_PATIENCE: u32 = 16777216;
@@ -94,8 +91,8 @@ fn write_state<'a, 'b>(
     state: State,
     out: &'b mut [u32],
 ) -> Fitting
-    requires { ⌜ Ready (now script) (now kinds) (now starts) state × Scripted (now starts) (state .offsets) ⌝ }
-    ensures { λ r. ⌜ ((weight spent : ℕ) (b : Closure) → Represents (now (script .entry)) (now (kinds .entry)) (now (starts .entry)) weight spent state b → (r ≡ answered (write [] 0 (unfolded (boundIn (now (script .entry)) state) b)) (now (out .entry))) × (now (out .exit) ≡ buffered (write [] 0 (unfolded (boundIn (now (script .entry)) state) b)) (now (out .entry)))) ⌝ }
+    requires { ⌜ Writable (now script) (now kinds) (now starts) state ⌝ }
+    ensures { λ r. ⌜ ((weight spent : ℕ) (b : Closure) → Represents (now (script .entry)) (now (kinds .entry)) (now (starts .entry)) weight spent state b → Fitted (write [] 0 (unfolded (boundIn (now (script .entry)) state) b)) (now (out .entry)) (now (out .exit)) r) ⌝ }
 {
     let kids = state.kids;
     let offsets = state.offsets;
@@ -133,8 +130,8 @@ fn finish<'a, 'b>(
     deepest: u32,
     out: &'b mut [u32],
 ) -> Answer
-    requires { ⌜ Ready (now script) (now kinds) (now starts) state × Scripted (now starts) (state .offsets) ⌝ }
-    ensures { λ r. ⌜ ((list rule : List ℕ) (patience weight spent : ℕ) (b : Closure) → moves ≡ length list → Represents (now (script .entry)) (now (kinds .entry)) (now (starts .entry)) weight spent state b → answerOf r (now (out .exit)) ≡ finished (callOf (now (script .entry)) list rule patience (now (out .entry))) (unfoldMachine (record { tree = b; bindings = boundIn (now (script .entry)) state })) yes (record { visits = visits; deepest = deepest })) ⌝ }
+    requires { ⌜ Writable (now script) (now kinds) (now starts) state ⌝ }
+    ensures { λ r. ⌜ ComesTo (now (script .entry)) (now (kinds .entry)) (now (starts .entry)) state moves (now (out .entry)) (now (out .exit)) r (says yes (record { visits = visits; deepest = deepest })) ⌝ }
 {
     let fitting = write_state(script, kinds, starts, state, out);
     match fitting {
@@ -170,8 +167,8 @@ fn after_walk<'a, 'b>(
     w: Walked,
     out: &'b mut [u32],
 ) -> Answer
-    requires { ⌜ Ready (now script) (now kinds) (now starts) state × Scripted (now starts) (state .offsets) ⌝ }
-    ensures { λ r. ⌜ ((list rule : List ℕ) (patience weight spent : ℕ) (b : Closure) → moves ≡ length list → Represents (now (script .entry)) (now (kinds .entry)) (now (starts .entry)) weight spent state b → answerOf r (now (out .exit)) ≡ walked (callOf (now (script .entry)) list rule patience (now (out .entry))) (unfoldMachine (record { tree = b; bindings = boundIn (now (script .entry)) state })) (walkedOf w)) ⌝ }
+    requires { ⌜ Writable (now script) (now kinds) (now starts) state ⌝ }
+    ensures { λ r. ⌜ ComesTo (now (script .entry)) (now (kinds .entry)) (now (starts .entry)) state moves (now (out .entry)) (now (out .exit)) r (walkedOf w) ⌝ }
 {
     match w {
         Walked::Yes(c) => finish(
@@ -202,7 +199,7 @@ fn after_walk<'a, 'b>(
 
 // "G the greatest name in script and rule (0 if none)"
 fn greatest<'a>(script: &'a [u32], rule: &'a [u32]) -> u32
-    ensures { λ r. ⌜ (r ≡ max (greatestName (now (script .entry))) (greatestRuleName (now (rule .entry)))) × (r < 268435456) ⌝ }
+    ensures { λ r. ⌜ Greatest (now (script .entry)) (now (rule .entry)) r ⌝ }
 {
     let in_script = greatest_name(script);
     let in_rule = greatest_rule_name(rule);
@@ -223,7 +220,7 @@ fn with_moves<'a, 'b>(
     patience: u32,
     out: &'b mut [u32],
 ) -> Answer
-    requires { ⌜ Ready (now script) (parts .kinds) (parts .starts) state × Scripted (parts .starts) (state .offsets) × (parts .count + table .count ≤ 64) ⌝ }
+    requires { ⌜ Walkable (now script) parts table state ⌝ }
     ensures { λ r. ⌜ ((list : List ℕ) → moves ≡ length list → Stands (now (script .entry)) list (now (rule .entry)) patience parts table state → answerOf r (now (out .exit)) ≡ answer (callOf (now (script .entry)) list (now (rule .entry)) patience (now (out .entry)))) ⌝ }
 {
     let kinds = parts.kinds;
@@ -248,7 +245,7 @@ fn with_terms<'a, 'b>(
     patience: u32,
     out: &'b mut [u32],
 ) -> Answer
-    requires { ⌜ ScriptHeld (now script) parts × RuleHeld (parts .count) (now rule) table × (asking (terms patience (length (now moves))) ≡ got tt) ⌝ }
+    requires { ⌜ LetIn (now script) (now moves) (now rule) patience parts table ⌝ }
     ensures { λ r. ⌜ answerOf r (now (out .exit)) ≡ answer (callOf (now (script .entry)) (now (moves .entry)) (now (rule .entry)) patience (now (out .entry))) ⌝ }
 {
     let kinds = parts.kinds;
@@ -311,7 +308,7 @@ fn with_rule<'a, 'b>(
     patience: u32,
     out: &'b mut [u32],
 ) -> Answer
-    requires { ⌜ ScriptHeld (now script) parts × RuleHeld (parts .count) (now rule) table ⌝ }
+    requires { ⌜ BothHeld (now script) (now rule) parts table ⌝ }
     ensures { λ r. ⌜ answerOf r (now (out .exit)) ≡ answer (callOf (now (script .entry)) (now (moves .entry)) (now (rule .entry)) patience (now (out .entry))) ⌝ }
 {
     let asked = ask_terms(patience, moves.len());

@@ -1,8 +1,11 @@
 -- The eight words of an answer. Assumes nothing: these are definitions.
-use Prim.Native.Nat.{ℕ}
+use Prim.Native.Nat.{ℕ, _^_, _≤_, _<_}
 use mathlib.Core.Bool.{true, false}
 use mathlib.Core.List.{List, [], _∷_}
+use lib.ListN.{length}
 use Rattle.theory_call.specs.Call.{Verdict, accepted, refused, Answer}
+use Rattle.checker.specs.Answering.{verdictOf}
+use Rattle.checker.specs.declared.Answer as engine
 
 -- what is said: 0 for a refusal, 1 for no, 2 for yes
 unfoldable pub saidOf : Verdict → ℕ
@@ -31,3 +34,14 @@ told a =
     ∷ a .weight
     ∷ a .words
     ∷ []
+
+-- the answer can be told in words
+pub record Tellable (a : engine.Answer) (words : List ℕ) : Type 0 where
+  -- there is room for eight
+  pub room : 8 ≤ length words
+  -- the place has 32 bits
+  pub place : placeOf (verdictOf (a .verdict)) < 2 ^ 32
+  -- so has the number of moves
+  pub moves : a .moves < 2 ^ 32
+  -- and the weight
+  pub weight : a .weight < 2 ^ 32

@@ -3,10 +3,10 @@ use checker::Answer;
 use checker::Verdict;
 ghost use mathlib.Core.Path.{_≡_};
 ghost use mathlib.Core.List.{List, _++_};
-ghost use Prim.Native.Nat.{ℕ, _^_, _≤_, _<_};
-ghost use lib.ListN.{length, drop};
+ghost use Prim.Native.Nat.{ℕ};
+ghost use lib.ListN.{drop};
 ghost use Rattle.checker.specs.Answering.{verdictOf, answerOf};
-ghost use Rattle.host_answer_words.specs.Told.{saidOf, questionOf, placeOf, told};
+ghost use Rattle.host_answer_words.specs.Told.{saidOf, questionOf, placeOf, told, Tellable};
 
 // Yes, no or refused, as the first word of an answer has it.
 fn said(v: Verdict) -> u32
@@ -46,7 +46,7 @@ fn place_of(v: Verdict) -> usize
 
 // The eight words of an answer.
 pub fn tell(a: Answer, answer: &mut [u32])
-    requires { ⌜ (8 ≤ length (now answer)) × (placeOf (verdictOf (a .verdict)) < 2 ^ 32) × (a .moves < 2 ^ 32) × (a .weight < 2 ^ 32) ⌝ }
+    requires { ⌜ Tellable a (now answer) ⌝ }
     ensures { λ _. ⌜ ((buffer : List ℕ) → now (answer .exit) ≡ told (answerOf a buffer) ++ drop 8 (now (answer .entry))) ⌝ }
 {
     let verdict = a.verdict;

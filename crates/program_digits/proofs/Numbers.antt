@@ -6,22 +6,22 @@ use native.Mathlib.Nat.{pow-suc}
 use native.Mathlib.Omega.{arith}
 use borrow.Author.Tests.{lt-ltb, le-ltb}
 use lib.ListN.{length, take, getD}
-use Rattle.program_digits.specs.Digits.{digit, hexadecimal, line, lines, decimalBy, Puts}
+use Rattle.program_digits.specs.Digits.{digit, hexadecimal, line, lines, decimalBy, decimal, Puts}
 use Rattle.program_digits.proofs.Putting.{puts-more, puts-as, next-is}
 
 -- ---- base ten
 
-pub decimal-one : (k n : ℕ) → n < 10 → ((48 + n) ∷ []) ≡ decimalBy (suc k) n
+pub puts-digit : {a b : List ℕ} {i j : ℕ} (n k : ℕ) → n < 10 → Puts a b i j ((48 + n) ∷ []) → Puts a b i j (decimalBy (suc k) n)
 unfolding decimalBy
-decimal-one k n l = rw (lt-ltb n 10 l) refl
+puts-digit n k l x = rw (lt-ltb n 10 l) x
 
 decimal-more : (k n : ℕ) → 10 ≤ n → decimalBy k (n / 10) ++ ((48 + n % 10) ∷ []) ≡ decimalBy (suc k) n
 unfolding decimalBy
 decimal-more k n l = rw (le-ltb n 10 l) refl
 
 -- twenty digits hold every number of 64 bits
-pub twenty-digits : (n : ℕ) → n < 18446744073709551616 → n < 10 ^ 20
-twenty-digits n l = omega (arith, l)
+pub puts-twenty : {a b : List ℕ} {i j : ℕ} (n : ℕ) → n < 18446744073709551616 → ((k : ℕ) → n < 10 ^ suc k → Puts a b i j (decimalBy (suc k) n)) → Puts a b i j (decimal n)
+puts-twenty n l x = x 19 (omega (arith, l))
 
 -- the last digit behind the others
 pub puts-decimal : {a b c : List ℕ} {i j r : ℕ} (n : ℕ) → 10 ≤ n
@@ -40,10 +40,13 @@ unfolding hexadecimal
 hex-none zero w e = refl
 hex-none (suc k) w e = absurd (let z : ⊥ = omega (arith, e) in z)
 
-pub hex-more : (k w : ℕ) → 0 < k → hexadecimal (k - 1) (w / 16) ++ (digit (w % 16) ∷ []) ≡ hexadecimal k w
+-- the last digit behind the others
+pub puts-hexadecimal : {a b c : List ℕ} {i j r : ℕ} (k w d : ℕ) → (k ≡ 0 → ⊥) → Puts a b i j (hexadecimal (k - 1) (w / 16)) → d ≡ digit (w % 16) → Puts b c j r (d ∷ []) → Puts a c i r (hexadecimal k w)
 unfolding hexadecimal
-hex-more zero w l = absurd (let z : ⊥ = omega (arith, l) in z)
-hex-more (suc k) w l = let e : suc k - 1 ≡ k = omega arith in ap (λ (j : ℕ). hexadecimal j (w / 16) ++ (digit (w % 16) ∷ [])) e
+puts-hexadecimal zero w d l x e y = absurd (l refl)
+puts-hexadecimal (suc k) w d l x e y =
+    let s : suc k - 1 ≡ k = omega arith in
+    puts-as (λ t. hexadecimal (s t) (w / 16) ++ (e t ∷ [])) (puts-more x y)
 
 pub digit-low : (d : ℕ) → d < 10 → 48 + d ≡ digit d
 unfolding digit
@@ -65,6 +68,5 @@ unfolding lines
 lines-one w = append-nil (line w)
 
 -- one line more
-pub lines-next : (p : List ℕ) (n : ℕ) → n < length p → lines (take n p) ++ line (getD p n 0) ≡ lines (take (n + 1) p)
-lines-next p n l =
-    ap (λ (r : List ℕ). lines (take n p) ++ r) (sym (lines-one (getD p n 0))) ∙ sym (lines-append (take n p) (getD p n 0 ∷ [])) ∙ ap lines (next-is p n l)
+pub puts-line : {a b c : List ℕ} {i j k : ℕ} (p : List ℕ) (n : ℕ) → n < length p → Puts a b i j (lines (take n p)) → Puts b c j k (line (getD p n 0)) → Puts a c i k (lines (take (n + 1) p))
+puts-line p n l x y = puts-as (ap (λ (r : List ℕ). lines (take n p) ++ r) (sym (lines-one (getD p n 0))) ∙ sym (lines-append (take n p) (getD p n 0 ∷ [])) ∙ ap lines (next-is p n l)) (puts-more x y)

@@ -44,6 +44,9 @@ puts-as {a} {b} {i} {j} e x = subst (λ (r : List ℕ). Puts a b i j r) e x
 pub next-is : (p : List ℕ) (n : ℕ) → n < length p → take n p ++ (getD p n 0 ∷ []) ≡ take (n + 1) p
 next-is p n l = sym (ap (λ (k : ℕ). take k p) (add-one n) ∙ take-suc p n 0 l)
 
+pub puts-next : {a b c : List ℕ} {i j k : ℕ} (p : List ℕ) (n : ℕ) → n < length p → Puts a b i j (take n p) → Puts b c j k (getD p n 0 ∷ []) → Puts a c i k (take (n + 1) p)
+puts-next p n l x y = puts-as (next-is p n l) (puts-more x y)
+
 -- all of them
 pub whole : (p : List ℕ) (n : ℕ) → length p ≤ n → take n p ≡ p
 whole p n l = take-all n p l

@@ -6,6 +6,10 @@ use mathlib.Core.Path.{_≡_, refl, sym, ap, _∙_}
 use native.Mathlib.Omega.{arith}
 use borrow.Author.Tests.{le-leb, lt-leb}
 use lib.ListN.{length, take, drop, getD}
+use Rattle.theory_call.specs.Call.{Answer}
+use Rattle.program_digits.specs.Digits.{Puts}
+use Rattle.program_digits.proofs.Putting.{puts-as}
+use Rattle.program_text.specs.Text.{answerText}
 use Rattle.program_replies.specs.Reply.{counted, countedBy, replied, unfitText, callReply, ruleReply}
 use Rattle.program_replies.specs.declared.Counted.{Counted}
 use Rattle.program_replies.specs.declared.Counted.the-variants.{Words, Short}
@@ -17,38 +21,47 @@ unfolding counted
 counted-none [] e = refl
 counted-none (n ∷ s) e = absurd (let z : ⊥ = omega (arith, e) in z)
 
-pub counted-short : (s : List ℕ) → 0 < length s → length s - 1 < getD s 0 0 → none ≡ counted s
+pub counted-short : (s : List ℕ) → (length s ≡ 0 → ⊥) → length s - 1 < getD s 0 0 → none ≡ counted s
 unfolding counted
-counted-short [] l m = absurd (let z : ⊥ = omega (arith, l) in z)
+counted-short [] l m = absurd (l refl)
 counted-short (n ∷ s) l m = let h : length s < n = omega (arith, m) in rw (lt-leb n (length s) h) refl
 
-pub counted-some : (s : List ℕ) → 0 < length s → getD s 0 0 ≤ length s - 1 → some (take (getD s 0 0) (drop 1 s), drop (getD s 0 0) (drop 1 s)) ≡ counted s
+pub counted-some : (s : List ℕ) → (length s ≡ 0 → ⊥) → getD s 0 0 ≤ length s - 1 → some (take (getD s 0 0) (drop 1 s), drop (getD s 0 0) (drop 1 s)) ≡ counted s
 unfolding counted
-counted-some [] l m = absurd (let z : ⊥ = omega (arith, l) in z)
+counted-some [] l m = absurd (l refl)
 counted-some (n ∷ s) l m = let h : n ≤ length s = omega (arith, m) in rw (le-leb n (length s) h) refl
 
--- ---- lists with a count
+-- ---- what is put, by what was read
 
-pub replied-words : (c : Counted) (n : ℕ) (s rest a b : List ℕ) (k : List ℕ → List ℕ → List ℕ) → countedBy c s ≡ counted s → c ≡ Words n → rest ≡ drop 1 s → a ≡ take n rest → b ≡ drop n rest → k a b ≡ replied (counted s) k
-unfolding countedBy replied
-replied-words c n s rest a b k e f g u v =
-    (λ i. k ((u ∙ ap (take n) g) i) ((v ∙ ap (drop n) g) i))
-    ∙ ap (λ (o : Option (List ℕ × List ℕ)). replied o k) (sym (ap (λ (d : Counted). countedBy d s) f) ∙ e)
+-- a text is put at the start of a buffer
+abbrev Put : (old new : List ℕ) (next : ℕ) → List ℕ → Type 0
+Put old new next text = Puts old new 0 next text
 
-pub replied-short : (c : Counted) (s : List ℕ) (k : List ℕ → List ℕ → List ℕ) → countedBy c s ≡ counted s → c ≡ Short → unfitText ≡ replied (counted s) k
-unfolding countedBy replied
-replied-short c s k e f = ap (λ (o : Option (List ℕ × List ℕ)). replied o k) (sym (ap (λ (d : Counted). countedBy d s) f) ∙ e)
+module _ {old new : List ℕ} {next : ℕ} where
+  -- an answer that is another
+  pub puts-answer : (x y : Answer) → x ≡ y → Put old new next (answerText x) → Put old new next (answerText y)
+  puts-answer x y e p = puts-as (ap (λ (a : Answer). answerText a) e) p
 
--- ---- behind the rule
+  -- behind the rule
+  pub puts-call : (script moves rule s : List ℕ) → length s ≡ 1 → Put old new next (callReply script moves rule (getD s 0 0)) → Put old new next (ruleReply script moves rule s)
+  unfolding ruleReply
+  puts-call script moves rule [] e p = absurd (let z : ⊥ = omega (arith, e) in z)
+  puts-call script moves rule (x ∷ []) e p = p
+  puts-call script moves rule (x ∷ y ∷ s) e p = absurd (let z : ⊥ = omega (arith, e) in z)
 
-pub rule-one : (script moves rule s : List ℕ) → length s ≡ 1 → callReply script moves rule (getD s 0 0) ≡ ruleReply script moves rule s
-unfolding ruleReply
-rule-one script moves rule [] e = absurd (let z : ⊥ = omega (arith, e) in z)
-rule-one script moves rule (p ∷ []) e = refl
-rule-one script moves rule (p ∷ q ∷ s) e = absurd (let z : ⊥ = omega (arith, e) in z)
+  pub puts-unfit : (script moves rule s : List ℕ) → (length s ≡ 1 → ⊥) → Put old new next unfitText → Put old new next (ruleReply script moves rule s)
+  unfolding ruleReply
+  puts-unfit script moves rule [] e p = p
+  puts-unfit script moves rule (x ∷ []) e p = absurd (e refl)
+  puts-unfit script moves rule (x ∷ y ∷ s) e p = p
 
-pub rule-unfit : (script moves rule s : List ℕ) → (length s ≡ 1 → ⊥) → unfitText ≡ ruleReply script moves rule s
-unfolding ruleReply
-rule-unfit script moves rule [] e = refl
-rule-unfit script moves rule (p ∷ []) e = absurd (e refl)
-rule-unfit script moves rule (p ∷ q ∷ s) e = refl
+  -- a list with a count, and one that is too short for it
+  module _ (c : Counted) (s : List ℕ) (k : List ℕ → List ℕ → List ℕ) (e : countedBy c s ≡ counted s) where
+    pub puts-words : (n : ℕ) (rest a b : List ℕ) → c ≡ Words n → rest ≡ drop 1 s → a ≡ take n rest → b ≡ drop n rest → Put old new next (k a b) → Put old new next (replied (counted s) k)
+    unfolding countedBy replied
+    puts-words n rest a b f g u v p = puts-as
+        ((λ i. k ((u ∙ ap (take n) g) i) ((v ∙ ap (drop n) g) i)) ∙ ap (λ (o : Option (List ℕ × List ℕ)). replied o k) (sym (ap (λ (d : Counted). countedBy d s) f) ∙ e)) p
+
+    pub puts-short : c ≡ Short → Put old new next unfitText → Put old new next (replied (counted s) k)
+    unfolding countedBy replied
+    puts-short f p = puts-as (ap (λ (o : Option (List ℕ × List ℕ)). replied o k) (sym (ap (λ (d : Counted). countedBy d s) f) ∙ e)) p

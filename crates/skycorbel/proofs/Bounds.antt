@@ -1,21 +1,22 @@
 -- The program's text is never longer than the buffer in which it is put. Assumes nothing.
 use Prim.Native.Nat.{ℕ, zero, suc, _+_, _*_, _-_, _/_, _%_, _≤_, min}
-use mathlib.Core.Bool.{Bool, true, false, cond}
+use mathlib.Core.Bool.{Bool, true, false, cond, _&&_}
 use mathlib.Core.List.{List, [], _∷_, _++_}
 use mathlib.Core.Option.{Option, none, some}
 use mathlib.Core.Path.{_≡_, refl, sym, ap, _∙_, subst}
 use native.Mathlib.Omega.{arith}
 use borrow.Author.Tests.{leb-true}
-use lib.Dec.{ltb, lit≤}
+use lib.Dec.{leb, ltb, eqb, lit≤}
 use lib.ListN.{length, take, drop, replicate, length-append, length-take, length-drop, length-replicate}
 use Rattle.io.specs.Counts.{Counts}
+use Rattle.base_slices.proofs.Tests.{byTest}
 use Rattle.theory_call.specs.Call.{Call, Verdict, accepted, refused, Answer, answer, refusal, written}
 use Rattle.theory_call.proofs.Answers.{answer-ends}
 use Rattle.checker.specs.Answering.{callOf}
 use Rattle.program_digits.specs.Digits.{digit, hexadecimal, line, lines, decimalBy, decimal, Puts}
 use Rattle.program_text.specs.Text.{refusedText, atText, movesText, visitsText, deepestText, weightText, wordsText, refusalText, countsText, saidText, verdictText}
 use Rattle.program_replies.specs.Reply.{counted, replied, unfitText, callReply, ruleReply, movesReply, scriptReply, wordsReply}
-use Rattle.skycorbel.specs.Input.{reply}
+use Rattle.skycorbel.specs.Input.{wordsOf, reply}
 use Rattle.skycorbel.specs.Right.{Right}
 use Rattle.skycorbel.proofs.Deciding.{reply-right}
 
@@ -27,7 +28,7 @@ Long c a = length (a .buffer) ≡ length (c .buffer)
 over-long : (ws b : List ℕ) → length ws ≤ length b → length (ws ++ drop (length ws) b) ≡ length b
 over-long ws b l = let e : length ws + (length b - length ws) ≡ length b = omega arith in length-append ws (drop (length ws) b) ∙ ap (λ (k : ℕ). length ws + k) (length-drop (length ws) b) ∙ e
 
-pub answer-long : (c : Call) → length (answer c .buffer) ≡ length (c .buffer)
+answer-long : (c : Call) → length (answer c .buffer) ≡ length (c .buffer)
 unfolding refusal
 answer-long c = answer-ends c (Long c) (record {
   unread = λ q i e. refl;
@@ -120,7 +121,7 @@ verdict-short (refused q i) r l = omega (arith, refusal-short q i)
 abbrev Short : List ℕ → Type 0
 Short t = length t ≤ 40960
 
-pub unfit-short : Short unfitText
+unfit-short : Short unfitText
 unfit-short = omega (arith, refusal-short 20 0)
 
 call-short : (script moves rule : List ℕ) (p : ℕ) → Short (callReply script moves rule p)
@@ -140,16 +141,18 @@ unfolding replied
 replied-short none k h = unfit-short
 replied-short (some p) k h = h (p .0) (p .1)
 
-pub words-short : (s : List ℕ) → Short (wordsReply s)
+words-short : (s : List ℕ) → Short (wordsReply s)
 words-short s =
     replied-short (counted s) (λ script rest. scriptReply script rest) λ script rest. replied-short (counted rest) (λ moves more. movesReply script moves more) λ moves more. replied-short (counted more) (λ rule last. ruleReply script moves rule last) λ rule last. rule-short script moves rule last
 
--- the whole text stands in a buffer that is long enough, and is right
-pub puts-all : {old new : List ℕ} (input : List ℕ) {r : ℕ} {piece : List ℕ} → Puts old new 0 r piece → 40960 ≤ length old → Short piece → piece ≡ reply input
-    → Counts r new × ((take r new ≡ reply input) × Right input (take r new))
-puts-all {old} {new} input {r} x e l f =
-    let u = x .put (omega (arith, e, l)) in
-    let h : r ≤ length new = omega (arith, u .0, x .kept, e, l) in
+reply-short : (s : List ℕ) → Short (reply s)
+unfolding reply
+reply-short s = byTest (leb (length s) 24576 && eqb (length s % 4) 0) (λ t. rw t (words-short (wordsOf (length s / 4) s))) (λ t. rw t unfit-short)
+
+-- the whole reply stands in a buffer that is long enough, and is right
+pub puts-all : (old : List ℕ) {new : List ℕ} (input : List ℕ) {r : ℕ} → 40960 ≤ length old → Puts old new 0 r (reply input) → Counts r new × ((take r new ≡ reply input) × Right input (take r new))
+puts-all old {new} input {r} e x =
+    let u = x .put (omega (arith, e, reply-short input)) in
+    let h : r ≤ length new = omega (arith, u .0, x .kept, e, reply-short input) in
     let k : r ≡ length (take r new) = omega (arith, length-take r new, h) in
-    let t : take r new ≡ reply input = u .1 ∙ f in
-    ((h, k), (t, subst (Right input) (sym t) (reply-right input)))
+    ((h, k), (u .1, subst (Right input) (sym (u .1)) (reply-right input)))

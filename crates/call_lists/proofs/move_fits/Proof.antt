@@ -1,13 +1,18 @@
 -- `move_fits` meets its contract: the four tests of question 15. Assumes nothing.
-use Prim.Native.Nat.{ℕ}
-use mathlib.Core.Path.{sym, ap, _∙_}
-use lib.Dec.{ltb}
+use mathlib.Core.Path.{sym}
 use borrow.Author.Tests.{eq-eqb, ne-eqb, lt-ltb, le-ltb}
 use Rattle.read_messages.specs.Words.{kind, operand}
 use Rattle.theory_call.specs.Call.{moveFits}
 use borrow.Author.Needs.{needs}
 use Rattle.call_lists.proofs.move_fits.Statement.{statement}
 use Rattle.call_lists.proofs.move_fits.Tie as tie
+
+-- the tests before the actor's
+abbrev actor-kind : tie.After-actor-of → tie.Else1
+actor-kind c = c .before .before
+
+abbrev target-actor : tie.After-target-of → tie.After-actor-of
+target-actor c = c .before .before
 
 returns : tie.Need-returns
 unfolding moveFits kind operand
@@ -19,16 +24,11 @@ returns-2 c = sym (rw (eq-eqb _ 1 (c .before .if1 .left), le-ltb _ 65536 (c .if2
 
 returns-3 : tie.Need-returns-3
 unfolding moveFits kind operand
-returns-3 c =
-    let at-else2 = c .before .before in
-    sym (rw (eq-eqb _ 1 (at-else2 .before .if1 .left), lt-ltb _ 65536 (at-else2 .if2 .left), ← c .before .actor-of .ensures, le-ltb _ (at-else2 .before .before .args .parts) (c .if3 .taken)))
+returns-3 c = let a = c .before in sym (rw (eq-eqb _ 1 (actor-kind a .if1 .left), lt-ltb _ 65536 (a .before .if2 .left), ← a .actor-of .ensures, le-ltb _ _ (c .if3 .taken)))
 
 returns-4 : tie.Need-returns-4
 unfolding moveFits kind operand
-returns-4 c =
-    let at-actor-of = c .before .before in
-    let at-else2 = at-actor-of .before in
-    ap (λ (n : ℕ). ltb n (at-else2 .before .before .args .parts)) (c .target-of .ensures) ∙ sym (rw (eq-eqb _ 1 (at-else2 .before .if1 .left), lt-ltb _ 65536 (at-else2 .if2 .left), ← at-actor-of .actor-of .ensures, lt-ltb _ (at-else2 .before .before .args .parts) (c .before .if3 .left)))
+returns-4 c = let a = target-actor c in sym (rw (eq-eqb _ 1 (actor-kind a .if1 .left), lt-ltb _ 65536 (a .before .if2 .left), ← a .actor-of .ensures, lt-ltb _ _ (c .before .if3 .left), ← c .target-of .ensures))
 
 pub move-fits-spec : {M : Type 1} → statement M
 move-fits-spec =

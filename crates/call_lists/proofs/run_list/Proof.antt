@@ -1,110 +1,33 @@
 -- `run_list` meets its contract: i moves are made. Assumes nothing.
-use native.Mathlib.Omega.{arith}
-use mathlib.Core.Bool.{true}
-use Prim.Native.Nat.{ℕ, _≤_, _<_, _-_}
-use mathlib.Core.Path.{_≡_, refl, sym, _∙_, subst, transport}
-use lib.ListN.{getD, length}
-use Rattle.engine_targets.specs.Makes.{Tries}
-use Rattle.engine_state_arrays.specs.Lent.{kindsIn, startsIn, standing, Lends}
-use Rattle.engine_states.specs.declared.State.{State}
-use Rattle.theory_call.specs.Call.{actor, target, moveFits}
-use Rattle.call_lists.proofs.Listed.{Going, going-none, going-ends, going-unfit, going-stuck, going-on, fitting}
+use Prim.Native.Nat.{_-_}
+use lib.ListN.{length}
+use Rattle.call_lists.proofs.Listed.{Turn, turn-none, turn-ends, turn-unfit, turn-stuck, turn-on, actor-small, target-small}
 use borrow.Author.Needs.{needs}
 use Rattle.call_lists.proofs.run_list.Statement.{statement}
 use Rattle.call_lists.proofs.run_list.Tie as tie
 
 abbrev Inv-loop : tie.InvT-loop
-Inv-loop script sets₀ numbers₀ moves parts i₀ sets numbers i = (i ≤ length moves) × Lends script sets numbers × (kindsIn numbers ≡ kindsIn numbers₀) × (startsIn numbers ≡ startsIn numbers₀) × Going script (kindsIn numbers₀) (startsIn numbers₀) parts moves (standing sets₀ numbers₀) i (standing sets numbers)
+Inv-loop script sets₀ numbers₀ moves parts i₀ sets numbers i = Turn script sets₀ numbers₀ moves parts i sets numbers
 
 abbrev μ-loop : tie.MeasureT-loop
 μ-loop script sets₀ numbers₀ moves parts i₀ sets numbers i = length moves - i
 
--- ---- the places, and the way from each to those before it
-
-abbrev At : (tie.InvT-loop → tie.MeasureT-loop → Type 0) → Type 0
-At place = place Inv-loop μ-loop
-
-abbrev loop-start : At tie.At-loop → At tie.Start
-loop-start c = c .before .before .before
-
-abbrev fits-loop : At tie.After-move-fits → At tie.At-loop
-fits-loop c = c .before .before .before
-
-abbrev target-then : At tie.After-target-of → At tie.Then1
-target-then c = c .before .before .before .before
-
--- ---- the move of a turn
-
-module _ (c : At tie.After-move-fits) where
-  abbrev turn : At tie.At-loop
-  turn = fits-loop c
-
-  abbrev word : ℕ
-  word = getD (loop-start turn .args .moves .now) (turn .loop .i) 0
-
-  -- the state before it
-  abbrev state : State
-  state = standing (turn .loop .sets) (turn .loop .numbers)
-
-fits : (c : At tie.Then1) → moveFits (loop-start (turn (c .before)) .args .parts) (word (c .before)) ≡ true
-fits c = sym (c .before .move-fits .ensures) ∙ c .if1 .taken
-
-module _ (c : At tie.After-try-move) where
-  abbrev fit : At tie.After-move-fits
-  fit = target-then (c .before) .before
-
-  -- the state behind it
-  abbrev left : State
-  left = standing (c .try-move .last .1 .0) (c .try-move .last .1 .1 .0)
-
-  tried : let l = turn fit in Tries (loop-start l .args .script .now) (kindsIn (loop-start l .args .numbers .now)) (startsIn (loop-start l .args .numbers .now)) (state fit) left (c .try-move .result) (actor (word fit)) (target (word fit))
-  tried = let l = turn fit .loop .inv in transport (λ q. Tries (loop-start (turn fit) .args .script .now) (l .2 q) (l .3 q) (state fit) left (c .try-move .result) (c .before .before .actor-of .ensures q) (c .before .target-of .ensures q)) (c .try-move .ensures .1 .1)
-
-  table : let n = loop-start (turn fit) .args .numbers .now in let m = c .try-move .last .1 .1 .0 in (kindsIn m ≡ kindsIn n) × (startsIn m ≡ startsIn n)
-  table = (c .try-move .ensures .1 .0 .0 ∙ turn fit .loop .inv .2, c .try-move .ensures .1 .0 .1 ∙ turn fit .loop .inv .3)
-
--- ---- the needs
-
-try-move-requires : tie.Need-try-move-requires Inv-loop μ-loop
-try-move-requires c κs =
-    let t = target-then c in
-    let f = fitting _ _ (loop-start (turn (t .before)) .pre .0) (fits t) in
-    (subst (λ (n : ℕ). n < 64) (sym (c .before .actor-of .ensures)) (f .0), subst (λ (n : ℕ). n < 64) (sym (c .target-of .ensures)) (f .1), turn (t .before) .loop .inv .1)
-
 loop-again : tie.Need-loop-again Inv-loop μ-loop
-loop-again c =
-    let m = c .before in
-    let t = target-then (m .before) in
-    (search needs, m .try-move .ensures .0, table m .0, table m .1, going-on _ _ _ _ _ _ _ _ (turn (fit m) .loop .inv .4) (t .before .before .before .loop-test .taken) (fits t) (left m) _ (tried m) (c .if2 .taken))
+loop-again c = search (turn-on, needs)
 
 returns : tie.Need-returns Inv-loop μ-loop
-returns c =
-    let m = c .before in
-    let t = target-then (m .before) in
-    (m .try-move .ensures .0, (table m, going-stuck _ _ _ _ _ _ _ _ (turn (fit m) .loop .inv .4) (t .before .before .before .loop-test .taken) (fits t) (left m) _ (tried m) (c .if2 .left)))
+returns c = search (turn-stuck, needs)
 
 returns-2 : tie.Need-returns-2 Inv-loop μ-loop
-returns-2 c =
-    let l = turn (c .before) .loop .inv in
-    (l .1, ((l .2, l .3), going-unfit _ _ _ _ _ _ _ _ (l .4) (c .before .before .before .loop-test .taken) (sym (c .before .move-fits .ensures) ∙ c .if1 .left)))
+returns-2 c = search (turn-unfit, needs)
 
 returns-3 : tie.Need-returns-3 Inv-loop μ-loop
-returns-3 c =
-    let l = c .before .loop .inv in
-    (l .1, ((l .2, l .3), going-ends _ _ _ _ _ _ _ _ (l .4) (c .loop-test .left) (l .0)))
+returns-3 c = search (turn-ends, needs)
 
 pub run-list-spec : {M : Type 1} → statement M
 run-list-spec =
     tie.close
     (tie.spec
-    Inv-loop
-    μ-loop
-    (λ c. (search needs, c .before .before .pre .2, refl, refl, going-none _ (kindsIn _) (startsIn _) _ _ (standing _ _)))
-    (λ c. search needs) (λ c. search needs) (λ c κs. search needs) (λ c κs. search needs) (λ c κs. search needs)
-    try-move-requires
-    (λ c. let l = fit (c .before) .before .before in omega (arith, l .loop-test .taken, loop-start (l .before) .pre .1))
-    (λ c. search needs)
-    loop-again
-    returns
-    returns-2
-    returns-3)
+    Inv-loop μ-loop
+    (λ c. search (turn-none, needs)) (λ c. search needs) (λ c. search needs) (λ c κs. search needs) (λ c κs. search needs) (λ c κs. search needs)
+    (λ c κs. search (actor-small, target-small, needs)) (λ c. search needs) (λ c. search needs) loop-again returns returns-2 returns-3)

@@ -1,35 +1,19 @@
 -- `ask_terms` meets its contract: questions 13 and 14. Assumes nothing.
-use Prim.Native.Nat.{_≤_}
-use native.Mathlib.Omega.{arith}
-use Rattle.checker.proofs.Calling.{restless, too-many, let-in}
+use Rattle.checker.proofs.Calling.{no-patience, too-patient, too-many, let-in}
 use Rattle.checker.proofs.ask_terms.Statement.{statement}
 use Rattle.checker.proofs.ask_terms.Tie as tie
 
--- ---- the places, and what is known there
-
--- question 13 is answered by yes
-abbrev calm-start : tie.Else2 → tie.Start
-calm-start c = c .before .before
-
-least : (c : tie.Else2) → 1 ≤ calm-start c .args .patience
-least c = omega (arith, c .before .if1 .left)
-
-most : (c : tie.Else2) → calm-start c .args .patience ≤ 16777216
-most c = omega (arith, c .if2 .left)
-
--- ---- the needs
-
 returns : tie.Need-returns
-returns c = let s = c .before in restless (s .args .patience) (s .args .moves) (λ l h. omega (arith, c .if1 .taken))
+returns c = search no-patience
 
 returns-2 : tie.Need-returns-2
-returns-2 c = let s = c .before .before in restless (s .args .patience) (s .args .moves) (λ l h. omega (arith, c .if2 .taken))
+returns-2 c = search too-patient
 
 returns-3 : tie.Need-returns-3
-returns-3 c = too-many (calm-start (c .before) .args .patience) (calm-start (c .before) .args .moves) (least (c .before)) (most (c .before)) (omega (arith, c .if3 .taken))
+returns-3 c = search too-many
 
 returns-4 : tie.Need-returns-4
-returns-4 c = let-in (calm-start (c .before) .args .patience) (calm-start (c .before) .args .moves) (least (c .before)) (most (c .before)) (omega (arith, c .if3 .left))
+returns-4 c = search let-in
 
 pub ask-terms-spec : {M : Type 1} → statement M
 ask-terms-spec = tie.close (tie.spec returns returns-2 returns-3 returns-4)

@@ -9,9 +9,7 @@ returns : tie.Need-returns
 returns c q i b e = Read≢Refused (sym (c .before .enum-told .given .1) ∙ e)
 
 returns-2 : tie.Need-returns-2
-returns-2 c q i b e =
-    let no = c .before .before .outcome .given in
-    c .refused2 .ensures b ∙ one-refusal (no .0 .0) (no .0 .1 .0) q i b (sym (no .1) ∙ e)
+returns-2 c q i b e = search (one-refusal, needs)
 
 pub handed-up-spec : {M : Type 1} → statement M
 handed-up-spec = tie.close (tie.spec (λ c. search needs) (λ c. search needs) (λ c κs. search needs) returns (λ c κs. search needs) returns-2)

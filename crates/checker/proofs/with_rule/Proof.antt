@@ -1,40 +1,18 @@
 -- `with_rule` meets its contract: questions 13 and 14 let the call in, or refuse it. Assumes nothing.
-use mathlib.Core.Path.{sym, _∙_}
-use lib.ListN.{length}
-use Rattle.theory_call.specs.Call.{asking, terms}
-use Rattle.checker.proofs.Calling.{asked-read, says-terms}
+use Rattle.checker.proofs.Calling.{handed, asked-so, says-terms}
 use borrow.Author.Needs.{needs}
 use Rattle.checker.proofs.with_rule.Statement.{statement}
 use Rattle.checker.proofs.with_rule.Tie as tie
 
--- the start, from the place behind the questions
-abbrev asked-start : tie.After-ask-terms → tie.Start
-asked-start c = c .before .before .before .before .before
-
 with-terms-requires : tie.Need-with-terms-requires
-with-terms-requires c κs =
-    let yes = c .before .enum-told .given in
-    let a = c .before .before .before in
-    let s = asked-start a in
-    (s .pre .0, s .pre .1, asked-read (asking (terms (s .args .patience) (length (s .args .moves .now)))) (yes .0 .0) (sym (a .ask-terms .ensures) ∙ yes .1))
+with-terms-requires c κs = search (asked-so, needs)
 
 returns : tie.Need-returns
-returns c =
-    let no = c .before .enum-told2 .given in
-    let a = c .before .before .before in
-    let s = asked-start a in
-    c .handed-up .ensures (no .0 .0) (no .0 .1 .0) (s .args .out .now) (no .1)
-    ∙ sym (says-terms (s .args .script .now) (s .args .moves .now) (s .args .rule .now) (s .args .patience) (s .args .out .now) (s .args .parts) (s .pre .0) (s .args .table) (s .pre .1) (no .0 .0) (no .0 .1 .0) (a .ask-terms .result) (a .ask-terms .ensures) (no .1))
+returns c = search (handed, says-terms, needs)
 
 pub with-rule-spec : {M : Type 1} → statement M
 with-rule-spec =
     tie.close
     (tie.spec
-    (λ c κs. search needs)
-    (λ c. search needs)
-    (λ c. search needs)
-    (λ c κs. search needs)
-    returns
-    with-terms-requires
-    (λ c. search needs)
-    (λ c. search needs))
+    (λ c κs. search needs) (λ c. search needs) (λ c. search needs) (λ c κs. search needs) returns with-terms-requires
+    (λ c. search needs) (λ c. search needs))

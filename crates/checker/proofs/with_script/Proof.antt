@@ -1,38 +1,18 @@
 -- `with_script` meets its contract: questions 7 to 12. Assumes nothing.
-use mathlib.Core.Path.{sym, _∙_}
-use Rattle.checker.proofs.Calling.{rule-refused, rule-held, says-rule}
+use Rattle.checker.proofs.Calling.{handed, rule-refused, rule-held, says-rule}
 use borrow.Author.Needs.{needs}
 use Rattle.checker.proofs.with_script.Statement.{statement}
 use Rattle.checker.proofs.with_script.Tie as tie
 
--- the start, from the place behind the reader
-abbrev read-start : tie.After-read-whole-rule → tie.Start
-read-start c = c .before .before .before .before .before
-
 with-rule-requires : tie.Need-with-rule-requires
-with-rule-requires c κs =
-    let yes = c .before .enum-told .given in
-    let r = c .before .before .before in
-    let s = read-start r in
-    (s .pre, rule-held (s .args .parts .count) (s .args .rule .now) (r .read-whole-rule .result) (r .read-whole-rule .ensures .answer) (yes .0 .0) (yes .1) (r .read-whole-rule .ensures .table))
+with-rule-requires c κs = search (rule-held, needs)
 
 returns : tie.Need-returns
-returns c =
-    let no = c .before .enum-told2 .given in
-    let r = c .before .before .before in
-    let s = read-start r in
-    c .handed-up .ensures (no .0 .0) (no .0 .1 .0) (s .args .out .now) (no .1)
-    ∙ sym (says-rule (s .args .script .now) (s .args .moves .now) (s .args .rule .now) (s .args .patience) (s .args .out .now) (s .args .parts) (s .pre) (no .0 .0) (no .0 .1 .0) (rule-refused (s .args .parts .count) (s .args .rule .now) (r .read-whole-rule .result) (r .read-whole-rule .ensures .answer) (no .0 .0) (no .0 .1 .0) (no .1)))
+returns c = search (handed, says-rule, rule-refused, needs)
 
 pub with-script-spec : {M : Type 1} → statement M
 with-script-spec =
     tie.close
     (tie.spec
-    (λ c κs. search needs)
-    (λ c. search needs)
-    (λ c. search needs)
-    (λ c κs. search needs)
-    returns
-    with-rule-requires
-    (λ c. search needs)
-    (λ c. search needs))
+    (λ c κs. search needs) (λ c. search needs) (λ c. search needs) (λ c κs. search needs) returns with-rule-requires
+    (λ c. search needs) (λ c. search needs))

@@ -1,47 +1,30 @@
 -- `tell` meets its contract: eight stores one after another. Assumes nothing.
-use Prim.Native.Nat.{ℕ, _≤_, _<_}
-use lib.ListN.{length}
+use Prim.Native.Nat.{ℕ, _≤_}
+use mathlib.Core.List.{List, _++_}
+use mathlib.Core.Path.{_≡_}
+use lib.ListN.{length, set, drop, length-set}
+use lib.Seq.{sets-eq}
 use native.Mathlib.Omega.{arith}
-use lib.Seq.{lt-length-set, sets-eq}
-use Rattle.checker.specs.Answering.{answerOf}
-use Rattle.host_answer_words.specs.Told.{told}
+use Rattle.checker.specs.Answering.{verdictOf, answerOf}
+use Rattle.checker.specs.declared.Answer.{Answer}
+use Rattle.host_answer_words.specs.Told.{saidOf, questionOf, placeOf, told}
 use borrow.Author.Needs.{needs}
 use Rattle.host_answer_words.proofs.tell.Statement.{statement}
 use Rattle.host_answer_words.proofs.tell.Tie as tie
 
--- the way from a place to one before it
-abbrev question-of-start : tie.After-question-of → tie.Start
-question-of-start c = c .before .before .before
-
-abbrev place-of-start : tie.After-place-of → tie.Start
-place-of-start c = question-of-start (c .before)
-
--- eight words fit
-room : (s : tie.Start) (i : ℕ) → i < 8 → i < length (s .args .answer .now)
-room s i h = omega (arith, s .pre .0)
+stored : (a : Answer) (words buffer : List ℕ) (x y z : ℕ) → 8 ≤ length words → x ≡ saidOf (verdictOf (a .verdict)) → y ≡ questionOf (verdictOf (a .verdict)) → z ≡ placeOf (verdictOf (a .verdict))
+    → set (set (set (set (set (set (set (set words 0 x) 1 y) 2 z) 3 (a .moves)) 4 (a .visits)) 5 (a .deepest)) 6 (a .weight)) 7 (a .words) ≡ told (answerOf a buffer) ++ drop 8 words
+unfolding told answerOf
+stored a words buffer x y z l e f g = rw (e, f, g) (sets-eq (told (answerOf a buffer)) words 0 l)
 
 returns : tie.Need-returns
-unfolding told answerOf
-returns c buffer =
-    let at-place-of = c .before .before in let start = place-of-start at-place-of in
-    let h : 8 ≤ length (start .args .answer .now) = start .pre .0 in
-    rw (at-place-of .before .before .said .ensures, at-place-of .before .question-of .ensures, at-place-of .place-of .ensures)
-    (sets-eq (told (answerOf (start .args .a) buffer)) (start .args .answer .now) 0 h)
+returns c buffer = search (stored, needs)
 
 pub tell-spec : {M : Type 1} → statement M
 tell-spec =
     tie.close
     (tie.spec
-    (λ c κs. search needs) (λ c. search needs) (λ c κs. search needs)
-    (λ c. search (lt-length-set, room (question-of-start c) 1 (omega arith)) depth 9)
-    (λ c κs. search needs) (λ c. search needs)
-    (λ c. search (lt-length-set, room (place-of-start c) 2 (omega arith)) depth 9)
-    (λ c. search needs)
-    (λ c. search (lt-length-set, room (place-of-start (c .before)) 3 (omega arith)) depth 9)
-    (λ c. search (lt-length-set, room (place-of-start (c .before)) 4 (omega arith)) depth 9)
-    (λ c. search (lt-length-set, room (place-of-start (c .before)) 5 (omega arith)) depth 9)
-    (λ c. search needs)
-    (λ c. search (lt-length-set, room (place-of-start (c .before .before)) 6 (omega arith)) depth 9)
-    (λ c. search (lt-length-set, room (place-of-start (c .before .before)) 7 (omega arith)) depth 9)
-    (λ c. search needs)
-    returns)
+    (λ c κs. search needs) (λ c. search needs) (λ c κs. search needs) (λ c. simp length-set (omega arith)) (λ c κs. search needs) (λ c. search needs)
+    (λ c. simp length-set (omega arith)) (λ c. search needs) (λ c. simp length-set (omega arith)) (λ c. simp length-set (omega arith))
+    (λ c. simp length-set (omega arith)) (λ c. search needs) (λ c. simp length-set (omega arith)) (λ c. simp length-set (omega arith))
+    (λ c. search needs) returns)

@@ -4,8 +4,7 @@ use native.Mathlib.Omega.{arith}
 use borrow.Author.Needs.{needs}
 use borrow.Fn.Kinds.{In}
 use borrow.Fn.PlainCycle.{Measures, is, falls, and}
-use Rattle.program_digits.proofs.Putting.{puts-as}
-use Rattle.program_digits.proofs.Numbers.{decimal-one, puts-decimal}
+use Rattle.program_digits.proofs.Numbers.{puts-digit, puts-decimal}
 use Rattle.program_digits.proofs.put_decimal.Reads as put-decimal
 use Rattle.program_digits.proofs.put_decimal.Kinds as put-decimal-kinds
 use Rattle.program_digits.proofs.+put_decimal.Lts-put_decimal as put-decimal-lts
@@ -25,26 +24,15 @@ put-decimal-below t = and 1 put-decimal-kinds.ps (falls 1 put-decimal-kinds.ps _
 abbrev claims : ℕ → put-decimal-lts.Claims
 claims t = (put-byte-reads.Asked, put-byte-reads.Learnt, put-decimal-below t, put-decimal.Post)
 
-module _ (t : ℕ) where
-  -- the place behind the digits before the last one
-  abbrev byte-decimal : put-decimal-lts.After-put-byte2 (claims t) (put-decimal-at t) put-decimal.Post → put-decimal-lts.After-put-decimal (claims t) (put-decimal-at t) put-decimal.Post
-  byte-decimal c = c .before .before .before .before
-
-  returns-2 : put-decimal-lts.Need-returns-2 (claims t) (put-decimal-at t) put-decimal.Post
-  returns-2 c =
-      let d = byte-decimal (c .before .before) in
-      puts-decimal _ (d .before .before .if1 .left) (d .put-decimal .ensures) (c .before .before .put-byte2 .ensures)
+returns-2 : (t : ℕ) → put-decimal-lts.Need-returns-2 (claims t) (put-decimal-at t) put-decimal.Post
+returns-2 t c = search (puts-decimal, needs)
 
 pub +put-decimal-spec : {M : Type 1} → statement M
 +put-decimal-spec =
     close
     μ-put-decimal
     λ t. put-decimal-lts.spec
-    (claims t)
-    (put-decimal-at t)
-    put-decimal.Post
-    (λ c. search needs) (λ c. search needs) (λ c κs. search needs) (λ c. search needs)
-    (λ c k h. let b = c .before .before in puts-as (decimal-one k _ (b .before .before .if1 .taken)) (b .put-byte .ensures))
+    (claims t) (put-decimal-at t) put-decimal.Post
+    (λ c. search needs) (λ c. search needs) (λ c κs. search needs) (λ c. search needs) (λ c k h. search (puts-digit, needs))
     (λ c κs. (omega (arith, c .before .if1 .left), tt))
-    (λ c. search needs) (λ c. search needs) (λ c κs. search needs) (λ c. search needs)
-    (returns-2 t)
+    (λ c. search needs) (λ c. search needs) (λ c κs. search needs) (λ c. search needs) (returns-2 t)

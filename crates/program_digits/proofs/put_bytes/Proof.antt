@@ -2,7 +2,7 @@
 use Prim.Native.Nat.{_≤_, _-_}
 use lib.ListN.{length, take}
 use Rattle.program_digits.specs.Digits.{Puts}
-use Rattle.program_digits.proofs.Putting.{puts-none, puts-more, puts-as, next-is, whole}
+use Rattle.program_digits.proofs.Putting.{puts-none, puts-as, puts-next, whole}
 use borrow.Author.Needs.{needs}
 use Rattle.program_digits.proofs.put_bytes.Statement.{statement}
 use Rattle.program_digits.proofs.put_bytes.Tie as tie
@@ -13,23 +13,14 @@ Inv-loop text₀ at piece next₀ i₀ text next i = (i ≤ length piece) × Put
 abbrev μ-loop : tie.MeasureT-loop
 μ-loop text₀ at piece next₀ i₀ text next i = length piece - i
 
--- the way from a place to one before it
-abbrev put-byte-in-loop : tie.After-put-byte Inv-loop μ-loop → tie.In-loop Inv-loop μ-loop
-put-byte-in-loop c = c .before .before .before
-
 loop-again : tie.Need-loop-again Inv-loop μ-loop
-loop-again c =
-    let at-in-loop = put-byte-in-loop (c .before .before) in
-    (search needs, puts-as (next-is _ _ (at-in-loop .loop-test .taken)) (puts-more (at-in-loop .before .loop .inv .1) (c .before .before .put-byte .ensures)))
+loop-again c = (search needs, search (puts-next, needs))
 
 pub put-bytes-spec : {M : Type 1} → statement M
 put-bytes-spec =
     tie.close
     (tie.spec
-    Inv-loop
-    μ-loop
-    (λ c. (search needs, puts-none))
-    (λ c. search needs) (λ c κs. search needs) (λ c. search needs) (λ c. search needs)
+    Inv-loop μ-loop
+    (λ c. (search needs, puts-none)) (λ c. search needs) (λ c κs. search needs) (λ c. search needs) (λ c. search needs)
     loop-again
-    (λ c. c .before .loop .inv .1 .kept)
-    (λ c. puts-as (whole _ _ (c .loop-test .left)) (c .before .loop .inv .1)))
+    (λ c. c .before .loop .inv .1 .kept) (λ c. puts-as (whole _ _ (c .loop-test .left)) (c .before .loop .inv .1)))

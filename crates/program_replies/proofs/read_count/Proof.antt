@@ -15,16 +15,11 @@ cast-n c = omega (arith, c .shared-slice-known .given 0)
 
 returns-2 : tie.Need-returns-2
 unfolding countedBy
-returns-2 c =
-    let at-else1 = c .before .before in
-    counted-short (at-else1 .before .args .s .now) (omega (arith, at-else1 .if1 .left)) (c .if2 .taken)
+returns-2 c = search (counted-short, needs)
 
 returns-3 : tie.Need-returns-3
 unfolding countedBy
-returns-3 c =
-    let at-else1 = c .before .before in
-    counted-some (at-else1 .before .args .s .now) (omega (arith, at-else1 .if1 .left)) (omega (arith, c .if2 .left))
+returns-3 c = search (counted-some, needs)
 
 pub read-count-spec : {M : Type 1} → statement M
-read-count-spec =
-    tie.close (tie.spec returns (λ c. search needs) cast-n (λ c. search needs) returns-2 returns-3)
+read-count-spec = tie.close (tie.spec returns (λ c. search needs) cast-n (λ c. search needs) returns-2 returns-3)

@@ -5,27 +5,31 @@ use borrow.Author.Needs.{needs}
 use Rattle.program_text.proofs.put_counts.Statement.{statement}
 use Rattle.program_text.proofs.put_counts.Tie as tie
 
--- the way from a place to one before it
-abbrev byte-count5 : tie.After-put-byte → tie.After-put-count5
-byte-count5 c = c .before .before .before .before
+-- ---- the ways from a place to one before it
 
-abbrev byte-count4 : tie.After-put-byte → tie.After-put-count4
-byte-count4 c = byte-count5 c .before .before .before .before .before .before
+abbrev end : tie.After-slice-known7 → tie.After-put-byte
+end c = c .before .before
 
-abbrev byte-count3 : tie.After-put-byte → tie.After-put-count3
-byte-count3 c = byte-count4 c .before .before .before .before .before
+abbrev words : tie.After-put-byte → tie.After-put-count5
+words c = c .before .before .before .before
 
-abbrev byte-count2 : tie.After-put-byte → tie.After-put-count2
-byte-count2 c = byte-count3 c .before .before .before .before .before .before
+abbrev weight : tie.After-put-count5 → tie.After-put-count4
+weight c = c .before .before .before .before .before .before
 
-abbrev byte-count : tie.After-put-byte → tie.After-put-count
-byte-count c = byte-count2 c .before .before .before .before .before .before
+abbrev deepest : tie.After-put-count4 → tie.After-put-count3
+deepest c = c .before .before .before .before .before
+
+abbrev visits : tie.After-put-count3 → tie.After-put-count2
+visits c = c .before .before .before .before .before .before
+
+abbrev moves : tie.After-put-count2 → tie.After-put-count
+moves c = c .before .before .before .before .before .before
 
 returns : tie.Need-returns
 unfolding countsText
 returns c =
-    let at-byte = c .before .before in
-    puts-more (puts-more (puts-more (puts-more (puts-more (byte-count at-byte .put-count .ensures) (byte-count2 at-byte .put-count2 .ensures)) (byte-count3 at-byte .put-count3 .ensures)) (byte-count4 at-byte .put-count4 .ensures)) (byte-count5 at-byte .put-count5 .ensures)) (at-byte .put-byte .ensures)
+    let n = words (end c) in let w = weight n in let d = deepest w in let v = visits d in
+    puts-more (puts-more (puts-more (puts-more (puts-more (moves v .put-count .ensures) (v .put-count2 .ensures)) (d .put-count3 .ensures)) (w .put-count4 .ensures)) (n .put-count5 .ensures)) (end c .put-byte .ensures)
 
 pub put-counts-spec : {M : Type 1} → statement M
 put-counts-spec =
@@ -34,5 +38,4 @@ put-counts-spec =
     (λ c. search needs) (λ c κs. search needs) (λ c. search needs) (λ c. search needs) (λ c κs. search needs)
     (λ c. search needs) (λ c. search needs) (λ c κs. search needs) (λ c. search needs) (λ c κs. search needs)
     (λ c. search needs) (λ c. search needs) (λ c κs. search needs) (λ c κs. search needs)
-    (λ c. returns c .kept)
-    returns)
+    (λ c. returns c .kept) returns)
