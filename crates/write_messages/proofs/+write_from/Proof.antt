@@ -41,24 +41,7 @@ module _ (t : ℕ) where
   at = and 7 ps (is 7 ps μ t) write-from.Pre
 
   abbrev claims : lts.Claims
-  claims = (
-    first-word.Asked,
-    first-word.Learnt,
-    bound.Asked,
-    bound.Learnt,
-    given.Asked,
-    given.Learnt,
-    tail.Asked,
-    tail.Learnt,
-    and 7 ps (falls 7 ps _<_ μ t) write-from.Pre,
-    write-from.Post,
-    plain-word.Asked,
-    plain-word.Learnt,
-    write-word.Asked,
-    write-word.Learnt,
-    arity.Asked,
-    arity.Learnt,
-  )
+  claims = (first-word.Asked, first-word.Learnt, bound.Asked, bound.Learnt, given.Asked, given.Learnt, tail.Asked, tail.Learnt, and 7 ps (falls 7 ps _<_ μ t) write-from.Pre, write-from.Post, plain-word.Asked, plain-word.Learnt, write-word.Asked, write-word.Learnt, arity.Asked, arity.Learnt)
 
   -- ---- the places, and the way from each to those before it
 
