@@ -46,7 +46,7 @@ long : (s : tie.Start) → length (s .args .out .now) * 4 < 2 ^ 63
 long s = omega arith
 
 partly : (c : tie.After-write-word) → Partly (word-start c .args .out .now) (c .write-word .last .1 .0) (c .write-word .result)
-partly c = record { within = c .write-word .ensures .within; kept = c .write-word .kept .1 .0 }
+partly c = record { long = omega (arith, word-start c .good); within = c .write-word .ensures .within; kept = c .write-word .kept .1 .0 }
 
 -- ---- the needs
 
