@@ -1,20 +1,14 @@
 -- `write_from` meets its contract: a variable with a binding is the message of that binding, any other word stands for itself.
 -- The measure falls with the bindings, and then with the words and messages that are left. Assumes nothing.
 use Prim.Native.Nat.{ℕ, _+_, _-_, _*_, _≤_, _<_}
-use mathlib.Core.List.{List}
 use mathlib.Core.Path.{_≡_, sym, ap, _∙_}
 use native.Mathlib.Omega.{arith}
 use borrow.Author.Needs.{needs}
 use lib.ListN.{length, getD, length-drop}
-use Rattle.read_messages.specs.Message.{Message}
-use Rattle.read_messages.specs.Spelling.{spelled}
 use Rattle.read_messages.specs.declared.MessageWord.{MessageWord}
-use Rattle.engine_bindings.specs.Bindings.{bindingsIn}
 use Rattle.engine_message_words.specs.Words.{firstWord, arityOf, boundAt}
 use Rattle.engine_bindings.proofs.Passing.{unbound-free}
 use Rattle.engine_bindings.proofs.Counting.{rank, rank-less, rank-older}
-use Rattle.theory_written_trees.specs.Write.{Indices}
-use Rattle.write_messages.specs.Indices.{indicesIn}
 use Rattle.write_messages.specs.Passes.{plainWord}
 use Rattle.write_messages.proofs.Lending.{Partly, partly-behind, partly-bytes, partly-sum, partly-kept, wrote-none, wrote-as, wrote-more}
 use Rattle.write_messages.proofs.Words.{first-name, none-written, written-first, written-bound, less-behind, few-words, fewer-older, older-aligned}
@@ -102,12 +96,6 @@ module _ (t : ℕ) where
 
   -- ---- what is known at each
 
-  abbrev ix : At lts.Start → Indices
-  ix s = indicesIn (s .args .receipts .now) (s .args .indices .now)
-
-  abbrev σ : At lts.Start → List (ℕ × Message)
-  σ s = bindingsIn (s .args .script .now) (s .args .variables .now) (s .args .places .now)
-
   pending-left : (c : At lts.After-bound) → 0 < found-start c .args .pending
   pending-left c = omega (arith, found-else c .if1 .left)
 
@@ -137,7 +125,7 @@ module _ (t : ℕ) where
   -- ---- the needs
 
   returns : At lts.Need-returns
-  returns c = let s = known-start (c .before) in wrote-none (none-written (ix s) (σ s) (s .args .pending) (spelled (s .args .words .now)) (c .if1 .taken))
+  returns c = wrote-none (none-written _ _ _ _ (c .if1 .taken))
 
   write-given-requires : At lts.Need-write-from-requires
   write-given-requires c κs =
@@ -167,9 +155,7 @@ module _ (t : ℕ) where
       let g = tail-given (more-tail m) in
       let o = given-older g in
       let f = older-found o in
-      let s = found-start f in
-      let a = s .args in
-      wrote-as (written-bound (ix s) (a .script .now) (a .variables .now) (a .places .now) (a .words .now) (a .pending) (f .bound .result) (pending-left f) (s .pre .1 .1) (found f) (older-given o .before .if2 .taken)
+      wrote-as (written-bound _ _ _ _ _ _ _ (pending-left f) (found-start f .pre .1 .1) (found f) (older-given o .before .if2 .taken)
       (o .before .tail .ensures) (o .tail2 .ensures) (older-given o .given .ensures) (more-tail m .tail3 .ensures))
       (wrote-more (partly-given g) (g .write-from .ensures) (m .write-from2 .ensures))
 
@@ -188,11 +174,10 @@ module _ (t : ℕ) where
       let l = word-tail m in
       let w = arity-word (l .before) in
       let f = word-found w in
-      let s = found-start f in
-      let a = s .args in
+      let a = found-start f .args in
       let free = unbound-free (a .script .now) (a .variables .now) (a .places .now) (firstWord (a .words .now)) (omega (arith, found f, word-plain w .before .if2 .left)) in
-      wrote-as (written-first (ix s) (σ s) (a .words .now) (a .pending) (pending-left f) free
-      (word-plain w .plain-word .ensures ∙ ap (plainWord (ix s)) (first f)) (opened (l .before)) (l .tail4 .ensures))
+      wrote-as (written-first _ _ _ _ (pending-left f) free
+      (word-plain w .plain-word .ensures ∙ ap (plainWord _) (first f)) (opened (l .before)) (l .tail4 .ensures))
       (wrote-more (partly-word w) (w .write-word .ensures) (m .write-from3 .ensures))
 
   met : {M : Type 1} → lts.Closed claims at write-from.Post M

@@ -1,7 +1,7 @@
 -- `write_items` meets its contract: no items are one EMPTY, several are strung. Assumes nothing.
 use Prim.Native.Nat.{ℕ}
 use mathlib.Core.List.{List}
-use mathlib.Core.Path.{_≡_, ap, _∙_}
+use mathlib.Core.Path.{ap, _∙_}
 use native.Mathlib.Omega.{arith}
 use lib.ListN.{drop}
 use Rattle.read_messages.specs.Words.{word}
@@ -11,8 +11,6 @@ use Rattle.theory_closures.specs.Resolve.{resolve}
 use Rattle.engine_bindings.specs.Bindings.{bindingsIn}
 use Rattle.engine_bindings.specs.Passes.{firsts, allItems}
 use Rattle.engine_bindings.proofs.Passing.{one-message}
-use Rattle.theory_written_trees.specs.Write.{Indices}
-use Rattle.write_messages.specs.Indices.{indicesIn}
 use Rattle.write_messages.proofs.Lending.{wrote-as, wrote-if}
 use Rattle.write_messages.proofs.Words.{few-words}
 use Rattle.write_messages.proofs.Items.{items-none, items-some}
@@ -45,17 +43,11 @@ end-rest c = c .before .before
 
 -- ---- what is written
 
-abbrev ix : tie.Start → Indices
-ix s = indicesIn (s .args .receipts .now) (s .args .indices .now)
-
 abbrev σ : tie.Start → List (ℕ × Message)
 σ s = bindingsIn (s .args .script .now) (s .args .variables .now) (s .args .places .now)
 
-abbrev words : tie.Start → List ℕ
-words s = drop (s .args .at) (s .args .script .now)
-
 abbrev message-items : tie.Start → List Message
-message-items s = items (resolve (σ s) (messageAt (words s)))
+message-items s = items (resolve (σ s) (messageAt (drop (s .args .at) (s .args .script .now))))
 
 -- ---- the needs
 
@@ -65,11 +57,7 @@ returns c =
     let w = end-empty c in
     let n = empty-then w .before in
     let s = count-start n in
-    wrote-as (items-none (ix s) (s .args .offset) (n .item-count .result) (message-items s) (n .item-count .ensures) (empty-then w .if1 .taken) (omega (arith, s .pre .2))) (w .write-word .ensures)
-
--- the items of the message that is pending
-read : (c : tie.After-tail) → let s = count-start (tail-count c) in allItems (σ s) (firsts 1 (spelled (c .tail .result .now))) ≡ message-items s
-read c = let s = count-start (tail-count c) in ap (λ (l : List ℕ). allItems (σ s) (firsts 1 (spelled l))) (c .tail .ensures) ∙ one-message (σ s) (words s)
+    wrote-as (items-none _ (s .args .offset) (n .item-count .result) (message-items s) (n .item-count .ensures) (empty-then w .if1 .taken) (omega (arith, s .pre .2))) (w .write-word .ensures)
 
 -- one message is pending, before words that are fewer than 2^64
 write-rest-requires : tie.Need-write-rest-requires
@@ -81,7 +69,7 @@ returns-2 c =
     let l = rest-tail w in
     let n = tail-count l in
     let s = count-start n in
-    wrote-if (λ h. items-some (ix s) (s .args .offset) (n .item-count .result) (message-items s) (n .item-count .ensures) (l .before .if1 .left) (read l) (omega (arith, h, s .pre .2))) (w .write-rest .ensures)
+    wrote-if (λ h. items-some _ (s .args .offset) (n .item-count .result) (message-items s) (n .item-count .ensures) (l .before .if1 .left) (ap (λ (ws : List ℕ). allItems (σ s) (firsts 1 (spelled ws))) (l .tail .ensures) ∙ one-message (σ s) _) (omega (arith, h, s .pre .2))) (w .write-rest .ensures)
 
 pub write-items-spec : {M : Type 1} → statement M
 write-items-spec = tie.close (tie.spec (λ c κs. known-start c .pre .0) (λ c κs. search needs) (λ c. search needs) returns (λ c κs. search needs)

@@ -1,6 +1,4 @@
 -- `write_message` meets its contract: one message is pending. Assumes nothing.
-use Rattle.engine_bindings.specs.Bindings.{bindingsIn}
-use Rattle.write_messages.specs.Indices.{indicesIn}
 use Rattle.write_messages.proofs.Lending.{wrote-as}
 use Rattle.write_messages.proofs.Words.{one-written, few-words}
 use borrow.Author.Needs.{needs}
@@ -23,9 +21,7 @@ write-from-requires c κs = let s = tail-start (c .before) in (few-words (s .arg
 returns : tie.Need-returns
 returns c =
     let w = end-written c in
-    let l = written-tail w in
-    let a = tail-start l .args in
-    wrote-as (one-written (indicesIn (a .receipts .now) (a .indices .now)) (bindingsIn (a .script .now) (a .variables .now) (a .places .now)) (l .tail .ensures)) (w .write-from .ensures)
+    wrote-as (one-written _ _ (written-tail w .tail .ensures)) (w .write-from .ensures)
 
 pub write-message-spec : {M : Type 1} → statement M
 write-message-spec = tie.close (tie.spec (λ c κs. search needs) write-from-requires (λ c. search needs) returns)

@@ -5,7 +5,6 @@ use mathlib.Core.List.{List, _∷_, tail}
 use mathlib.Core.Path.{_≡_, sym, ap, _∙_}
 use native.Mathlib.Omega.{arith}
 use borrow.Author.Needs.{needs}
-use lib.ListN.{length}
 use Rattle.read_messages.specs.Words.{word}
 use Rattle.base_sets.specs.Sets.{members}
 use Rattle.base_sets.proofs.Members.{first-is, first-below, not-none, members-empty}

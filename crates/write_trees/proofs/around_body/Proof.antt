@@ -10,15 +10,6 @@ use borrow.Author.Needs.{needs}
 use Rattle.write_trees.proofs.around_body.Statement.{statement}
 use Rattle.write_trees.proofs.around_body.Tie as tie
 
-abbrev then-start : tie.Then1 → tie.Start
-then-start c = c .before
-
-abbrev else-start : tie.Else1 → tie.Start
-else-start c = c .before
-
-abbrev known-else : tie.After-struct-known → tie.Else1
-known-else c = c .before
-
 -- the arrays have room for one receipt more
 long-variables : (s : tie.Start) → s .args .around .first ≤ length (s .args .around .variables)
 long-variables s = let l : length (s .args .around .variables) ≡ 64 = search needs in omega (arith, l, s .pre .0 .within)
@@ -28,14 +19,14 @@ long-indices s = let l : length (s .args .around .indices) ≡ 64 = search needs
 
 returns : tie.Need-returns
 returns c =
-    let s = then-start c in
+    let s = c .before in
     record { right = s .pre .0; room = omega arith; indices = λ w σ o. within-other w (s .args .kind) (s .args .start) o (indicesOf (s .args .around)) σ (s .args .index) (c .if1 .taken) }
 
 returns-2 : tie.Need-returns-2
 unfolding indicesOf
 returns-2 c =
-    let e = known-else c in
-    let s = else-start e in
+    let e = c .before in
+    let s = e .before in
     let x = s .args .around in
     let v = long-variables s in
     let i = long-indices s in
