@@ -49,6 +49,9 @@ room [] p a r h f =
     omega arith
 room (x ∷ l) p a r h f = omega (arith, length-drop (r + 1) (x ∷ l), arity-small (firstWord (x ∷ l)))
 
+pub less-behind : {ws : List ℕ} (l : List ℕ) (p a : ℕ) → ws ≡ drop 1 l → 0 < p → a ≤ arityOf (firstWord l) → (p - 1 + a + length ws ≤ p + length l) × (3 * length ws + (p - 1 + a) < 3 * length l + p)
+less-behind l p a e h f = rw e (room l p a 0 h f)
+
 push-skip : (m : MessageWord) (p : ℕ) (s : List Message) → drop (suc p) (push m s) ≡ drop (p + arityOf m) s
 unfolding push shapeOf
 push-skip (Name n) p s = rw (add-zero p)

@@ -5,13 +5,12 @@ use mathlib.Core.Path.{_≡_, sym, ap, _∙_}
 use native.Mathlib.Omega.{arith}
 use borrow.Author.Needs.{needs}
 use lib.ListN.{length, getD, length-drop}
-use Rattle.read_messages.specs.declared.MessageWord.{MessageWord}
-use Rattle.engine_message_words.specs.Words.{firstWord, arityOf, boundAt}
-use Rattle.engine_bindings.proofs.Passing.{unbound-free}
+use Rattle.engine_message_words.specs.Words.{firstWord, arityOf}
+use Rattle.engine_bindings.proofs.Passing.{less-behind, first-bound, unbound-free}
 use Rattle.engine_bindings.proofs.Counting.{rank, rank-less, rank-older}
 use Rattle.write_messages.specs.Passes.{plainWord}
 use Rattle.write_messages.proofs.Lending.{Partly, partly-behind, partly-bytes, partly-sum, partly-kept, wrote-none, wrote-as, wrote-more}
-use Rattle.write_messages.proofs.Words.{first-name, none-written, written-first, written-bound, less-behind, few-words, fewer-older, older-aligned}
+use Rattle.write_messages.proofs.Words.{first-name, none-written, written-first, written-bound, few-words, fewer-older, older-aligned}
 use borrow.Fn.Kinds.{In, Out}
 use borrow.Fn.PlainCycle.{Measures, is, falls, and}
 use Rattle.write_messages.proofs.write_from.Reads as write-from
@@ -102,9 +101,6 @@ module _ (t : ℕ) where
   first : (c : At lts.After-bound) → c .before .first-word .result ≡ firstWord (found-start c .args .words .now)
   first c = c .before .first-word .ensures
 
-  found : (c : At lts.After-bound) → c .bound .result ≡ boundAt (firstWord (found-start c .args .words .now)) (found-start c .args .variables .now)
-  found c = let s = found-start c in c .bound .ensures ∙ ap (λ (w : MessageWord). boundAt w (s .args .variables .now)) (first c)
-
   -- the buffer behind the message of the binding, and behind the word
   partly-given : (c : At lts.After-write-from) → Partly (given-start c .args .out .now) (c .write-from .last .1 .1 .1 .1 .1 .1 .1 .0) (c .write-from .result)
   partly-given c = record { long = omega (arith, given-start c .good); within = c .write-from .ensures .within; kept = c .write-from .kept .1 .1 .1 .1 .1 .1 .1 .0 }
@@ -155,7 +151,7 @@ module _ (t : ℕ) where
       let g = tail-given (more-tail m) in
       let o = given-older g in
       let f = older-found o in
-      wrote-as (written-bound _ _ _ _ _ _ _ (pending-left f) (found-start f .pre .1 .1) (found f) (older-given o .before .if2 .taken)
+      wrote-as (written-bound _ _ _ _ _ _ _ (pending-left f) (found-start f .pre .1 .1) (first-bound _ _ (first f) (f .bound .ensures)) (older-given o .before .if2 .taken)
       (o .before .tail .ensures) (o .tail2 .ensures) (older-given o .given .ensures) (more-tail m .tail3 .ensures))
       (wrote-more (partly-given g) (g .write-from .ensures) (m .write-from2 .ensures))
 
@@ -175,7 +171,7 @@ module _ (t : ℕ) where
       let w = arity-word (l .before) in
       let f = word-found w in
       let a = found-start f .args in
-      let free = unbound-free (a .script .now) (a .variables .now) (a .places .now) (firstWord (a .words .now)) (omega (arith, found f, word-plain w .before .if2 .left)) in
+      let free = unbound-free (a .script .now) (a .variables .now) (a .places .now) (firstWord (a .words .now)) (omega (arith, first-bound _ _ (first f) (f .bound .ensures), word-plain w .before .if2 .left)) in
       wrote-as (written-first _ _ _ _ (pending-left f) free
       (word-plain w .plain-word .ensures ∙ ap (plainWord _) (first f)) (opened (l .before)) (l .tail4 .ensures))
       (wrote-more (partly-word w) (w .write-word .ensures) (m .write-from3 .ensures))

@@ -1,25 +1,24 @@
 -- `write_own` and `write_rest` meet their contracts: a word's own items, then those behind it. The measure falls with the
 -- bindings, and then with the words and messages that are left. Assumes nothing.
-use Prim.Native.Nat.{ℕ, suc, _+_, _*_, _≤_, _<_}
+use Prim.Native.Nat.{ℕ, suc, _+_, _*_, _<_}
 use mathlib.Core.List.{List, _++_}
-use mathlib.Core.Path.{_≡_, ap, _∙_}
+use mathlib.Core.Path.{_≡_, ap}
 use native.Mathlib.Omega.{arith}
 use borrow.Author.Needs.{needs}
 use lib.ListN.{length, drop, getD}
 use Rattle.read_messages.specs.Message.{Message}
 use Rattle.read_messages.specs.Spelling.{spelled}
-use Rattle.read_messages.specs.declared.MessageWord.{MessageWord}
 use Rattle.engine_bindings.specs.Bindings.{bindingsIn}
-use Rattle.engine_message_words.specs.Words.{firstWord, boundAt}
+use Rattle.engine_message_words.specs.Words.{firstWord}
 use Rattle.engine_bindings.specs.Passes.{firsts, allItems, ownItems}
-use Rattle.engine_bindings.proofs.Passing.{none-pending, unbound-free, single}
+use Rattle.engine_bindings.proofs.Passing.{none-pending, first-bound, unbound-free, single, given-own}
 use Rattle.base_slices.specs.Sums.{capped}
 use Rattle.base_slices.proofs.Capping.{below-count}
 use Rattle.engine_bindings.proofs.Counting.{kept-length, drop-past, rank, rank-less, rank-older}
 use Rattle.write_messages.specs.Indices.{indicesIn}
 use Rattle.write_messages.specs.Passes.{strung}
 use Rattle.write_messages.proofs.Lending.{Partly, partly-behind, partly-bytes, partly-lent, partly-sum, partly-kept, wrote-none, wrote-as, wrote-if, wrote-more}
-use Rattle.write_messages.proofs.Items.{strung-none, given-own, strung-single, strung-split}
+use Rattle.write_messages.proofs.Items.{strung-none, strung-single, strung-split}
 use Rattle.write_messages.proofs.Words.{few-words, fewer-older, older-kept}
 use borrow.Fn.Kinds.{In, Out}
 use borrow.Fn.PlainCycle.{Measures, is, falls, and}
@@ -103,9 +102,6 @@ module _ (t : ℕ) where
 
   -- ---- write_own: what is known at each
 
-  found : (c : Own own-lts.After-bound) → c .bound .result ≡ boundAt (firstWord (own-start c .args .words .now)) (own-start c .args .variables .now)
-  found c = let s = own-start c in c .bound .ensures ∙ ap (λ (w : MessageWord). boundAt w (s .args .variables .now)) (c .before .first-word .ensures)
-
   partly-link : (c : Own own-lts.After-write-link) → Partly (own-start (link-else c .before) .args .out .now) (c .write-link .last .1 .0) (c .write-link .result)
   partly-link c = record { long = omega (arith, own-start (link-else c .before) .good); within = c .write-link .ensures .within; kept = c .write-link .kept .1 .0 }
 
@@ -128,7 +124,7 @@ module _ (t : ℕ) where
       let f = older-found o in
       let s = own-start f in
       let a = s .args in
-      let own = given-own (a .script .now) (a .variables .now) (a .places .now) (a .words .now) (f .bound .result) (s .pre .1 .0 .aligned) (older-given o .before .if1 .taken) (found f) (older-tail o .tail .ensures) (o .before .tail2 .ensures) (older-given o .given .ensures) in
+      let own = given-own (a .script .now) (a .variables .now) (a .places .now) (s .pre .1 .0 .aligned) _ (older-given o .before .if1 .taken) (a .words .now) (first-bound _ _ (f .before .first-word .ensures) (f .bound .ensures)) (older-tail o .tail .ensures) (o .before .tail2 .ensures) (older-given o .given .ensures) in
       wrote-as (ap (λ (l : List Message). strung (indicesIn (a .receipts .now) (a .indices .now)) (a .left) (drop (a .offset) l)) own) (g .write-rest .ensures)
 
   single-requires : Own own-lts.Need-write-from-requires
@@ -144,7 +140,7 @@ module _ (t : ℕ) where
       let f = link-else w .before in
       let s = own-start f in
       let a = s .args in
-      let free = unbound-free (a .script .now) (a .variables .now) (a .places .now) (firstWord (a .words .now)) (omega (arith, found f, link-else w .if1 .left)) in
+      let free = unbound-free (a .script .now) (a .variables .now) (a .places .now) (firstWord (a .words .now)) (omega (arith, first-bound _ _ (f .before .first-word .ensures) (f .bound .ensures), link-else w .if1 .left)) in
       wrote-as (strung-single _ _ (a .left) _ (a .words .now) (single _ (a .words .now) (a .offset) free (s .pre .1 .3))) (wrote-more (partly-link w) (w .write-link .ensures) (m .write-from .ensures))
 
   own-met : {M : Type 1} → own-lts.Closed own-claims own-at write-own.Post M
@@ -209,13 +205,10 @@ module _ (t : ℕ) where
   counted : (c : Rest rest-lts.After-after-own) → c .before .own .result ≡ capped (length (own-items c))
   counted c = let s = rest-start c in c .before .own .ensures (s .args .script .now) (s .args .places .now) (s .pre .1 .1)
 
-  -- the words behind are less, and what is pending is the word's own items and those behind them
-  module _ (c : Rest rest-lts.After-after-own) {ws : List ℕ} (e : ws ≡ drop (c .after-own .result .used) (rest-start c .args .words .now)) where
-    less-after : let s = rest-start c in let p = c .after-own .result .left in (p + length ws ≤ s .args .pending + length (s .args .words .now)) × (3 * length ws + p < 3 * length (s .args .words .now) + s .args .pending)
-    less-after = rw e (c .after-own .ensures .0)
-
-    pending-after : let s = rest-start c in allItems (σ s) (firsts (s .args .pending) (spelled (s .args .words .now))) ≡ own-items c ++ allItems (σ s) (firsts (c .after-own .result .left) (spelled ws))
-    pending-after = rw e (c .after-own .ensures .1 (σ (rest-start c)))
+  -- what is pending is the word's own items and those behind them
+  pending-after : (c : Rest rest-lts.After-after-own) {ws : List ℕ} → ws ≡ drop (c .after-own .result .used) (rest-start c .args .words .now)
+      → let s = rest-start c in allItems (σ s) (firsts (s .args .pending) (spelled (s .args .words .now))) ≡ own-items c ++ allItems (σ s) (firsts (c .after-own .result .left) (spelled ws))
+  pending-after c e = rw e (c .after-own .ensures .split (σ (rest-start c)))
 
   partly-own : (c : Rest rest-lts.After-write-own) → Partly (else-start (own-else c) .args .out .now) (c .write-own .last .1 .1 .1 .1 .1 .1 .1 .1 .1 .0) (c .write-own .result)
   partly-own c = record { long = omega (arith, else-start (own-else c) .good); within = c .write-own .ensures .within; kept = c .write-own .kept .1 .1 .1 .1 .1 .1 .1 .1 .1 .0 }
@@ -227,9 +220,11 @@ module _ (t : ℕ) where
 
   past-requires : Rest rest-lts.Need-write-rest-requires
   past-requires c κs =
-      let s = rest-start (tail-after (c .before)) in
-      let less = less-after (tail-after (c .before)) (c .before .tail .ensures) in
-      (rank-less _ _ _ _ (s .pre .0) (omega (arith, less .1)), (omega (arith, less .0, s .pre .1 .0), s .pre .1 .1, s .pre .1 .2, omega (arith, s .pre .1 .3)))
+      let n = tail-after (c .before) in
+      let s = rest-start n in
+      let l = ap length (c .before .tail .ensures) in
+      let p = n .after-own .ensures in
+      (rank-less _ _ _ _ (s .pre .0) (omega (arith, l, p .less)), (omega (arith, l, p .room, s .pre .1 .0), s .pre .1 .1, s .pre .1 .2, omega (arith, s .pre .1 .3)))
 
   past-returns : Rest rest-lts.Need-returns-2
   past-returns c =
@@ -245,8 +240,9 @@ module _ (t : ℕ) where
   behind-requires c κs =
       let w = behind-own (c .before) in
       let s = else-start (own-else w) in
-      let less = less-after (own-else w .before) (c .before .tail2 .ensures) in
-      (rank-less _ _ _ _ (s .pre .0) (omega (arith, less .1)), (omega (arith, less .0, s .pre .1 .0), s .pre .1 .1, s .pre .1 .2, omega (arith, s .pre .1 .3, partly-lent (partly-own w))))
+      let l = ap length (c .before .tail2 .ensures) in
+      let p = own-else w .before .after-own .ensures in
+      (rank-less _ _ _ _ (s .pre .0) (omega (arith, l, p .less)), (omega (arith, l, p .room, s .pre .1 .0), s .pre .1 .1, s .pre .1 .2, omega (arith, s .pre .1 .3, partly-lent (partly-own w))))
 
   behind-length : Rest rest-lts.Need-same-length-2
   behind-length c = let m = end-rest c in partly-kept (partly-own (behind-own (more-behind m))) (m .write-rest2 .last .1 .1 .1 .1 .1 .1 .1 .1 .1 .1 .0) (m .write-rest2 .kept .1 .1 .1 .1 .1 .1 .1 .1 .1 .1 .0)

@@ -1,15 +1,13 @@
 -- `write_items` meets its contract: no items are one EMPTY, several are strung. Assumes nothing.
 use Prim.Native.Nat.{ℕ}
 use mathlib.Core.List.{List}
-use mathlib.Core.Path.{ap, _∙_}
 use native.Mathlib.Omega.{arith}
 use lib.ListN.{drop}
 use Rattle.read_messages.specs.Words.{word}
 use Rattle.read_messages.specs.Message.{Message, items}
-use Rattle.read_messages.specs.Spelling.{spelled, messageAt}
+use Rattle.read_messages.specs.Spelling.{messageAt}
 use Rattle.theory_closures.specs.Resolve.{resolve}
 use Rattle.engine_bindings.specs.Bindings.{bindingsIn}
-use Rattle.engine_bindings.specs.Passes.{firsts, allItems}
 use Rattle.engine_bindings.proofs.Passing.{one-message}
 use Rattle.write_messages.proofs.Lending.{wrote-as, wrote-if}
 use Rattle.write_messages.proofs.Words.{few-words}
@@ -69,7 +67,7 @@ returns-2 c =
     let l = rest-tail w in
     let n = tail-count l in
     let s = count-start n in
-    wrote-if (λ h. items-some _ (s .args .offset) (n .item-count .result) (message-items s) (n .item-count .ensures) (l .before .if1 .left) (ap (λ (ws : List ℕ). allItems (σ s) (firsts 1 (spelled ws))) (l .tail .ensures) ∙ one-message (σ s) _) (omega (arith, h, s .pre .2))) (w .write-rest .ensures)
+    wrote-if (λ h. items-some _ (s .args .offset) (n .item-count .result) (message-items s) (n .item-count .ensures) (l .before .if1 .left) (one-message (σ s) (l .tail .ensures)) (omega (arith, h, s .pre .2))) (w .write-rest .ensures)
 
 pub write-items-spec : {M : Type 1} → statement M
 write-items-spec = tie.close (tie.spec (λ c κs. known-start c .pre .0) (λ c κs. search needs) (λ c. search needs) returns (λ c κs. search needs)
