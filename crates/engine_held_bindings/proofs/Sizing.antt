@@ -42,6 +42,10 @@ cached-as e₁ e₂ e₃ e₄ e₅ ok = rw (e₁, e₂, e₃, e₄, e₅) ok
 pub cached-more : {script vs ps cs ss bs : List ℕ} (v a : ℕ) (r : Measured) → Cached script vs ps cs ss bs → {w : ℕ} → w ≡ a → Measures (resolve (bindingsIn script vs ps) (messageAt (drop w script))) r → Cached script (v ∷ vs) (a ∷ ps) (r .count ∷ cs) (r .size ∷ ss) (r .bulk ∷ bs)
 cached-more v a r ok e n = let m = rw e at n in record { counted = kept-more (ok .counted) v a (r .count) (m .count); sized = kept-more (ok .sized) v a (r .size) (m .size); bulked = kept-more (ok .bulked) v a (r .bulk) (m .bulk) }
 
+pub bindings-more : (script : List ℕ) {vs ps us qs : List ℕ} {v a : ℕ} → us ≡ v ∷ vs → qs ≡ a ∷ ps → bindingsIn script us qs ≡ (v, messageAt (drop a script)) ∷ bindingsIn script vs ps
+unfolding bindingsIn
+bindings-more script e f = rw (e, f)
+
 pub measures-as : (script : List ℕ) (m : Message) {vs ps us qs : List ℕ} {r : Measured} → us ≡ vs → qs ≡ ps → Measures (resolve (bindingsIn script us qs) m) r → Measures (resolve (bindingsIn script vs ps) m) r
 measures-as script m e f c = rw (← e, ← f) c
 

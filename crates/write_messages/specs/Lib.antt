@@ -2,3 +2,4 @@
 pub mod Buffer
 pub mod Indices
 pub mod Passes
+pub mod Asked

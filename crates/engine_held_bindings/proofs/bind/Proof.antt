@@ -4,10 +4,9 @@ use mathlib.Core.Path.{_≡_, refl}
 use native.Mathlib.Omega.{arith}
 use borrow.Author.Needs.{needs}
 use lib.ListN.{length}
-use Rattle.engine_bindings.specs.Bindings.{bindingsIn}
 use Rattle.engine_held_bindings.specs.Held.{bindingsOf}
 use Rattle.base_slices.proofs.Tails.{drop-set}
-use Rattle.engine_held_bindings.proofs.Sizing.{cached-more}
+use Rattle.engine_held_bindings.proofs.Sizing.{cached-as, cached-more, bindings-more}
 use Rattle.engine_held_bindings.proofs.bind.Statement.{statement}
 use Rattle.engine_held_bindings.proofs.bind.Tie as tie
 
@@ -18,7 +17,7 @@ abbrev known-start : tie.After-struct-known → tie.Start
 known-start c = known-wide c .before .before
 
 returns : tie.Need-returns
-unfolding bindingsOf bindingsIn
+unfolding bindingsOf
 returns c =
     let s = known-start c in
     let l-variables : length (s .args .b .variables) ≡ 32 = search needs in
@@ -32,8 +31,8 @@ returns c =
     let sizes = drop-set (s .args .b .sizes) (s .args .b .first) (c .before .measure-held .result .size) (s .pre .1) (omega arith) in
     let bulks = drop-set (s .args .b .bulks) (s .args .b .first) (c .before .measure-held .result .bulk) (s .pre .1) (omega arith) in
     record {
-      held = record { within = omega arith; cached = rw (variables, places, counts, sizes, bulks) (cached-more (s .args .v) (s .args .at) (c .before .measure-held .result) (s .pre .0 .cached) (known-wide c .wide .ensures) (c .before .measure-held .ensures)) };
-      bindings = rw (variables, places);
+      held = record { within = omega arith; cached = cached-as variables places counts sizes bulks (cached-more (s .args .v) (s .args .at) (c .before .measure-held .result) (s .pre .0 .cached) (known-wide c .wide .ensures) (c .before .measure-held .ensures)) };
+      bindings = bindings-more _ variables places;
       room = refl;
     }
 

@@ -22,7 +22,9 @@ result-chosen c = c .before .before .before
 returns : tie.Need-returns
 returns c = let i = then-chosen c in said-none _ _ _ (sym (i .t2 .given .1) ∙ chosen-term i .term-of .ensures) (c .if1 .taken)
 
+returns-2 : tie.Need-returns-2
+returns-2 c = said-constant _ _ _ (sym (c .before .t .given .1) ∙ constant-term (c .before) .term-of .ensures)
+
 pub name-said-spec : {M : Type 1} → statement M
-name-said-spec = tie.close (tie.spec (λ c κs. search needs) (λ c. search needs) (λ c. search needs) returns (λ c. search needs) (λ c. search needs) (λ c. search needs)
-    (λ c. said-constant _ _ _ (sym (c .before .t .given .1) ∙ constant-term (c .before) .term-of .ensures))
+name-said-spec = tie.close (tie.spec (λ c κs. search needs) (λ c. search needs) (λ c. search needs) returns (λ c. search needs) (λ c. search needs) (λ c. search needs) returns-2
     (λ c. said-chosen _ _ _ (sym (result-chosen c .t2 .given .1) ∙ chosen-term (result-chosen c) .term-of .ensures) (omega (arith, c .before .if1 .left))))

@@ -131,7 +131,7 @@ module _ (t : ℕ) where
       let a = s .args in
       let few = few-words (a .script .now) (getD (a .places .now) (f .bound .result) 0) (older-given o .given .ensures) (s .good .0 .1) in
       let fewer = fewer-older (a .variables .now) (f .bound .result) (o .before .tail .ensures) (older-given o .before .if2 .taken) in
-      (rank-older _ _ _ _ _ (s .pre .0) fewer (omega (arith, few)), (few, older-aligned (a .variables .now) (a .places .now) (f .bound .result + 1) (o .before .tail .ensures) (o .tail2 .ensures) (s .pre .1 .1), s .pre .1 .2))
+      (rank-older _ _ _ _ _ (s .pre .0) fewer (omega (arith, few)), record { room = few; aligned = older-aligned (a .variables .now) (a .places .now) (f .bound .result + 1) (o .before .tail .ensures) (o .tail2 .ensures) (s .pre .1 .aligned); indexed = s .pre .1 .indexed })
 
   write-more-requires : At lts.Need-write-from-requires-2
   write-more-requires c κs =
@@ -140,7 +140,7 @@ module _ (t : ℕ) where
       let e = ap length (c .before .tail3 .ensures) in
       let d = length-drop 1 (s .args .words .now) in
       let p = pending-left f in
-      (rank-less _ _ _ _ (s .pre .0) (omega (arith, e, d, p)), (omega (arith, e, d, p, s .pre .1 .0), s .pre .1 .1, s .pre .1 .2))
+      (rank-less _ _ _ _ (s .pre .0) (omega (arith, e, d, p)), record { room = omega (arith, e, d, p, s .pre .1 .room); aligned = s .pre .1 .aligned; indexed = s .pre .1 .indexed })
 
   given-length : At lts.Need-same-length
   given-length c = let m = end-more c in partly-kept (partly-given (tail-given (more-tail m))) (m .write-from2 .last .1 .1 .1 .1 .1 .1 .1 .0) (m .write-from2 .kept .1 .1 .1 .1 .1 .1 .1 .0)
@@ -151,15 +151,15 @@ module _ (t : ℕ) where
       let g = tail-given (more-tail m) in
       let o = given-older g in
       let f = older-found o in
-      wrote-as (written-bound _ _ _ _ _ _ _ (pending-left f) (found-start f .pre .1 .1) (first-bound _ _ (first f) (f .bound .ensures)) (older-given o .before .if2 .taken)
+      wrote-as (written-bound _ _ _ _ _ _ _ (pending-left f) (found-start f .pre .1 .aligned) (first-bound _ _ (first f) (f .bound .ensures)) (older-given o .before .if2 .taken)
       (o .before .tail .ensures) (o .tail2 .ensures) (older-given o .given .ensures) (more-tail m .tail3 .ensures))
       (wrote-more (partly-given g) (g .write-from .ensures) (m .write-from2 .ensures))
 
   plain-word-requires : At lts.Need-plain-word-requires
-  plain-word-requires c κs = let s = found-start (c .before) in (s .pre .1 .2, λ n e. first-name (s .args .words .now) n (sym (first (c .before)) ∙ e))
+  plain-word-requires c κs = let s = found-start (c .before) in (s .pre .1 .indexed, λ n e. first-name (s .args .words .now) n (sym (first (c .before)) ∙ e))
 
   write-behind-requires : At lts.Need-write-from-requires-3
-  write-behind-requires c κs = let s = word-start (c .before) in (rank-less _ _ _ _ (s .pre .0) (less-word (c .before) .1), (omega (arith, less-word (c .before) .0, s .pre .1 .0), s .pre .1 .1, s .pre .1 .2))
+  write-behind-requires c κs = let s = word-start (c .before) in (rank-less _ _ _ _ (s .pre .0) (less-word (c .before) .1), record { room = omega (arith, less-word (c .before) .0, s .pre .1 .room); aligned = s .pre .1 .aligned; indexed = s .pre .1 .indexed })
 
   word-length : At lts.Need-same-length-2
   word-length c = let m = end-word-more c in partly-kept (partly-word (arity-word (word-tail m .before))) (m .write-from3 .last .1 .1 .1 .1 .1 .1 .1 .0) (m .write-from3 .kept .1 .1 .1 .1 .1 .1 .1 .0)
@@ -178,12 +178,12 @@ module _ (t : ℕ) where
 
   met : {M : Type 1} → lts.Closed claims at write-from.Post M
   met = lts.spec claims at write-from.Post returns (λ c κs. search needs) (λ c κs. search needs)
-      (λ c. omega (arith, c .if2 .taken, found-start (c .before) .good .1 .1 .1 .0)) (λ c κs. omega (arith, found-start (c .before) .pre .1 .1, c .if2 .taken))
+      (λ c. omega (arith, c .if2 .taken, found-start (c .before) .good .1 .1 .1 .0)) (λ c κs. omega (arith, found-start (c .before) .pre .1 .aligned, c .if2 .taken))
       (λ c κs. search needs) (λ c κs. search needs) write-given-requires (λ c κs. search needs) (λ c. omega (arith, pending-left (older-found (given-older (tail-given c)))))
       (λ c. partly-bytes (partly-given (tail-given c))) (λ c. partly-behind (partly-given (tail-given c))) (λ c. partly-behind (partly-given (tail-given c))) (λ c. omega arith)
       write-more-requires (λ c. partly-sum (partly-given (tail-given (more-tail (end-more c)))) (end-more c .write-from2 .ensures .within)) given-length given-returns
       plain-word-requires (λ c κs. search needs) (λ c κs. search needs) (λ c κs. search needs)
-      (λ c. omega (arith, pending-left (word-found (arity-word (c .before))))) (λ c. omega (arith, less-word c .0, word-start c .pre .1 .0))
+      (λ c. omega (arith, pending-left (word-found (arity-word (c .before))))) (λ c. omega (arith, less-word c .0, word-start c .pre .1 .room))
       (λ c. partly-bytes (partly-word (arity-word (c .before)))) (λ c. partly-behind (partly-word (arity-word (c .before)))) (λ c. partly-behind (partly-word (arity-word (c .before)))) (λ c. omega arith)
       write-behind-requires (λ c. partly-sum (partly-word (arity-word (word-tail (end-word-more c) .before))) (end-word-more c .write-from3 .ensures .within)) word-length word-returns
 

@@ -55,11 +55,11 @@ returns c =
     let w = end-empty c in
     let n = empty-then w .before in
     let s = count-start n in
-    wrote-as (items-none _ (s .args .offset) (n .item-count .result) (message-items s) (n .item-count .ensures) (empty-then w .if1 .taken) (omega (arith, s .pre .2))) (w .write-word .ensures)
+    wrote-as (items-none _ (s .args .offset) (n .item-count .result) (message-items s) (n .item-count .ensures) (empty-then w .if1 .taken) (omega (arith, s .pre .small))) (w .write-word .ensures)
 
 -- one message is pending, before words that are fewer than 2^64
 write-rest-requires : tie.Need-write-rest-requires
-write-rest-requires c κs = let s = count-start (tail-count (c .before)) in (few-words (s .args .script .now) (s .args .at) (c .before .tail .ensures) (s .good .0 .1), s .pre .0, s .pre .1, s .pre .2)
+write-rest-requires c κs = let s = count-start (tail-count (c .before)) in (few-words (s .args .script .now) (s .args .at) (c .before .tail .ensures) (s .good .0 .1), s .pre)
 
 returns-2 : tie.Need-returns-2
 returns-2 c =
@@ -67,8 +67,8 @@ returns-2 c =
     let l = rest-tail w in
     let n = tail-count l in
     let s = count-start n in
-    wrote-if (λ h. items-some _ (s .args .offset) (n .item-count .result) (message-items s) (n .item-count .ensures) (l .before .if1 .left) (one-message (σ s) (l .tail .ensures)) (omega (arith, h, s .pre .2))) (w .write-rest .ensures)
+    wrote-if (λ h. items-some _ (s .args .offset) (n .item-count .result) (message-items s) (n .item-count .ensures) (l .before .if1 .left) (one-message (σ s) (l .tail .ensures)) (omega (arith, h, s .pre .small))) (w .write-rest .ensures)
 
 pub write-items-spec : {M : Type 1} → statement M
-write-items-spec = tie.close (tie.spec (λ c κs. known-start c .pre .0) (λ c κs. search needs) (λ c. search needs) returns (λ c κs. search needs)
+write-items-spec = tie.close (tie.spec (λ c κs. known-start c .pre .counted) (λ c κs. search needs) (λ c. search needs) returns (λ c κs. search needs)
     (λ c. omega (arith, c .before .if1 .left)) write-rest-requires (λ c. search needs) returns-2)
