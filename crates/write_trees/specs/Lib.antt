@@ -2,3 +2,4 @@
 pub mod Room
 pub mod Around
 pub mod Bodies
+pub mod Asked

@@ -122,8 +122,10 @@ module _ (t : ℕ) where
   part-requires c κs =
       let f = c .before in
       let s = first-start f in
-      let low = first-below (s .args .left) (f .first .result) (tail (members (s .args .left))) (first-then f) in
-      (omega (arith, s .pre .0, fuel-left f), (s .pre .1 .0, s .pre .1 .1, s .pre .1 .2, omega (arith, s .pre .1 .3, fuel-left f), low, omega (arith, first-some f .before .if1 .left), s .pre .1 .4))
+      let low = first-below (s .args .left) (f .first .result) (tail (members (s .args .left))) (first-then f) in (
+        omega (arith, s .pre .0, fuel-left f),
+        record { counted = s .pre .1 .counted; scripted = s .pre .1 .scripted; right = s .pre .1 .right; deep = omega (arith, s .pre .1 .deep, fuel-left f); part = low; some = omega (arith, first-some f .before .if1 .left); small = s .pre .1 .small },
+      )
 
   rest-requires : Body body-lts.Need-rest-requires
   rest-requires c κs = let f = part-first (known-part c) in let s = first-start f in not-none (s .args .left) (s .fits .left .fits) (first-some f .if2 .left)
@@ -132,7 +134,7 @@ module _ (t : ℕ) where
   beside-requires c κs =
       let p = rest-part (c .before) in
       let s = body-start p in
-      (omega (arith, s .pre .0, fuel-left (part-first p)), (s .pre .1 .0, s .pre .1 .1, s .pre .1 .2, omega (arith, s .pre .1 .3), omega (arith, s .pre .1 .4, partly-lent (partly-part p))))
+      (omega (arith, s .pre .0, fuel-left (part-first p)), record { counted = s .pre .1 .counted; scripted = s .pre .1 .scripted; right = s .pre .1 .right; deep = omega (arith, s .pre .1 .deep); small = omega (arith, s .pre .1 .small, partly-lent (partly-part p)) })
 
   beside-length : Body body-lts.Need-same-length-3
   beside-length c = let m = end-more c in partly-kept (partly-part (rest-part (more-rest m))) (m .write-body .last .1 .1 .1 .1 .1 .1 .1 .1 .1 .1 .1 .1 .0) (m .write-body .kept .1 .1 .1 .1 .1 .1 .1 .1 .1 .1 .1 .1 .0)
@@ -148,7 +150,7 @@ module _ (t : ℕ) where
   body-met : {M : Type 1} → body-lts.Closed body-claims body-at write-body.Post M
   body-met = body-lts.spec body-claims body-at write-body.Post full-returns (λ c κs. search needs) (λ c. search needs) none-returns
       (λ c κs. search needs) (λ c. search needs) fuel-returns (λ c κs. search needs) (λ c. omega (arith, fuel-left c)) part-requires rest-requires
-      (λ c. omega (arith, body-start (rest-part c) .pre .1 .4, partly-part (rest-part c) .within)) (λ c. omega (arith, fuel-left (part-first (rest-part c))))
+      (λ c. omega (arith, body-start (rest-part c) .pre .1 .small, partly-part (rest-part c) .within)) (λ c. omega (arith, fuel-left (part-first (rest-part c))))
       (λ c. partly-bytes (partly-part (rest-part c))) (λ c. partly-behind (partly-part (rest-part c))) (λ c. partly-behind (partly-part (rest-part c))) (λ c. omega arith)
       beside-requires (λ c. partly-sum (partly-part (rest-part (more-rest (end-more c)))) (end-more c .write-body .ensures .within)) beside-length beside-returns
 
@@ -192,7 +194,7 @@ module _ (t : ℕ) where
   -- ---- write_part: what is known at each
 
   small : (s : Part part-lts.Start) → s .args .index < 268435456
-  small s = omega (arith, s .pre .1 .5, s .pre .1 .6)
+  small s = omega (arith, s .pre .1 .some, s .pre .1 .small)
 
   partly-head : (c : Part part-lts.After-write-head) → Partly (head-start c .args .out .now) (c .write-head .last .1 .1 .1 .1 .1 .1 .1 .1 .0) (c .write-head .result)
   partly-head c = record { long = omega (arith, head-start c .good); within = c .write-head .ensures .within; kept = c .write-head .kept .1 .1 .1 .1 .1 .1 .1 .1 .0 }
@@ -200,17 +202,17 @@ module _ (t : ℕ) where
   -- ---- write_part: the needs
 
   head-requires : Part part-lts.Need-write-head-requires
-  head-requires c κs = let s = asked-start c in (s .pre .1 .0, s .pre .1 .2, s .pre .1 .1 .placed (s .args .i), omega (arith, s .pre .1 .1 .spent (s .args .i), s .pre .1 .6))
+  head-requires c κs = let s = asked-start c in record { counted = s .pre .1 .counted; right = s .pre .1 .right; placed = s .pre .1 .scripted .placed (s .args .i); small = omega (arith, s .pre .1 .scripted .spent (s .args .i), s .pre .1 .small) }
 
   around-requires : Part part-lts.Need-around-body-requires
-  around-requires c κs = let s = head-start (then-head (c .before)) in (s .pre .1 .2, omega (arith, s .pre .1 .3), small s, s .pre .1 .1 .placed (s .args .i))
+  around-requires c κs = let s = head-start (then-head (c .before)) in record { right = s .pre .1 .right; room = omega (arith, s .pre .1 .deep); small = small s; placed = s .pre .1 .scripted .placed (s .args .i) }
 
   body-requires : Part part-lts.Need-write-body-requires
   body-requires c κs =
       let e = c .before .around-body .ensures in
       let h = around-head (c .before) in
       let s = head-start h in
-      (omega (arith, s .pre .0), (s .pre .1 .0, s .pre .1 .1, e .right, omega (arith, s .pre .1 .3, e .room), omega (arith, s .pre .1 .6, partly-lent (partly-head h))))
+      (omega (arith, s .pre .0), record { counted = s .pre .1 .counted; scripted = s .pre .1 .scripted; right = e .right; deep = omega (arith, s .pre .1 .deep, e .room); small = omega (arith, s .pre .1 .small, partly-lent (partly-head h)) })
 
   body-length : Part part-lts.Need-same-length
   body-length c = let m = end-body c in partly-kept (partly-head (around-head (body-around m))) (m .write-body .last .1 .1 .1 .1 .1 .1 .1 .1 .1 .1 .1 .1 .0) (m .write-body .kept .1 .1 .1 .1 .1 .1 .1 .1 .1 .1 .1 .1 .0)
@@ -227,10 +229,10 @@ module _ (t : ℕ) where
   only-returns c = writes-only (has-head (c .before) .write-head .ensures) (sym (c .before .has-body .ensures _ _ _) ∙ c .if1 .left)
 
   part-met : {M : Type 1} → part-lts.Closed part-claims part-at write-part.Post M
-  part-met = part-lts.spec part-claims part-at write-part.Post (λ c. known-start c .pre .1 .4) (λ c. omega (arith, known-start (c .before) .pre .1 .4)) (λ c. known-start (c .before) .pre .1 .4)
-      (λ c. omega (arith, read-start c .pre .1 .4)) (λ c. read-start c .pre .1 .4) head-requires (λ c κs. search needs)
-      (λ c. omega (arith, head-start (then-head c) .pre .1 .4)) (λ c. omega (arith, head-start (then-head c) .pre .1 .4)) (λ c. omega (arith, small (head-start (then-head (c .before))))) around-requires
-      (λ c. omega (arith, head-start (around-head c) .pre .1 .6, partly-head (around-head c) .within)) (λ c. partly-bytes (partly-head (around-head c)))
+  part-met = part-lts.spec part-claims part-at write-part.Post (λ c. known-start c .pre .1 .part) (λ c. omega (arith, known-start (c .before) .pre .1 .part)) (λ c. known-start (c .before) .pre .1 .part)
+      (λ c. omega (arith, read-start c .pre .1 .part)) (λ c. read-start c .pre .1 .part) head-requires (λ c κs. search needs)
+      (λ c. omega (arith, head-start (then-head c) .pre .1 .part)) (λ c. omega (arith, head-start (then-head c) .pre .1 .part)) (λ c. omega (arith, small (head-start (then-head (c .before))))) around-requires
+      (λ c. omega (arith, head-start (around-head c) .pre .1 .small, partly-head (around-head c) .within)) (λ c. partly-bytes (partly-head (around-head c)))
       (λ c. partly-behind (partly-head (around-head c))) (λ c. partly-behind (partly-head (around-head c))) (λ c. omega arith)
       body-requires (λ c. partly-sum (partly-head (around-head (body-around (end-body c)))) (end-body c .write-body .ensures .within)) body-length body-returns
       (λ c. partly-head (has-head (c .before)) .kept) only-returns

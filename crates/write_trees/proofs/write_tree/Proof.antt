@@ -53,7 +53,7 @@ write-body-requires c κs =
     let n = c .before in
     let w = around-wide n in
     let s = wide-start w in
-    (s .pre .0 .counted, s .pre .1, n .nothing-around .ensures .right, omega (arith, n .nothing-around .ensures .room), omega (arith, lent n, w .wide .ensures, w .before .if1 .left))
+    record { counted = s .pre .0 .counted; scripted = s .pre .1; right = n .nothing-around .ensures .right; deep = omega (arith, n .nothing-around .ensures .room); small = omega (arith, lent n, w .wide .ensures, w .before .if1 .left) }
 
 returns : tie.Need-returns
 returns c b e h p = over-limit _ _ _ (c .before .count-words .ensures [] 0 b e h p) (c .if1 .taken)
