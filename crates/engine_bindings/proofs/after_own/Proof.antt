@@ -1,10 +1,10 @@
 -- `engine_bindings::after_own` meets its contract. Assumes nothing.
-use Prim.Native.Nat.{ℕ, _+_, _-_, _*_, _≤_, _<_}
+use Prim.Native.Nat.{_≤_}
 use mathlib.Core.Path.{_≡_, ap}
 use native.Mathlib.Omega.{arith}
 use borrow.Author.Needs.{needs}
-use lib.ListN.{length, drop, length-drop}
-use Rattle.engine_message_words.specs.Words.{firstWord, shapeOf}
+use lib.ListN.{length, length-drop}
+use Rattle.engine_message_words.specs.Words.{firstWord, shapeOf, arityOf}
 use Rattle.engine_message_words.specs.declared.Shape.{Shape}
 use Rattle.engine_message_words.proofs.FirstWords.{arity-small}
 use Rattle.engine_bindings.proofs.Passing.{room, split-first}
@@ -21,10 +21,8 @@ tail-start c = tail-first c .before .before
 shape : (c : tie.After-tail) → c .before .shape-of .result ≡ shapeOf (firstWord (tail-start c .args .words .now))
 shape c = rw (tail-first c .first-word .ensures) at (c .before .shape-of .ensures)
 
--- what is left behind the word is less, however many words are skipped
-behind : (c : tie.After-tail) (n : ℕ) → let a = tail-start c .args in let p = a .pending - 1 + c .before .shape-of .result .opened in
-    (p + length (drop (n + 1) (a .words .now)) ≤ a .pending + length (a .words .now)) × (3 * length (drop (n + 1) (a .words .now)) + p < 3 * length (a .words .now) + a .pending)
-behind c n = room (tail-start c .args .words .now) (tail-start c .args .pending) _ n (tail-start c .pre .0) (omega (arith, ap (λ (x : Shape). x .opened) (shape c)))
+opened-small : (c : tie.After-tail) → c .before .shape-of .result .opened ≤ arityOf (firstWord (tail-start c .args .words .now))
+opened-small c = omega (arith, ap (λ (x : Shape). x .opened) (shape c))
 
 skip-requires : tie.Need-skip-requires
 skip-requires c κs = rw (c .before .shape-of .ensures) (omega (arith, arity-small (tail-first c .first-word .result), ap length (c .tail .ensures), length-drop 1 (tail-start c .args .words .now)))
@@ -33,12 +31,13 @@ returns : tie.Need-returns
 returns c =
     let l = c .before in
     let a = tail-start l .args in
+    let less = room (a .words .now) (a .pending) _ (c .skip .result) (tail-start l .pre .0) (opened-small l) in
     record {
-      room = behind l (c .skip .result) .0;
-      less = behind l (c .skip .result) .1;
+      room = less .0;
+      less = less .1;
       split = λ σ. split-first σ (a .words .now) (a .pending) (c .skip .result) (tail-start l .pre .0) (shape l) (l .tail .ensures) (c .skip .ensures .behind);
     }
 
 pub after-own-spec : {M : Type 1} → statement M
 after-own-spec = tie.close (tie.spec (λ c κs. search needs) (λ c κs. search needs) (λ c κs. search needs) skip-requires
-    (λ c. search needs) (λ c. search needs) (λ c. omega (arith, behind (c .before) 0 .0, tail-start (c .before) .pre .1)) returns)
+    (λ c. search needs) (λ c. search needs) (λ c. let s = tail-start (c .before) in omega (arith, room (s .args .words .now) (s .args .pending) _ 0 (s .pre .0) (opened-small (c .before)) .0, s .pre .1)) returns)

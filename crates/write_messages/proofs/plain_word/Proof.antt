@@ -12,6 +12,10 @@ word-variable c = c .before .before
 abbrev name-start : tie.After-m → tie.Start
 name-start c = c .before .before .before .before
 
+returns-4 : tie.Need-returns-4
+unfolding plainWord word
+returns-4 c = rw (c .enum-told2 .given .1)
+
 pub plain-word-spec : {M : Type 1} → statement M
 unfolding plainWord word
 plain-word-spec =
@@ -20,9 +24,4 @@ plain-word-spec =
     (λ c. search needs) (λ c. search needs) (λ c. search needs) (λ c. search needs) (λ c. search needs) (λ c. search needs)
     (λ c. rw (c .before .m .given .1))
     (λ c. rw (word-variable c .m2 .given .1) (c .variable-word .ensures))
-    (λ c. rw (c .enum-told .given .1))
-    (λ c. rw (c .enum-told2 .given .1))
-    (λ c. rw (c .enum-told3 .given .1))
-    (λ c. rw (c .enum-told4 .given .1))
-    (λ c. rw (c .enum-told5 .given .1))
-    (λ c. rw (c .enum-told6 .given .1)))
+    (λ c. rw (c .enum-told .given .1)) returns-4 (λ c. rw (c .enum-told3 .given .1)) (λ c. rw (c .enum-told4 .given .1)) (λ c. rw (c .enum-told5 .given .1)) (λ c. rw (c .enum-told6 .given .1)))

@@ -48,18 +48,18 @@ lent c = length-take-le (around-wide c .wide .result) (wide-start (around-wide c
 
 -- ---- the needs
 
+returns : tie.Need-returns
+returns c b e h p = over-limit _ _ _ (c .before .count-words .ensures [] 0 b e h p) (c .if1 .taken)
+
+returns-2 : tie.Need-returns-2
+returns-2 c b e h p = let w = c .before in over-buffer _ _ _ (wide-count w .count-words .ensures [] 0 b e h p) (omega (arith, w .wide .ensures, c .if2 .taken))
+
 write-body-requires : tie.Need-write-body-requires
 write-body-requires c κs =
     let n = c .before in
     let w = around-wide n in
     let s = wide-start w in
     record { counted = s .pre .0 .counted; scripted = s .pre .1; right = n .nothing-around .ensures .right; deep = omega (arith, n .nothing-around .ensures .room); small = omega (arith, lent n, w .wide .ensures, w .before .if1 .left) }
-
-returns : tie.Need-returns
-returns c b e h p = over-limit _ _ _ (c .before .count-words .ensures [] 0 b e h p) (c .if1 .taken)
-
-returns-2 : tie.Need-returns-2
-returns-2 c b e h p = let w = c .before in over-buffer _ _ _ (wide-count w .count-words .ensures [] 0 b e h p) (omega (arith, w .wide .ensures, c .if2 .taken))
 
 returns-3 : tie.Need-returns-3
 returns-3 c b e h p =
