@@ -64,7 +64,8 @@ module _ (t : ℕ) where
       (l .before .after-own .ensures .split σ) (tail-own l .own .ensures script places ok) (rw (l .tail .ensures) at (c .before .count-from .ensures script places ok)) (c .sum .ensures)
 
   met : {M : Type 1} → lts.Closed claims at count-from.Post M
-  met = lts.spec claims at count-from.Post none-returns (λ c κs. known-start (c .before) .pre .1 .1) (λ c κs. omega arith) (λ c κs. search needs) behind-requires (λ c κs. search needs) behind-returns
+  met = lts.spec claims at count-from.Post none-returns (λ c κs. known-start (c .before) .pre .1 .1) (λ c κs. omega arith)
+      (λ c κs. search needs) behind-requires (λ c κs. search needs) behind-returns
 
 pub +count-from-spec : {M : Type 1} → statement M
 +count-from-spec = close μ (λ t. met t)

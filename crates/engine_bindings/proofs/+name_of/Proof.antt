@@ -55,10 +55,7 @@ module _ (t : ℕ) where
       c .name-of .ensures ∙ ap nameOf (given-message (a .script .now) (a .variables .now) (a .places .now) (s .pre .1) _ (g .if1 .taken) (a .words .now) (first-bound _ _ (f .before .first-word .ensures) (f .bound .ensures)) (l .tail .ensures) (c .before .tail2 .ensures) (l .before .given .ensures))
 
   older-requires : At lts.Need-name-of-requires
-  older-requires c κs =
-      let l = simp length-drop at (ap length (c .before .tail .ensures)) in
-      let m = simp length-drop at (ap length (c .tail2 .ensures)) in
-      (omega arith, omega arith)
+  older-requires c κs = let l = simp length-drop at (ap length (c .before .tail .ensures)) in let m = simp length-drop at (ap length (c .tail2 .ensures)) in (omega arith, omega arith)
 
   plain-returns : At lts.Need-returns-2
   plain-returns c =

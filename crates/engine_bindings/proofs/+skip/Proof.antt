@@ -59,7 +59,8 @@ module _ (t : ℕ) where
       record { within = omega arith; behind = skip-some (a .words .now) (a .pending) (c .skip .result) (omega arith) (omega arith) (rw (c .before .tail .ensures, arity-is (c .before)) at (c .skip .ensures .behind)) }
 
   met : {M : Type 1} → lts.Closed claims at skip.Post M
-  met = lts.spec claims at skip.Post (λ c. record { within = omega arith; behind = rw (c .if1 .taken) }) none-returns (λ c κs. search needs) (λ c κs. search needs) (λ c κs. search needs) (λ c. omega arith)
+  met = lts.spec claims at skip.Post (λ c. record { within = omega arith; behind = rw (c .if1 .taken) }) none-returns
+      (λ c κs. search needs) (λ c κs. search needs) (λ c κs. search needs) (λ c. omega arith)
       (λ c. omega (arith, c .before .arity .ensures, arity-small (tail-first c .first-word .result))) skip-requires
       (λ c. omega (arith, ap length (c .before .tail .ensures), length-drop 1 (tail-start (c .before) .args .words .now))) some-returns
 

@@ -40,4 +40,5 @@ returns c =
 
 pub after-own-spec : {M : Type 1} → statement M
 after-own-spec = tie.close (tie.spec (λ c κs. search needs) (λ c κs. search needs) (λ c κs. search needs) skip-requires
-    (λ c. search needs) (λ c. search needs) (λ c. let s = tail-start (c .before) in omega (arith, room (s .args .words .now) (s .args .pending) _ 0 (s .pre .0) (opened-small (c .before)) .0, s .pre .1)) returns)
+    (λ c. search needs) (λ c. search needs)
+    (λ c. let s = tail-start (c .before) in omega (arith, room (s .args .words .now) (s .args .pending) _ 0 (s .pre .0) (opened-small (c .before)) .0, s .pre .1)) returns)

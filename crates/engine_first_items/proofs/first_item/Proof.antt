@@ -171,10 +171,12 @@ returns-2 : At tie.Need-returns-2
 returns-2 c = let l = end-loop c .loop in sought-none _ _ _ (l .s) (omega (arith, c .if1 .left)) ∙ sym (l .inv .same)
 
 pub first-item-spec : {M : Type 1} → statement M
-first-item-spec = tie.close (tie.spec Inv-loop μ-loop (λ c κs. search needs) loop-holds (λ c. search needs) (λ c κs. search needs) (λ c κs. search needs) (λ c κs. search needs) (λ c κs. search needs) add-k
+first-item-spec = tie.close (tie.spec Inv-loop μ-loop (λ c κs. search needs) loop-holds
+    (λ c. search needs) (λ c κs. search needs) (λ c κs. search needs) (λ c κs. search needs) (λ c κs. search needs) add-k
     (λ c. let a = bound-start (then-bound c) in omega (arith, kept-length (a .pre .0), c .if2 .taken, a .good .1 .1 .1 .1 .1 .0))
     (λ c. omega (arith, kept-length (bound-start (then-bound (c .before)) .pre .0), c .before .if2 .taken))
     (λ c. let a = bound-start (then-bound (c .before)) in omega (arith, a .pre .0 .aligned, c .before .if2 .taken, a .good .1 .1 .1 .1 .0))
-    (λ c. let t = read-then c in omega (arith, bound-start (then-bound t) .pre .0 .aligned, t .if2 .taken)) (λ c κs. search needs) at-variable-requires (λ c. on-bound c .fewer) (λ c. on-bound c .stands)
+    (λ c. let t = read-then c in omega (arith, bound-start (then-bound t) .pre .0 .aligned, t .if2 .taken))
+    (λ c κs. search needs) at-variable-requires (λ c. on-bound c .fewer) (λ c. on-bound c .stands)
     (λ c κs. search needs) (λ c κs. search needs) (λ c κs. search needs) name-of-requires (λ c κs. search needs) returns after-own-requires
     (λ c κs. search needs) (λ c. search needs) (λ c. on-free (end-less c) .fewer) (λ c. on-free (end-less c) .stands) returns-2)

@@ -184,7 +184,8 @@ module _ (t : ℕ) where
       write-more-requires (λ c. partly-sum (partly-given (tail-given (more-tail (end-more c)))) (end-more c .write-from2 .ensures .within)) given-length given-returns
       plain-word-requires (λ c κs. search needs) (λ c κs. search needs) (λ c κs. search needs)
       (λ c. omega (arith, pending-left (word-found (arity-word (c .before))))) (λ c. omega (arith, less-word c .0, word-start c .pre .1 .room))
-      (λ c. partly-bytes (partly-word (arity-word (c .before)))) (λ c. partly-behind (partly-word (arity-word (c .before)))) (λ c. partly-behind (partly-word (arity-word (c .before)))) (λ c. omega arith)
+      (λ c. partly-bytes (partly-word (arity-word (c .before))))
+      (λ c. partly-behind (partly-word (arity-word (c .before)))) (λ c. partly-behind (partly-word (arity-word (c .before)))) (λ c. omega arith)
       write-behind-requires (λ c. partly-sum (partly-word (arity-word (word-tail (end-word-more c) .before))) (end-word-more c .write-from3 .ensures .within)) word-length word-returns
 
 pub +write-from-spec : {M : Type 1} → statement M

@@ -24,4 +24,5 @@ plain-word-spec =
     (λ c. search needs) (λ c. search needs) (λ c. search needs) (λ c. search needs) (λ c. search needs) (λ c. search needs)
     (λ c. rw (c .before .m .given .1))
     (λ c. rw (word-variable c .m2 .given .1) (c .variable-word .ensures))
-    (λ c. rw (c .enum-told .given .1)) returns-4 (λ c. rw (c .enum-told3 .given .1)) (λ c. rw (c .enum-told4 .given .1)) (λ c. rw (c .enum-told5 .given .1)) (λ c. rw (c .enum-told6 .given .1)))
+    (λ c. rw (c .enum-told .given .1)) returns-4 (λ c. rw (c .enum-told3 .given .1))
+    (λ c. rw (c .enum-told4 .given .1)) (λ c. rw (c .enum-told5 .given .1)) (λ c. rw (c .enum-told6 .given .1)))

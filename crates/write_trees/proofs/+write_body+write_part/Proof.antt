@@ -229,9 +229,11 @@ module _ (t : ℕ) where
   only-returns c = writes-only (has-head (c .before) .write-head .ensures) (sym (c .before .has-body .ensures _ _ _) ∙ c .if1 .left)
 
   part-met : {M : Type 1} → part-lts.Closed part-claims part-at write-part.Post M
-  part-met = part-lts.spec part-claims part-at write-part.Post (λ c. known-start c .pre .1 .part) (λ c. omega (arith, known-start (c .before) .pre .1 .part)) (λ c. known-start (c .before) .pre .1 .part)
+  part-met = part-lts.spec part-claims part-at write-part.Post (λ c. known-start c .pre .1 .part)
+      (λ c. omega (arith, known-start (c .before) .pre .1 .part)) (λ c. known-start (c .before) .pre .1 .part)
       (λ c. omega (arith, read-start c .pre .1 .part)) (λ c. read-start c .pre .1 .part) head-requires (λ c κs. search needs)
-      (λ c. omega (arith, head-start (then-head c) .pre .1 .part)) (λ c. omega (arith, head-start (then-head c) .pre .1 .part)) (λ c. omega (arith, small (head-start (then-head (c .before))))) around-requires
+      (λ c. omega (arith, head-start (then-head c) .pre .1 .part)) (λ c. omega (arith, head-start (then-head c) .pre .1 .part))
+      (λ c. omega (arith, small (head-start (then-head (c .before))))) around-requires
       (λ c. omega (arith, head-start (around-head c) .pre .1 .small, partly-head (around-head c) .within)) (λ c. partly-bytes (partly-head (around-head c)))
       (λ c. partly-behind (partly-head (around-head c))) (λ c. partly-behind (partly-head (around-head c))) (λ c. omega arith)
       body-requires (λ c. partly-sum (partly-head (around-head (body-around (end-body c)))) (end-body c .write-body .ensures .within)) body-length body-returns
