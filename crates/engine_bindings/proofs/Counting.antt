@@ -67,10 +67,7 @@ module _ {f : Message → ℕ} {script vs ps values : List ℕ} (ok : Kept f scr
 
   -- the older bindings
   pub kept-drop : (k : ℕ) → Kept f script (drop k vs) (drop k ps) (drop k values)
-  kept-drop k = record {
-    aligned = simp length-drop (omega (arith, ok .aligned));
-    right = ap (drop k) (ok .right) ∙ drop-kept f script vs ps k (ok .aligned);
-  }
+  kept-drop k = record { aligned = simp length-drop (omega (arith, ok .aligned)); right = ap (drop k) (ok .right) ∙ drop-kept f script vs ps k (ok .aligned) }
 
   pub kept-given : (k : ℕ) → k < length vs → getD values k 0 ≡ capped (f (bindingMessage script vs ps k))
   kept-given k h = rw (ok .right) (kept-at f script vs ps k (ok .aligned) h)

@@ -4,13 +4,14 @@ use mathlib.Core.List.{List, [], _∷_, _++_, append-assoc, append-nil}
 use mathlib.Core.Path.{_≡_, refl, sym, ap, _∙_}
 use native.Mathlib.Omega.{arith}
 use native.Mathlib.Nat.{add-comm, add-zero}
-use lib.ListN.{length, drop, length-drop}
+use lib.ListN.{length, drop, getD, length-drop}
 use lib.Seq.{drop-drop, drop-nil}
 use Rattle.read_messages.specs.Message.{Message, variable, emptyMessage, items, nameOf, asks}
 use Rattle.read_messages.specs.Spelling.{topMessage, push, spelled, messageAt}
 use Rattle.read_messages.specs.declared.MessageWord.{MessageWord}
 use Rattle.read_messages.specs.declared.MessageWord.the-variants.{Name, Variable, Enter, Exit, Open, Empty, Path, Unfit}
 use Rattle.engine_message_words.specs.Words.{place, firstWord, shapeOf, arityOf, boundAt, plainName, plainItem}
+use Rattle.engine_message_words.specs.declared.Shape.{Shape}
 use Rattle.engine_message_words.proofs.FirstWords.{arity-small, bound, bound-variable}
 use Rattle.theory_closures.specs.Resolve.{resolve}
 use Rattle.engine_bindings.specs.Bindings.{bindingsIn}
@@ -47,6 +48,9 @@ room [] p a r h f =
     let d = length-drop (r + 1) none in
     omega arith
 room (x ∷ l) p a r h f = omega (arith, length-drop (r + 1) (x ∷ l), arity-small (firstWord (x ∷ l)))
+
+pub less-behind : {ws : List ℕ} (l : List ℕ) (p a : ℕ) → ws ≡ drop 1 l → 0 < p → a ≤ arityOf (firstWord l) → (p - 1 + a + length ws ≤ p + length l) × (3 * length ws + (p - 1 + a) < 3 * length l + p)
+less-behind l p a e h f = rw e (room l p a 0 h f)
 
 push-skip : (m : MessageWord) (p : ℕ) (s : List Message) → drop (suc p) (push m s) ≡ drop (p + arityOf m) s
 unfolding push shapeOf
@@ -97,18 +101,21 @@ own-front σ l (suc p) z =
     let q : suc p - 1 ≡ p = omega arith in
     rw (q, firsts-first (suc p) l) (split-word σ (firstWord l) p (spelled (drop 1 l)))
 
-pub split-first : (σ : List (ℕ × Message)) (l : List ℕ) (p r : ℕ) → 0 < p
-    → spelled (drop r (drop 1 l)) ≡ drop (shapeOf (firstWord l) .closed) (spelled (drop 1 l))
-    → allItems σ (firsts p (spelled l)) ≡ ownItems σ l ++ allItems σ (firsts (p - 1 + shapeOf (firstWord l) .opened) (spelled (drop (r + 1) l)))
-split-first σ l p r z e = rw (drop-more r l, e) (own-front σ l p z)
+pub split-first : (σ : List (ℕ × Message)) (l : List ℕ) (p r : ℕ) → 0 < p → {s : Shape} {ws : List ℕ} → s ≡ shapeOf (firstWord l) → ws ≡ drop 1 l
+    → spelled (drop r ws) ≡ drop (s .closed) (spelled ws) → allItems σ (firsts p (spelled l)) ≡ ownItems σ l ++ allItems σ (firsts (p - 1 + s .opened) (spelled (drop (r + 1) l)))
+split-first σ l p r z e₁ e₂ e = rw (drop-more r l, ← e₂, e, e₁, e₂) (own-front σ l p z)
 
 pub none-pending : (σ : List (ℕ × Message)) (p : ℕ) (s : List Message) → p ≡ 0 → allItems σ (firsts p s) ≡ []
 unfolding allItems firsts
 none-pending σ p s e = rw e
 
-pub one-message : (σ : List (ℕ × Message)) (l : List ℕ) → allItems σ (firsts 1 (spelled l)) ≡ items (resolve σ (messageAt l))
+pub one-message : (σ : List (ℕ × Message)) {l ws : List ℕ} → l ≡ ws → allItems σ (firsts 1 (spelled l)) ≡ items (resolve σ (messageAt ws))
 unfolding messageAt allItems firsts
-one-message σ l = append-nil (items (resolve σ (topMessage (spelled l))))
+one-message σ {l} {ws} e = rw e (append-nil (items (resolve σ (topMessage (spelled ws)))))
+
+-- the first word, as it is read and then looked up
+pub first-bound : (l vs : List ℕ) {m : MessageWord} {k : ℕ} → m ≡ firstWord l → k ≡ boundAt m vs → k ≡ boundAt (firstWord l) vs
+first-bound l vs e f = rw e at f
 
 -- A word that is no variable with a binding stands for itself.
 
@@ -174,10 +181,15 @@ module _ (script vs ps : List ℕ) (l : length ps ≡ length vs) (k : ℕ) (h : 
   pub given-place : (v : ℕ) → k ≡ place vs v → bindingMessage script vs ps k ≡ resolve (bindingsIn script vs ps) (variable v)
   given-place v e = rw e (sym (resolve-bound script vs ps v l (omega arith)))
 
-  pub given-message : (ws : List ℕ) → k ≡ boundAt (firstWord ws) vs → bindingMessage script vs ps k ≡ resolve (bindingsIn script vs ps) (messageAt ws)
+  pub given-message : (ws : List ℕ) → k ≡ boundAt (firstWord ws) vs → {us qs g : List ℕ} → us ≡ drop (k + 1) vs → qs ≡ drop (k + 1) ps → g ≡ drop (getD ps k 0) script
+      → resolve (bindingsIn script us qs) (messageAt g) ≡ resolve (bindingsIn script vs ps) (messageAt ws)
   unfolding push topMessage
-  given-message ws e = elim (bound-variable vs (firstWord ws) k e h) [ bound v q p ↦ rw (message-first ws, q) (given-place v p) ]
+  given-message ws e e₁ e₂ e₃ = elim (bound-variable vs (firstWord ws) k e h) [ bound v q p ↦ rw (e₁, e₂, e₃, message-first ws, q) (given-place v p) ]
 
   pub given-items : (ws : List ℕ) → k ≡ boundAt (firstWord ws) vs → items (bindingMessage script vs ps k) ≡ ownItems (bindingsIn script vs ps) ws
   unfolding ownItems wordItems
   given-items ws e = elim (bound-variable vs (firstWord ws) k e h) [ bound v q p ↦ rw q (ap items (given-place v p)) ]
+
+  pub given-own : (ws : List ℕ) → k ≡ boundAt (firstWord ws) vs → {us qs g : List ℕ} → us ≡ drop (k + 1) vs → qs ≡ drop (k + 1) ps → g ≡ drop (getD ps k 0) script
+      → allItems (bindingsIn script us qs) (firsts 1 (spelled g)) ≡ ownItems (bindingsIn script vs ps) ws
+  given-own ws e e₁ e₂ e₃ = rw (e₁, e₂) (one-message _ e₃ ∙ given-items ws e)

@@ -14,16 +14,16 @@ use engine_message_words::plain_name;
 use engine_message_words::shape_of;
 use read_messages::Named;
 ghost use mathlib.Core.Path.{_≡_};
-ghost use Prim.Native.Nat.{ℕ, _+_, _-_, _*_, _<_, _≤_, _^_};
-ghost use mathlib.Core.List.{List, _++_};
+ghost use Prim.Native.Nat.{ℕ, _+_, _-_, _<_, _^_};
+ghost use mathlib.Core.List.{List};
 ghost use lib.ListN.{length, drop};
-ghost use Rattle.read_messages.specs.Message.{Message, items, nameOf};
+ghost use Rattle.read_messages.specs.Message.{items, nameOf};
 ghost use Rattle.read_messages.specs.Spelling.{spelled, messageAt};
 ghost use Rattle.theory_closures.specs.Resolve.{resolve};
 ghost use Rattle.engine_bindings.specs.Bindings.{bindingsIn, messageOf};
 ghost use Rattle.base_slices.specs.Sums.{capped};
 ghost use Rattle.engine_bindings.specs.Measures.{itemCount, Kept};
-ghost use Rattle.engine_bindings.specs.Passes.{firsts, allItems, ownItems};
+ghost use Rattle.engine_bindings.specs.Passes.{firsts, allItems, ownItems, Skipped, Passed};
 
 // Where a pass stands behind a word's own items: the words used, and the messages still pending.
 pub struct Behind {
@@ -63,7 +63,7 @@ pub fn name_at(script: &[u32], start: u32, variables: &[u32], places: &[u32]) ->
 // How many words the first `pending` messages of the words have.
 fn skip(words: &[u32], pending: usize) -> usize
     requires { ⌜ pending + length (now words) < 2 ^ 64 ⌝ }
-    ensures { λ r. ⌜ (r ≤ length (now (words .entry))) × (spelled (drop r (now (words .entry))) ≡ drop pending (spelled (now (words .entry)))) ⌝ }
+    ensures { λ r. ⌜ Skipped (now (words .entry)) pending r ⌝ }
 {
     if pending == 0 {
         return 0;
@@ -92,8 +92,7 @@ pub fn own(words: &[u32], variables: &[u32], counts: &[u32]) -> u32
 // Where a pass over the items of the first `pending` messages stands behind the first word's own items.
 pub fn after_own(words: &[u32], pending: usize) -> Behind
     requires { ⌜ (0 < pending) × (pending + length (now words) < 2 ^ 64) ⌝ }
-    ensures shorter { λ r. ⌜ (r .left + length (drop (r .used) (now (words .entry))) ≤ pending + length (now (words .entry))) × (3 * length (drop (r .used) (now (words .entry))) + r .left < 3 * length (now (words .entry)) + pending) ⌝ }
-    ensures split { λ r. ⌜ ((σ : List (ℕ × Message)) → allItems σ (firsts pending (spelled (now (words .entry)))) ≡ ownItems σ (now (words .entry)) ++ allItems σ (firsts (r .left) (spelled (drop (r .used) (now (words .entry)))))) ⌝ }
+    ensures { λ r. ⌜ Passed (now (words .entry)) pending r ⌝ }
 {
     let s = shape_of(first_word(words));
     let closed = s.closed;

@@ -1,2 +1,2 @@
--- The laws of `first_items`. Assumes nothing.
+-- The laws of `engine_first_items`. Assumes nothing.
 mod Searching

@@ -19,8 +19,10 @@ use Rattle.engine_bindings.specs.Bindings.{bindingsIn}
 use Rattle.base_slices.specs.Sums.{capped}
 use Rattle.engine_bindings.specs.Measures.{itemCount, Kept}
 use Rattle.engine_message_words.specs.Words.{firstWord, shapeOf, boundAt, plainItem}
-use Rattle.engine_first_items.specs.Search.{searching}
-use Rattle.engine_bindings.specs.Passes.{firsts, allItems, ownItems}
+use Rattle.engine_message_words.specs.declared.Shape.{Shape}
+use Rattle.engine_first_items.specs.Search.{searching, AtVariable}
+use Rattle.engine_bindings.specs.Passes.{firsts, allItems, ownItems, Passed}
+use Rattle.engine_bindings.specs.declared.Behind.{Behind}
 use Rattle.engine_first_items.specs.declared.Search.{Search}
 use Rattle.base_slices.proofs.Tests.{byTest}
 use Rattle.engine_bindings.proofs.Bindings.{bindingMessage}
@@ -65,7 +67,7 @@ sought script vs ps s =
 pub sought-first : (script vs ps : List ℕ) (at offset : ℕ) → firstItem (drop offset (items (resolve (bindingsIn script vs ps) (messageAt (drop at script))))) ≡ sought script vs ps (searching (length script - at) 1 offset 0)
 unfolding sought
 sought-first script vs ps at offset =
-    ap (λ (l : List Message). firstItem (drop offset l)) (sym (rw (left-from script at) (one-message (bindingsIn script vs ps) (drop at script))))
+    ap (λ (l : List Message). firstItem (drop offset l)) (sym (rw (left-from script at) (one-message (bindingsIn script vs ps) refl)))
 
 pub sought-none : (script vs ps : List ℕ) (s : Search) → s .pending ≡ 0 → Nothing ≡ sought script vs ps s
 unfolding sought
@@ -102,7 +104,7 @@ module _ {script vs ps cs : List ℕ} (ok : Kept itemCount script vs ps cs) (l p
     sought-inside q =
         let g : getD (drop o ps) j 0 ≡ getD ps k 0 = getD-drop o ps j 0 ∙ ap (λ (i : ℕ). getD ps i 0) (sym at) in
         sym (item-here _ (ownItems σ words) _ b (getD cs k 0) own-split own-count q)
-        ∙ ap (λ (x : List Message). firstItem (drop b x)) (sym own-given ∙ rw (older vs, older ps, g, left-from script (getD ps k 0)) (sym (one-message _ _)))
+        ∙ ap (λ (x : List Message). firstItem (drop b x)) (sym own-given ∙ rw (older vs, older ps, g, left-from script (getD ps k 0)) (sym (one-message _ refl)))
 
     pub sought-past : l ≤ length script → getD cs k 0 ≤ b → b < 4294967295 → sought script vs ps (searching l p b o) ≡ sought script vs ps (searching (l - 1) (p - 1) (b - getD cs k 0) o)
     unfolding sought
@@ -153,33 +155,31 @@ module _ {script vs ps cs : List ℕ} (ok : Kept itemCount script vs ps cs) (ite
     past : getD cs k 0 ≤ s .before → r ≡ searching (s .left - 1) (s .pending - 1) (s .before - getD cs k 0) (s .older) → Stands script vs ps item r
     past q x = rw x record { within = omega (arith, st .within); room = omega (arith, st .room); small = omega (arith, st .small); older = st .older; same = st .same ∙ sought-past ok (s .left) (s .pending) (s .before) (s .older) some k j at e h (st .within) q (st .small) }
 
-    pub on-variable : (s .before < getD cs k 0 → r ≡ searching (length script - getD ps k 0) 1 (s .before) (k + 1)) → (getD cs k 0 ≤ s .before → r ≡ searching (s .left - 1) (s .pending - 1) (s .before - getD cs k 0) (s .older)) → length script < 2 ^ 64 → On script vs ps item s r
-    on-variable f g w =
+    pub on-variable : {place : ℕ} → place ≡ getD ps k 0 → AtVariable s (length script) k (getD cs k 0) place r → length script < 2 ^ 64 → On script vs ps item s r
+    on-variable x y w =
+        let v = rw x at y in
         byTest (ltb (s .before) (getD cs k 0))
-        (λ t. record {
-          fewer = rw (f (ltb-true _ _ t)) (rank-older _ _ _ _ _ refl (omega arith) (omega arith));
-          stands = inside (ltb-true _ _ t) (f (ltb-true _ _ t));
-        })
-        (λ t. record { fewer = rw (g (ltb-false _ _ t)) (rank-less _ _ _ _ refl (omega (arith, some))); stands = past (ltb-false _ _ t) (g (ltb-false _ _ t)) })
+        (λ t. let g = v .inside (ltb-true _ _ t) in record { fewer = rw g (rank-older _ _ _ _ _ refl (omega arith) (omega arith)); stands = inside (ltb-true _ _ t) g })
+        (λ t. let g = v .past (ltb-false _ _ t) in record { fewer = rw g (rank-less _ _ _ _ refl (omega (arith, some))); stands = past (ltb-false _ _ t) g })
 
-  module _ (e : length (drop (s .older) vs) ≤ boundAt (firstWord (wordsLeft script (s .left))) (drop (s .older) vs)) where
-    pub stands-here : s .before < shapeOf (firstWord (wordsLeft script (s .left))) .items → (m : MessageWord) (n : Named) → m ≡ firstWord (wordsLeft script (s .left)) → n ≡ nameOf (resolve (bindingsIn script (drop (s .older) vs) (drop (s .older) ps)) (messageAt (drop 1 (wordsLeft script (s .left))))) → plainItem m n ≡ item
-    stands-here q m n x y = rw (x, y) (sought-here ok (s .left) (s .pending) (s .before) (s .older) some e q ∙ sym (st .same))
+  -- at a word that is no variable with a binding, which has that shape
+  module _ (e : length (drop (s .older) vs) ≤ boundAt (firstWord (wordsLeft script (s .left))) (drop (s .older) vs)) {f : Shape} (x : f ≡ shapeOf (firstWord (wordsLeft script (s .left)))) where
+    pub stands-here : s .before < f .items → (m : MessageWord) (n : Named) {us qs ws : List ℕ} → m ≡ firstWord (wordsLeft script (s .left)) → us ≡ drop (s .older) vs → qs ≡ drop (s .older) ps → ws ≡ drop 1 (wordsLeft script (s .left))
+        → n ≡ nameOf (resolve (bindingsIn script us qs) (messageAt ws)) → plainItem m n ≡ item
+    stands-here q m n e₁ e₂ e₃ e₄ y = rw (e₁, y, e₂, e₃, e₄) (sought-here ok (s .left) (s .pending) (s .before) (s .older) some e (rw x at q) ∙ sym (st .same))
 
-    module _ (u q : ℕ) (less : (q + length (drop u (wordsLeft script (s .left))) ≤ s .pending + length (wordsLeft script (s .left))) × (3 * length (drop u (wordsLeft script (s .left))) + q < 3 * length (wordsLeft script (s .left)) + s .pending)) where
-      left-now : length (drop u (wordsLeft script (s .left))) ≡ s .left - u
-      left-now = length-drop u (wordsLeft script (s .left)) ∙ ap (λ (n : ℕ). n - u) (left-length script (s .left) (st .within))
-
-      pub on-behind : shapeOf (firstWord (wordsLeft script (s .left))) .items ≤ s .before
-          → allItems (bindingsIn script (drop (s .older) vs) (drop (s .older) ps)) (firsts (s .pending) (spelled (wordsLeft script (s .left)))) ≡ ownItems (bindingsIn script (drop (s .older) vs) (drop (s .older) ps)) (wordsLeft script (s .left)) ++ allItems (bindingsIn script (drop (s .older) vs) (drop (s .older) ps)) (firsts q (spelled (drop u (wordsLeft script (s .left)))))
-          → On script vs ps item s (searching (s .left - u) q (s .before - shapeOf (firstWord (wordsLeft script (s .left))) .items) (s .older))
-      on-behind y x = record {
-        fewer = rank-less _ _ _ _ refl (omega (arith, less .1, left-now, left-length script (s .left) (st .within)));
-        stands = record {
-          within = omega (arith, st .within);
-          room = omega (arith, less .0, left-now, left-length script (s .left) (st .within), st .room);
-          small = omega (arith, st .small);
-          older = st .older;
-          same = st .same ∙ sought-behind ok (s .left) (s .pending) (s .before) (s .older) some e u q (st .within) x y (st .small);
-        };
-      }
+    pub on-behind : f .items ≤ s .before → (b : Behind) {ws : List ℕ} {n : ℕ} → ws ≡ wordsLeft script (s .left) → Passed ws (s .pending) b → n ≡ s .left - b .used → On script vs ps item s (searching n (b .left) (s .before - f .items) (s .older))
+    on-behind q b e₁ p e₂ =
+        let o = rw e₁ at p in
+        let l = length-drop (b .used) (wordsLeft script (s .left)) in
+        let w = left-length script (s .left) (st .within) in
+        rw (e₂, x) record {
+          fewer = rank-less _ _ _ _ refl (omega (arith, o .less, l, w));
+          stands = record {
+            within = omega (arith, st .within);
+            room = omega (arith, o .room, l, w, st .room);
+            small = omega (arith, st .small);
+            older = st .older;
+            same = st .same ∙ sought-behind ok (s .left) (s .pending) (s .before) (s .older) some e (b .used) (b .left) (st .within) (o .split _) (rw x at q) (st .small);
+          };
+        }

@@ -1,2 +1,2 @@
--- What the contracts of `first_items` cite. Assumes nothing: these are definitions.
+-- What the contracts of `engine_first_items` cite. Assumes nothing: these are definitions.
 pub mod Search

@@ -9,14 +9,14 @@ use engine_message_words::plain_item;
 use engine_message_words::shape_of;
 use read_messages::First;
 ghost use mathlib.Core.Path.{_≡_};
-ghost use Prim.Native.Nat.{_+_, _-_, _<_, _≤_, _^_};
+ghost use Prim.Native.Nat.{_+_, _-_, _<_, _^_};
 ghost use lib.ListN.{drop};
 ghost use Rattle.read_messages.specs.Message.{items, firstItem};
 ghost use Rattle.read_messages.specs.Spelling.{messageAt};
 ghost use Rattle.theory_closures.specs.Resolve.{resolve};
 ghost use Rattle.engine_bindings.specs.Bindings.{bindingsIn};
 ghost use Rattle.engine_bindings.specs.Measures.{itemCount, Kept};
-ghost use Rattle.engine_first_items.specs.Search.{searching};
+ghost use Rattle.engine_first_items.specs.Search.{AtVariable};
 
 // Where a search for an item stands: before which words left in the script, how many messages of these are pending, how many
 // of their items come before the item, and from which binding on the older ones are that the messages lie under.
@@ -38,8 +38,7 @@ fn less(a: usize, b: usize) -> usize
 // script's n, or behind the variable.
 fn at_variable(s: Search, n: usize, k: usize, count: u32, place: usize) -> Search
     requires { ⌜ (0 < s .pending) × (k + 1 < 2 ^ 64) ⌝ }
-    ensures inside { λ r. ⌜ (s .before < count → r ≡ searching (n - place) 1 (s .before) (k + 1)) ⌝ }
-    ensures past { λ r. ⌜ (count ≤ s .before → r ≡ searching (s .left - 1) (s .pending - 1) (s .before - count) (s .older)) ⌝ }
+    ensures { λ r. ⌜ AtVariable s n k count place r ⌝ }
 {
     if s.before < count {
         return Search {

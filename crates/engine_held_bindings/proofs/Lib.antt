@@ -1,2 +1,2 @@
--- The laws of `held_bindings` that its own proofs cite.
+-- The laws of `engine_held_bindings` that its own proofs cite.
 pub mod Sizing

@@ -35,9 +35,19 @@ cached-none script = record { counted = kept-none itemCount script; sized = kept
 pub cached-drop : {script vs ps cs ss bs : List ℕ} (k : ℕ) → Cached script vs ps cs ss bs → Cached script (drop k vs) (drop k ps) (drop k cs) (drop k ss) (drop k bs)
 cached-drop k ok = record { counted = kept-drop (ok .counted) k; sized = kept-drop (ok .sized) k; bulked = kept-drop (ok .bulked) k }
 
+pub cached-as : {script vs ps cs ss bs us qs ds ts fs : List ℕ} → us ≡ vs → qs ≡ ps → ds ≡ cs → ts ≡ ss → fs ≡ bs → Cached script vs ps cs ss bs → Cached script us qs ds ts fs
+cached-as e₁ e₂ e₃ e₄ e₅ ok = rw (e₁, e₂, e₃, e₄, e₅) ok
+
 -- one binding more, and what was counted of its message
-pub cached-more : {script vs ps cs ss bs : List ℕ} (v a : ℕ) (r : Measured) → Cached script vs ps cs ss bs → Measures (resolve (bindingsIn script vs ps) (messageAt (drop a script))) r → Cached script (v ∷ vs) (a ∷ ps) (r .count ∷ cs) (r .size ∷ ss) (r .bulk ∷ bs)
-cached-more v a r ok m = record { counted = kept-more (ok .counted) v a (r .count) (m .count); sized = kept-more (ok .sized) v a (r .size) (m .size); bulked = kept-more (ok .bulked) v a (r .bulk) (m .bulk) }
+pub cached-more : {script vs ps cs ss bs : List ℕ} (v a : ℕ) (r : Measured) → Cached script vs ps cs ss bs → {w : ℕ} → w ≡ a → Measures (resolve (bindingsIn script vs ps) (messageAt (drop w script))) r → Cached script (v ∷ vs) (a ∷ ps) (r .count ∷ cs) (r .size ∷ ss) (r .bulk ∷ bs)
+cached-more v a r ok e n = let m = rw e at n in record { counted = kept-more (ok .counted) v a (r .count) (m .count); sized = kept-more (ok .sized) v a (r .size) (m .size); bulked = kept-more (ok .bulked) v a (r .bulk) (m .bulk) }
+
+pub bindings-more : (script : List ℕ) {vs ps us qs : List ℕ} {v a : ℕ} → us ≡ v ∷ vs → qs ≡ a ∷ ps → bindingsIn script us qs ≡ (v, messageAt (drop a script)) ∷ bindingsIn script vs ps
+unfolding bindingsIn
+bindings-more script e f = rw (e, f)
+
+pub measures-as : (script : List ℕ) (m : Message) {vs ps us qs : List ℕ} {r : Measured} → us ≡ vs → qs ≡ ps → Measures (resolve (bindingsIn script us qs) m) r → Measures (resolve (bindingsIn script vs ps) m) r
+measures-as script m e f c = rw (← e, ← f) c
 
 -- words
 
@@ -45,9 +55,9 @@ pub none-size : (σ : List (ℕ × Message)) (p : ℕ) (s : List Message) → p 
 unfolding capped allSizes firsts
 none-size σ p s e = rw e
 
-pub one-size : (σ : List (ℕ × Message)) (l : List ℕ) → allSizes σ (firsts 1 (spelled l)) ≡ messageSize (resolve σ (messageAt l))
+pub one-size : (σ : List (ℕ × Message)) {l ws : List ℕ} → l ≡ ws → allSizes σ (firsts 1 (spelled l)) ≡ messageSize (resolve σ (messageAt ws))
 unfolding allSizes firsts messageAt
-one-size σ l = add-zero _
+one-size σ e = rw e (add-zero _)
 
 sizes-word : (σ : List (ℕ × Message)) (m : MessageWord) (p : ℕ) (s : List Message) → allSizes σ (firsts (suc p) (push m s)) ≡ ownSize σ m + allSizes σ (firsts (p + arityOf m) s)
 unfolding allSizes firsts push topMessage ownSize shapeOf messageSize
@@ -60,12 +70,16 @@ sizes-word σ Empty p s = rw (resolve-empty, add-zero p)
 sizes-word σ Path p s = let e : p + 2 ≡ suc (suc p) = omega arith in rw (resolve-path, e, drop-drop 1 1 s) (omega arith)
 sizes-word σ Unfit p s = rw (resolve-empty, add-zero p)
 
-pub sizes-first : (σ : List (ℕ × Message)) (l : List ℕ) (p : ℕ) → 0 < p
+sizes-first : (σ : List (ℕ × Message)) (l : List ℕ) (p : ℕ) → 0 < p
     → allSizes σ (firsts p (spelled l)) ≡ ownSize σ (firstWord l) + allSizes σ (firsts (p - 1 + arityOf (firstWord l)) (spelled (drop 1 l)))
 sizes-first σ l zero h = absurd (omega arith)
 sizes-first σ l (suc p) h =
     let q : suc p - 1 ≡ p = omega arith in
     rw (q, firsts-first (suc p) l) (sizes-word σ (firstWord l) p (spelled (drop 1 l)))
+
+pub sizes-sum : (σ : List (ℕ × Message)) (l : List ℕ) (p : ℕ) → 0 < p → {m : MessageWord} {a : ℕ} {ws : List ℕ} → m ≡ firstWord l → a ≡ arityOf (firstWord l) → ws ≡ drop 1 l → {o r t : ℕ}
+    → o ≡ capped (ownSize σ m) → r ≡ capped (allSizes σ (firsts (p - 1 + a) (spelled ws))) → t ≡ capped (o + r) → t ≡ capped (allSizes σ (firsts p (spelled l)))
+sizes-sum σ l p h {m} {a} {ws} e₁ e₂ e₃ = capped-sum (ownSize σ m) (allSizes σ (firsts (p - 1 + a) (spelled ws))) (rw (e₁, e₂, e₃) (sizes-first σ l p h))
 
 size-free : (σ : List (ℕ × Message)) (m : MessageWord) → Free σ m → ownSize σ m ≡ 1
 unfolding ownSize messageSize

@@ -1,10 +1,11 @@
 -- The bindings as they are held: arrays of 32, filled from the end, so that those from `first` on are newest first.
 -- Assumes nothing: these are definitions.
-use Prim.Native.Nat.{ℕ, _≤_}
-use mathlib.Core.List.{List}
+use Prim.Native.Nat.{ℕ, _-_, _≤_}
+use mathlib.Core.List.{List, [], _∷_}
 use mathlib.Core.Path.{_≡_}
 use lib.ListN.{drop}
 use Rattle.read_messages.specs.Message.{Message}
+use Rattle.read_messages.specs.Spelling.{messageAt}
 use Rattle.engine_bindings.specs.Bindings.{bindingsIn}
 use Rattle.base_slices.specs.Sums.{capped}
 use Rattle.engine_bindings.specs.Measures.{itemCount}
@@ -26,3 +27,21 @@ bindingsOf script b = bindingsIn script (drop (b .first) (b .variables)) (drop (
 pub record Held (script : List ℕ) (b : Bindings) : Type 0 where
   pub within : b .first ≤ 32
   pub cached : Cached script (drop (b .first) (b .variables)) (drop (b .first) (b .places)) (drop (b .first) (b .counts)) (drop (b .first) (b .sizes)) (drop (b .first) (b .bulks))
+
+-- no bindings are held
+pub record NoneHeld (script : List ℕ) (b : Bindings) : Type 0 where
+  -- what is kept with them is right
+  pub held : Held script b
+  -- there are none
+  pub none : bindingsOf script b ≡ []
+  -- there is room for 32
+  pub room : b .first ≡ 32
+
+-- r holds the bindings that b holds, and one more, of the message at a word of the script
+pub record OneMore (script : List ℕ) (b : Bindings) (v at : ℕ) (r : Bindings) : Type 0 where
+  -- what is kept with them is right
+  pub held : Held script r
+  -- the new binding comes first
+  pub bindings : bindingsOf script r ≡ (v, messageAt (drop at script)) ∷ bindingsOf script b
+  -- there is room for one less
+  pub room : r .first ≡ b .first - 1

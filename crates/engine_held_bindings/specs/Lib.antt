@@ -1,3 +1,3 @@
--- What the contracts of `held_bindings` cite. Assumes nothing: these are definitions.
+-- What the contracts of `engine_held_bindings` cite. Assumes nothing: these are definitions.
 pub mod Sizes
 pub mod Held

@@ -1,12 +1,15 @@
 -- The words that messages are written with: of a message, of an action's items, and of items with one PATH each; and that
 -- what is kept of them with the bindings is right. Assumes nothing: these are definitions.
-use Prim.Native.Nat.{ℕ, suc, _+_, min}
+use Prim.Native.Nat.{ℕ, suc, _+_, _^_, _<_, min}
 use mathlib.Core.List.{List, [], _∷_}
+use lib.ListN.{length}
 use Rattle.read_messages.specs.Message.{Message, name, variable, enter, exit, opens, emptyMessage, path, items}
 use Rattle.read_messages.specs.declared.MessageWord.{MessageWord}
 use Rattle.read_messages.specs.declared.MessageWord.the-variants.{Name, Variable, Enter, Exit, Open, Empty, Path, Unfit}
 use Rattle.theory_closures.specs.Resolve.{resolve}
+use Rattle.engine_bindings.specs.Bindings.{bindingsIn}
 use Rattle.engine_bindings.specs.Measures.{itemCount, Kept}
+use Rattle.engine_bindings.specs.Passes.{ownItems}
 
 -- the number of words that a message is written with
 unfoldable pub messageSize : Message → ℕ
@@ -57,3 +60,21 @@ pub record Cached (script variables places counts sizes bulks : List ℕ) : Type
   pub counted : Kept itemCount script variables places counts
   pub sized : Kept messageSize script variables places sizes
   pub bulked : Kept itemBulk script variables places bulks
+
+-- what is asked where the bulk of the items that a word has of its own is counted from an offset on
+pub record OwnAsked (script words : List ℕ) (offset : ℕ) (variables places counts sizes bulks : List ℕ) : Type 0 where
+  -- what is kept with the bindings is right
+  pub cached : Cached script variables places counts sizes bulks
+  -- the offset is no count that stopped
+  pub below : offset < 4294967295
+  -- the word has an item there
+  pub within : offset < length (ownItems (bindingsIn script variables places) words)
+
+-- and where it is that of the items of the messages that are pending
+pub record PendingAsked (script words : List ℕ) (pending offset : ℕ) (variables places counts sizes bulks : List ℕ) : Type 0 where
+  -- the messages and the words can be counted together
+  pub room : pending + length words < 2 ^ 64
+  -- what is kept with the bindings is right
+  pub cached : Cached script variables places counts sizes bulks
+  -- the offset is no count that stopped
+  pub below : offset < 4294967295

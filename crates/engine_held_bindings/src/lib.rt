@@ -14,8 +14,8 @@ use engine_message_words::first_word;
 use engine_message_words::given;
 use read_messages::MessageWord;
 ghost use mathlib.Core.Path.{_≡_};
-ghost use Prim.Native.Nat.{ℕ, _+_, _-_, _<_, _^_};
-ghost use mathlib.Core.List.{List, [], _∷_};
+ghost use Prim.Native.Nat.{ℕ, _+_, _<_, _^_};
+ghost use mathlib.Core.List.{List};
 ghost use lib.ListN.{length, drop};
 ghost use Rattle.read_messages.specs.Message.{items};
 ghost use Rattle.read_messages.specs.Spelling.{spelled, messageAt};
@@ -24,8 +24,8 @@ ghost use Rattle.engine_bindings.specs.Bindings.{bindingsIn};
 ghost use Rattle.base_slices.specs.Sums.{capped};
 ghost use Rattle.engine_bindings.specs.Measures.{Kept};
 ghost use Rattle.engine_bindings.specs.Passes.{firsts, allItems, ownItems};
-ghost use Rattle.engine_held_bindings.specs.Sizes.{messageSize, itemsSize, bulk, cappedItems, Cached, allSizes, ownSize};
-ghost use Rattle.engine_held_bindings.specs.Held.{Measures, bindingsOf, Held};
+ghost use Rattle.engine_held_bindings.specs.Sizes.{messageSize, itemsSize, bulk, cappedItems, Cached, allSizes, ownSize, OwnAsked, PendingAsked};
+ghost use Rattle.engine_held_bindings.specs.Held.{Measures, bindingsOf, Held, NoneHeld, OneMore};
 
 // What is counted of a message when it is bound: its items, the words that it is written with, and the words of its items
 // with one PATH each; each at most 2^32 - 1.
@@ -93,7 +93,7 @@ fn own_bulk(
     sizes: &[u32],
     bulks: &[u32],
 ) -> u32
-    requires { ⌜ Cached (now script) (now variables) (now places) (now counts) (now sizes) (now bulks) × (offset < 4294967295) × (offset < length (ownItems (bindingsIn (now script) (now variables) (now places)) (now words))) ⌝ }
+    requires { ⌜ OwnAsked (now script) (now words) offset (now variables) (now places) (now counts) (now sizes) (now bulks) ⌝ }
     ensures { λ r. ⌜ r ≡ capped (bulk (drop offset (ownItems (bindingsIn (now (script .entry)) (now (variables .entry)) (now (places .entry))) (now (words .entry))))) ⌝ }
 {
     let k = bound(first_word(words), variables);
@@ -129,7 +129,7 @@ fn bulk_from(
     sizes: &[u32],
     bulks: &[u32],
 ) -> u32
-    requires { ⌜ (pending + length (now words) < 2 ^ 64) × Cached (now script) (now variables) (now places) (now counts) (now sizes) (now bulks) × (offset < 4294967295) ⌝ }
+    requires { ⌜ PendingAsked (now script) (now words) pending offset (now variables) (now places) (now counts) (now sizes) (now bulks) ⌝ }
     ensures { λ r. ⌜ r ≡ capped (bulk (drop offset (allItems (bindingsIn (now (script .entry)) (now (variables .entry)) (now (places .entry))) (firsts pending (spelled (now (words .entry))))))) ⌝ }
 {
     if pending == 0 {
@@ -276,7 +276,7 @@ fn measure_held(script: &[u32], at: usize, b: Bindings) -> Measured
 
 // No bindings.
 pub fn none() -> Bindings
-    ensures { λ r. ⌜ ((script : List ℕ) → Held script r × (bindingsOf script r ≡ []) × (r .first ≡ 32)) ⌝ }
+    ensures { λ r. ⌜ ((script : List ℕ) → NoneHeld script r) ⌝ }
 {
     Bindings {
         variables: [0; 32],
@@ -291,7 +291,7 @@ pub fn none() -> Bindings
 // The bindings with one more, of the message at a word of the script.
 pub fn bind(script: &[u32], b: Bindings, v: u32, at: u32) -> Bindings
     requires { ⌜ Held (now script) b × (0 < b .first) ⌝ }
-    ensures { λ r. ⌜ Held (now (script .entry)) r × (bindingsOf (now (script .entry)) r ≡ (v, messageAt (drop at (now (script .entry)))) ∷ bindingsOf (now (script .entry)) b) × (r .first ≡ b .first - 1) ⌝ }
+    ensures { λ r. ⌜ OneMore (now (script .entry)) b v at r ⌝ }
 {
     let m = measure_held(script, wide(at), b);
     let next = b.first - 1;

@@ -3,19 +3,16 @@ use Prim.Native.Nat.{ℕ, suc, _+_, _-_, _≤_, _<_}
 use mathlib.Core.List.{List, [], _∷_, _++_, append-assoc, append-nil}
 use mathlib.Core.Path.{_≡_, refl, sym, ap, _∙_}
 use native.Mathlib.Omega.{arith}
-use lib.ListN.{length, drop, getD, length-append, length-drop, drop-of-length-le}
+use lib.ListN.{length, drop, length-append, length-drop, drop-of-length-le}
 use lib.Seq.{drop-nil}
 use borrow.Author.Tests.{le-leb, lt-leb}
 use Rattle.read_messages.specs.Words.{word}
 use Rattle.read_messages.specs.Message.{Message}
 use Rattle.read_messages.specs.Spelling.{spelled, messageAt}
 use Rattle.theory_closures.specs.Resolve.{resolve}
-use Rattle.engine_bindings.specs.Bindings.{bindingsIn}
-use Rattle.engine_message_words.specs.Words.{firstWord, boundAt}
 use Rattle.base_slices.specs.Sums.{capped}
-use Rattle.engine_bindings.specs.Passes.{firsts, allItems, ownItems}
+use Rattle.engine_bindings.specs.Passes.{firsts}
 use Rattle.base_slices.proofs.Capping.{whole-count, below-count}
-use Rattle.engine_bindings.proofs.Passing.{one-message, given-items}
 use Rattle.engine_bindings.proofs.Counting.{drop-within}
 use Rattle.theory_written_trees.specs.Write.{Indices, writeMessage, oneMessage}
 use Rattle.write_messages.specs.Passes.{allWritten, link, strung}
@@ -57,11 +54,6 @@ strung-whole ix l (m ∷ is) e h = rw e (whole-strung ix m is)
 pub strung-none : (ix : Indices) (l o : ℕ) (x : List Message) → x ≡ [] → strung ix l (drop o x) ≡ []
 unfolding strung
 strung-none ix l o x e = rw (e, drop-nil {A = Message} o)
-
--- a variable with a binding has the items of that binding's message
-pub given-own : (script vs ps ws : List ℕ) (k : ℕ) → length ps ≡ length vs → k < length vs → k ≡ boundAt (firstWord ws) vs → {us qs g : List ℕ} → us ≡ drop (k + 1) vs → qs ≡ drop (k + 1) ps → g ≡ drop (getD ps k 0) script
-    → allItems (bindingsIn script us qs) (firsts 1 (spelled g)) ≡ ownItems (bindingsIn script vs ps) ws
-given-own script vs ps ws k a h b e₁ e₂ e₃ = rw (e₁, e₂, e₃) (one-message _ _ ∙ given-items script vs ps a k h ws b)
 
 -- the item that a message is as a whole
 pub strung-single : (ix : Indices) (σ : List (ℕ × Message)) (n : ℕ) (x : List Message) (l : List ℕ) → x ≡ resolve σ (messageAt l) ∷ []

@@ -1,10 +1,12 @@
 -- Writing at the front of a buffer, and lending the tail behind it: one law for every lending. Assumes nothing.
-use Prim.Native.Nat.{ℕ, _+_, _-_, _≤_, _<_}
+use Prim.Native.Nat.{ℕ, _+_, _-_, _*_, _^_, _≤_, _<_}
 use mathlib.Core.List.{List, [], _∷_, _++_, append-assoc, append-nil}
 use mathlib.Core.Path.{_≡_, refl, sym, ap, _∙_}
 use native.Mathlib.Omega.{arith}
 use lib.ListN.{length, take, drop, set, length-append, length-drop, drop-of-length-le}
 use lib.Seq.{take-all, drop-drop, take-at, drop-at, length-take-le}
+use mir.Syntax.{w64}
+use mir.Val.{Fits}
 use Rattle.write_messages.specs.Buffer.{over, Front, Wrote}
 
 -- the tail of the buffer behind m words, as it is lent, and the buffer when the tail comes back as ys
@@ -37,17 +39,24 @@ over-more A B xs ys zs m e y z =
 
 -- The first writer says m words, and leaves the buffer xs as ys, with its length: then the tail behind them is lent.
 pub record Partly (xs ys : List ℕ) (m : ℕ) : Type 0 where
+  pub long : length xs * 4 < 2 ^ 63
   pub within : m ≤ length xs
   pub kept : length ys ≡ length xs
 
 pub partly-behind : {xs ys : List ℕ} {m : ℕ} → Partly xs ys m → m ≤ length ys
 partly-behind b = omega (arith, b .within, b .kept)
 
+pub partly-bytes : {xs ys : List ℕ} {m : ℕ} → Partly xs ys m → Fits w64 (m * 4)
+partly-bytes b = omega (arith, b .within, b .long)
+
 pub partly-lent : {xs ys : List ℕ} {m : ℕ} → Partly xs ys m → length (lent m ys) + m ≡ length xs
 partly-lent {xs} {ys} {m} b = omega (arith, lent-length m ys, b .within, b .kept)
 
 pub partly-within : {xs ys : List ℕ} {m r : ℕ} → Partly xs ys m → r ≤ length (lent m ys) → r + m ≤ length xs
 partly-within b h = omega (arith, partly-lent b)
+
+pub partly-sum : {xs ys : List ℕ} {m r : ℕ} → Partly xs ys m → r ≤ length (lent m ys) → Fits w64 (r + m)
+partly-sum b h = omega (arith, partly-within b h, b .long)
 
 -- the lent tail comes back with its length
 pub partly-kept : {xs ys : List ℕ} {m : ℕ} → Partly xs ys m → (zs : List ℕ) → length zs ≡ length (lent m ys) → length (joined m ys zs) ≡ length xs

@@ -1,4 +1,4 @@
--- The laws of `message_writer` that its own proofs and the crates above cite.
+-- The laws of `write_messages` that its own proofs and the crates above cite.
 pub mod Lending
 pub mod Receipts
 pub mod Words

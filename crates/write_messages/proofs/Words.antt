@@ -25,7 +25,7 @@ use Rattle.base_slices.proofs.Tests.{byTest}
 use Rattle.theory_closures.proofs.Resolving.{resolve-name, resolve-enter, resolve-exit, resolve-opens, resolve-empty, resolve-path}
 use Rattle.engine_bindings.proofs.Counting.{kept-drop}
 use Rattle.engine_message_words.proofs.FirstWords.{bound, bound-variable}
-use Rattle.engine_bindings.proofs.Passing.{firsts-first, Free, given-place, room}
+use Rattle.engine_bindings.proofs.Passing.{firsts-first, Free, given-place}
 use Rattle.theory_written_trees.specs.Write.{Indices, writeMessage, oneMessage}
 use Rattle.write_messages.specs.Passes.{allWritten, plainWord}
 
@@ -148,11 +148,6 @@ written-bound ix script vs ps l (suc p) k z a b h {us} {qs} e₁ e₂ e₃ e₄ 
     let q : suc p - 1 ≡ p = omega arith in
     elim (bound-variable vs (firstWord l) k b h)
     [ bound v e g ↦ rw (q, firsts-first (suc p) l, one-written ix (bindingsIn script us qs) e₃, e₁, e₂, e₄, given-place script vs ps a k h v g) (sym (written-variable ix (bindingsIn script vs ps) (firstWord l) v p (spelled (drop 1 l)) e)) ]
-
--- what stands behind the first word is less
-
-pub less-behind : {ws : List ℕ} (l : List ℕ) (p a : ℕ) → ws ≡ drop 1 l → 0 < p → a ≤ arityOf (firstWord l) → (p - 1 + a + length ws ≤ p + length l) × (3 * length ws + (p - 1 + a) < 3 * length l + p)
-less-behind l p a e h f = rw e (room l p a 0 h f)
 
 -- what is lent to the writer of a binding's message: the script's words from an index on, and the older bindings
 

@@ -19,8 +19,3 @@ pub record Front (words before after : List ℕ) (r : ℕ) : Type 0 where
 pub record Wrote (words before after : List ℕ) (r : ℕ) : Type 0 where
   pub within : r ≤ length before
   pub right : length words ≤ length before → Front words before after r
-
--- To unfold this is to unfold every definition of this module: for a proof by computation.
-unfoldable pub computing : Unit {0}
-unfolding over
-computing = tt

@@ -16,8 +16,3 @@ indicesIn (v ∷ vs) (i ∷ is) = (v, i) ∷ indicesIn vs is
 pub record Indexed (receipts indices : List ℕ) : Type 0 where
   pub paired : length indices ≡ length receipts
   pub small : (k : ℕ) → getD indices k 0 < 268435456
-
--- To unfold this is to unfold every definition of this module: for a proof by computation.
-unfoldable pub computing : Unit {0}
-unfolding indicesIn
-computing = tt

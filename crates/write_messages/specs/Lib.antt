@@ -1,4 +1,5 @@
--- What the contracts of `message_writer` cite. Assumes nothing: these are definitions.
+-- What the contracts of `write_messages` cite. Assumes nothing: these are definitions.
 pub mod Buffer
 pub mod Indices
 pub mod Passes
+pub mod Asked

@@ -35,8 +35,3 @@ link l = cond (leb l 1) [] (word 14 0 ∷ [])
 unfoldable pub strung : Indices → (left : ℕ) → List Message → List ℕ
 strung ix l [] = []
 strung ix l (m ∷ ms) = (link l ++ writeMessage ix m) ++ strung ix (l - 1) ms
-
--- To unfold this is to unfold every definition of this module: for a proof by computation.
-unfoldable pub computing : Unit {0}
-unfolding allWritten plainWord link strung
-computing = tt

@@ -21,11 +21,11 @@ ghost use Rattle.read_messages.specs.Spelling.{spelled, messageAt};
 ghost use Rattle.read_messages.specs.declared.MessageWord.the-variants.{Name};
 ghost use Rattle.theory_closures.specs.Resolve.{resolve};
 ghost use Rattle.engine_bindings.specs.Bindings.{bindingsIn};
-ghost use Rattle.engine_bindings.specs.Measures.{Kept, itemCount};
 ghost use Rattle.engine_bindings.specs.Passes.{firsts, allItems, ownItems};
 ghost use Rattle.theory_written_trees.specs.Write.{newIndex, writeMessage, oneMessage};
 ghost use Rattle.write_messages.specs.Buffer.{Wrote};
 ghost use Rattle.write_messages.specs.Indices.{indicesIn, Indexed};
+ghost use Rattle.write_messages.specs.Asked.{MessagesAsked, ItemsAsked};
 ghost use Rattle.write_messages.specs.Passes.{allWritten, plainWord, link, strung};
 
 // Writes one word, if there is room; says how many words it wrote.
@@ -79,7 +79,7 @@ fn write_from(
     indices: &[u32],
     out: &mut [u32],
 ) -> usize
-    requires { ⌜ (pending + length (now words) < 2 ^ 64) × (length (now places) ≡ length (now variables)) × Indexed (now receipts) (now indices) ⌝ }
+    requires { ⌜ MessagesAsked (now words) pending (now variables) (now places) (now receipts) (now indices) ⌝ }
     ensures { λ r. ⌜ Wrote (allWritten (indicesIn (now (receipts .entry)) (now (indices .entry))) (bindingsIn (now (script .entry)) (now (variables .entry)) (now (places .entry))) (firsts pending (spelled (now (words .entry))))) (now (out .entry)) (now (out .exit)) r ⌝ }
 {
     if pending == 0 {
@@ -182,7 +182,7 @@ fn write_own(
     indices: &[u32],
     out: &mut [u32],
 ) -> usize
-    requires { ⌜ Kept itemCount (now script) (now variables) (now places) (now counts) × Indexed (now receipts) (now indices) × (offset + length (now out) < 4294967295) × (offset < length (ownItems (bindingsIn (now script) (now variables) (now places)) (now words))) ⌝ }
+    requires { ⌜ ItemsAsked (now script) offset (now variables) (now places) (now counts) (now receipts) (now indices) (now out) × (offset < length (ownItems (bindingsIn (now script) (now variables) (now places)) (now words))) ⌝ }
     ensures { λ r. ⌜ Wrote (strung (indicesIn (now (receipts .entry)) (now (indices .entry))) left (drop offset (ownItems (bindingsIn (now (script .entry)) (now (variables .entry)) (now (places .entry))) (now (words .entry))))) (now (out .entry)) (now (out .exit)) r ⌝ }
 {
     let k = bound(first_word(words), variables);
@@ -231,7 +231,7 @@ fn write_rest(
     indices: &[u32],
     out: &mut [u32],
 ) -> usize
-    requires { ⌜ (pending + length (now words) < 2 ^ 64) × Kept itemCount (now script) (now variables) (now places) (now counts) × Indexed (now receipts) (now indices) × (offset + length (now out) < 4294967295) ⌝ }
+    requires { ⌜ (pending + length (now words) < 2 ^ 64) × ItemsAsked (now script) offset (now variables) (now places) (now counts) (now receipts) (now indices) (now out) ⌝ }
     ensures { λ r. ⌜ Wrote (strung (indicesIn (now (receipts .entry)) (now (indices .entry))) left (drop offset (allItems (bindingsIn (now (script .entry)) (now (variables .entry)) (now (places .entry))) (firsts pending (spelled (now (words .entry))))))) (now (out .entry)) (now (out .exit)) r ⌝ }
 {
     if pending == 0 {
@@ -297,7 +297,7 @@ pub fn write_items(
     indices: &[u32],
     out: &mut [u32],
 ) -> usize
-    requires { ⌜ Kept itemCount (now script) (now variables) (now places) (now counts) × Indexed (now receipts) (now indices) × (offset + length (now out) < 4294967295) ⌝ }
+    requires { ⌜ ItemsAsked (now script) offset (now variables) (now places) (now counts) (now receipts) (now indices) (now out) ⌝ }
     ensures { λ r. ⌜ Wrote (writeMessage (indicesIn (now (receipts .entry)) (now (indices .entry))) (oneMessage (drop offset (items (resolve (bindingsIn (now (script .entry)) (now (variables .entry)) (now (places .entry))) (messageAt (drop at (now (script .entry))))))))) (now (out .entry)) (now (out .exit)) r ⌝ }
 {
     let n = item_count(script, at, variables, places, counts);

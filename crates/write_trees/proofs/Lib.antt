@@ -1,4 +1,4 @@
--- The laws of `writer` that its own proofs cite.
+-- The laws of `write_trees` that its own proofs cite.
 pub mod Parts
 pub mod Writing
 pub mod Answers

@@ -14,7 +14,7 @@ use Rattle.write_messages.proofs.Lending.{lent, joined, Partly, partly-within, 
 use Rattle.write_trees.specs.Bodies.{hasBody, Writes, WritesPart}
 use Rattle.write_trees.proofs.Parts.{no-tops, no-parts, part-body, part-only, by-first}
 
-module _ (ix : Indices) (σ : Bindings) (k : ℕ → List ℕ) (w : ℕ → ClosureHead) (left : List ℕ) (i fuel : ℕ) where
+module _ {ix : Indices} {σ : Bindings} {k : ℕ → List ℕ} {w : ℕ → ClosureHead} {left : List ℕ} {i fuel : ℕ} where
   -- a buffer of no words has no room for any body
   pub writes-full : {xs ys : List ℕ} → length xs ≡ 0 → Writes ix σ k w left i fuel xs ys 0
   writes-full z = record { within = omega arith; written = λ b e g m. wrote-full (omega (arith, some-written ix i (unfolded σ b))) }
@@ -37,7 +37,7 @@ module _ (ix : Indices) (σ : Bindings) (k : ℕ → List ℕ) (w : ℕ → Clos
         wrote-as e (rest .written q tq hq (omega (arith, f)))));
   }
 
-  module _ (h : ClosureHead) {xs ys : List ℕ} {m : ℕ} (head : Wrote (writeHead ix (unfoldHead σ h)) xs ys m) where
+  module _ {h : ClosureHead} {xs ys : List ℕ} {m : ℕ} (head : Wrote (writeHead ix (unfoldHead σ h)) xs ys m) where
     -- a part's head, and then its body
     pub writes-inside : hasBody h ≡ true → {jx : Indices} → jx ≡ within (unfoldHead σ h) i ix → {zs : List ℕ} {r : ℕ} → Partly xs ys m
         → Writes jx σ k w left (i + m) fuel (lent m ys) zs r → WritesPart ix σ k w left h i fuel xs (joined m ys zs) (r + m)

@@ -30,8 +30,3 @@ pub record BodyAround (around : Around) (kind start index : ℕ) (r : Around) : 
   pub right : Right r
   pub room : around .first ≤ r .first + 1
   pub indices : (script : List ℕ) (σ : Bindings) (offset : ℕ) → indicesOf r ≡ within (unfoldHead σ (headOf script kind start offset)) index (indicesOf around)
-
--- To unfold this is to unfold every definition of this module: for a proof by computation.
-unfoldable pub computing : Unit {0}
-unfolding indicesOf
-computing = tt

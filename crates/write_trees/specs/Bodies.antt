@@ -52,8 +52,3 @@ pub record Writes (ix : Indices) (σ : Bindings) (bodies : ℕ → List ℕ) (he
 pub record WritesPart (ix : Indices) (σ : Bindings) (bodies : ℕ → List ℕ) (heads : ℕ → ClosureHead) (inside : List ℕ) (head : ClosureHead) (i fuel : ℕ) (before after : List ℕ) (r : ℕ) : Type 0 where
   pub within : r ≤ length before
   pub written : (b : Closure) → inside ≡ tops b → Held bodies heads b → parts b ≤ fuel → Wrote (writePart ix i (unfoldHead σ head) (unfolded σ b)) before after r
-
--- To unfold this is to unfold every definition of this module: for a proof by computation.
-unfoldable pub computing : Unit {0}
-unfolding hasBody writeLabel
-computing = tt

@@ -1,4 +1,5 @@
--- What the contracts of `writer` cite. Assumes nothing: these are definitions.
+-- What the contracts of `write_trees` cite. Assumes nothing: these are definitions.
 pub mod Room
 pub mod Around
 pub mod Bodies
+pub mod Asked

@@ -27,8 +27,3 @@ buffered ws buffer = cond (leb (length ws) (room buffer)) (over ws buffer) buffe
 pub record Fitted (words before after : List ℕ) (r : Fitting) : Type 0 where
   pub said : r ≡ answered words before
   pub left : after ≡ buffered words before
-
--- To unfold this is to unfold every definition of this module: for a proof by computation.
-unfoldable pub computing : Unit {0}
-unfolding room answered buffered
-computing = tt

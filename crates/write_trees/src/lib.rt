@@ -11,7 +11,7 @@ use write_messages::write_message;
 use write_messages::write_word;
 ghost use mathlib.Core.Path.{_≡_};
 ghost use mathlib.Core.List.{List, []};
-ghost use Prim.Native.Nat.{ℕ, _+_, _≤_, _<_};
+ghost use Prim.Native.Nat.{ℕ, _≤_, _<_};
 ghost use lib.ListN.{length};
 ghost use Rattle.base_sets.specs.Sets.{members};
 ghost use Rattle.read_messages.specs.Words.{word};
@@ -19,15 +19,16 @@ ghost use Rattle.read_scripts.specs.Tree.{kindNumber, tops, parts};
 ghost use Rattle.read_scripts.specs.Represents.{Held, bodyIn};
 ghost use Rattle.engine_bindings.specs.Bindings.{bindingsIn};
 ghost use Rattle.base_slices.specs.Sums.{capped};
-ghost use Rattle.engine_bindings.specs.Measures.{Kept, itemCount};
 ghost use Rattle.engine_held_bindings.specs.Sizes.{Cached};
 ghost use Rattle.theory_closures.specs.Closure.{Closure, unfoldHead, unfolded};
 ghost use Rattle.engine_states.specs.Represents.{headOf, heads};
 ghost use Rattle.theory_written_trees.specs.Write.{Indices, writeHead, write};
 ghost use Rattle.write_messages.specs.Buffer.{Wrote};
-ghost use Rattle.write_messages.specs.Indices.{indicesIn, Indexed};
+ghost use Rattle.write_messages.specs.Indices.{indicesIn};
+ghost use Rattle.write_messages.specs.Asked.{ItemsAsked};
 ghost use Rattle.write_trees.specs.Room.{Fitted};
-ghost use Rattle.write_trees.specs.Around.{indicesOf, Right, NoneAround, BodyAround};
+ghost use Rattle.write_trees.specs.Around.{indicesOf, NoneAround, BodyAround};
+ghost use Rattle.write_trees.specs.Asked.{AroundAsked, HeadAsked, PartAsked, BodyAsked};
 ghost use Rattle.write_trees.specs.Bodies.{hasBody, writeLabel, Scripted, CountsPart, CountsBody, Writes, WritesPart};
 
 // The receipts around what is written, innermost first, from first on: their variables and their new indices.
@@ -244,7 +245,7 @@ fn nothing_around() -> Around
 
 // The receipts around the body of a part of that kind and start, whose word has the index.
 fn around_body(around: Around, kind: u8, start: u32, index: u32) -> Around
-    requires { ⌜ Right around × (0 < around .first) × (index < 268435456) × (start < 65536) ⌝ }
+    requires { ⌜ AroundAsked around start index ⌝ }
     ensures { λ r. ⌜ BodyAround around kind start index r ⌝ }
 {
     if kind != 3 {
@@ -283,7 +284,7 @@ fn write_label(
     indices: &[u32],
     out: &mut [u32],
 ) -> usize
-    requires { ⌜ Kept itemCount (now script) (now variables) (now places) (now counts) × Indexed (now receipts) (now indices) × (start < 65536) × (offset + length (now out) < 4294967295) ⌝ }
+    requires { ⌜ ItemsAsked (now script) offset (now variables) (now places) (now counts) (now receipts) (now indices) (now out) × (start < 65536) ⌝ }
     ensures { λ r. ⌜ Wrote (writeLabel (indicesIn (now (receipts .entry)) (now (indices .entry))) (unfoldHead (bindingsIn (now (script .entry)) (now (variables .entry)) (now (places .entry))) (headOf (now (script .entry)) kind start offset))) (now (out .entry)) (now (out .exit)) r ⌝ }
 {
     let at = wide(start);
@@ -318,7 +319,7 @@ fn write_head(
     around: Around,
     out: &mut [u32],
 ) -> usize
-    requires { ⌜ Kept itemCount (now script) (now variables) (now places) (now counts) × Right around × (start < 65536) × (offset + length (now out) < 4294967295) ⌝ }
+    requires { ⌜ HeadAsked (now script) start offset (now variables) (now places) (now counts) around (now out) ⌝ }
     ensures { λ r. ⌜ Wrote (writeHead (indicesOf around) (unfoldHead (bindingsIn (now (script .entry)) (now (variables .entry)) (now (places .entry))) (headOf (now (script .entry)) kind start offset))) (now (out .entry)) (now (out .exit)) r ⌝ }
 {
     let receipts = around.variables;
@@ -356,7 +357,7 @@ fn write_part<'a, 'b>(
     fuel: usize,
     out: &'b mut [u32],
 ) -> usize
-    requires { ⌜ Kept itemCount (now script) (now variables) (now places) (now counts) × Scripted (now starts) (now offsets) × Right around × (fuel < around .first) × (i < 64) × (0 < length (now out)) × (index + length (now out) ≤ 268435456) ⌝ }
+    requires { ⌜ PartAsked (now script) (now starts) (now offsets) (now variables) (now places) (now counts) around i index fuel (now out) ⌝ }
     ensures { λ r. ⌜ WritesPart (indicesOf around) (bindingsIn (now (script .entry)) (now (variables .entry)) (now (places .entry))) (bodyIn (now (kids .entry))) (heads (now (script .entry)) (now (kinds .entry)) (now (starts .entry)) (now (offsets .entry))) (bodyIn (now (kids .entry)) i) (heads (now (script .entry)) (now (kinds .entry)) (now (starts .entry)) (now (offsets .entry)) i) index fuel (now (out .entry)) (now (out .exit)) r ⌝ }
 {
     let kind = kinds[i];
@@ -411,7 +412,7 @@ fn write_body<'a, 'b>(
     fuel: usize,
     out: &'b mut [u32],
 ) -> usize
-    requires { ⌜ Kept itemCount (now script) (now variables) (now places) (now counts) × Scripted (now starts) (now offsets) × Right around × (fuel ≤ around .first) × (index + length (now out) ≤ 268435456) ⌝ }
+    requires { ⌜ BodyAsked (now script) (now starts) (now offsets) (now variables) (now places) (now counts) around index fuel (now out) ⌝ }
     ensures { λ r. ⌜ Writes (indicesOf around) (bindingsIn (now (script .entry)) (now (variables .entry)) (now (places .entry))) (bodyIn (now (kids .entry))) (heads (now (script .entry)) (now (kinds .entry)) (now (starts .entry)) (now (offsets .entry))) (members left) index fuel (now (out .entry)) (now (out .exit)) r ⌝ }
 {
     if out.len() == 0 {

@@ -1,73 +1,71 @@
 -- `engine_bindings::name_of` meets its contract. The measure is how many bindings are left. Assumes nothing.
-use Prim.Native.Nat.{ℕ, _+_, _<_}
+use Prim.Native.Nat.{ℕ, _<_}
 use mathlib.Core.Path.{sym, ap, _∙_}
 use native.Mathlib.Omega.{arith}
 use borrow.Author.Needs.{needs}
 use lib.ListN.{length, length-drop}
 use Rattle.read_messages.specs.Message.{nameOf}
-use Rattle.engine_bindings.proofs.Passing.{unbound-free, name-free, given-message}
-use borrow.Fn.Kinds.{In}
+use Rattle.engine_bindings.proofs.Passing.{first-bound, unbound-free, name-free, given-message}
+use borrow.Fn.Kinds.{In, Out}
 use borrow.Fn.PlainCycle.{Measures, is, falls, and}
 use Rattle.engine_bindings.proofs.name_of.Reads as name-of
-use Rattle.engine_bindings.proofs.name_of.Kinds as name-of-kinds
-use Rattle.engine_bindings.proofs.+name_of.Lts-name_of as name-of-lts
-use Rattle.engine_message_words.proofs.bound.Reads as bound-reads
-use Rattle.engine_message_words.proofs.first_word.Reads as first-word-reads
-use Rattle.engine_message_words.proofs.given.Reads as given-reads
-use Rattle.engine_message_words.proofs.plain_name.Reads as plain-name-reads
-use Rattle.base_slices.proofs.tail.Reads as tail-reads
+use Rattle.engine_bindings.proofs.name_of.Kinds.{ps, r}
+use Rattle.engine_bindings.proofs.+name_of.Lts-name_of as lts
+use Rattle.engine_message_words.proofs.bound.Reads as bound
+use Rattle.engine_message_words.proofs.first_word.Reads as first-word
+use Rattle.engine_message_words.proofs.given.Reads as given
+use Rattle.engine_message_words.proofs.plain_name.Reads as plain-name
+use Rattle.base_slices.proofs.tail.Reads as tail
 use Rattle.engine_bindings.proofs.+name_of.{statement}
 use Rattle.engine_bindings.proofs.+name_of.Tie.{close}
 
-abbrev μ-name-of : Measures 4 name-of-kinds.ps ℕ
-μ-name-of κs a = length (a .1 .1 .0 .now)
-
-abbrev name-of-at : ℕ → In 4 name-of-kinds.ps
-name-of-at t = and 4 name-of-kinds.ps (is 4 name-of-kinds.ps μ-name-of t) name-of.Pre
-
-abbrev name-of-below : ℕ → In 4 name-of-kinds.ps
-name-of-below t = and 4 name-of-kinds.ps (falls 4 name-of-kinds.ps _<_ μ-name-of t) name-of.Pre
-
-abbrev name-of-claims : ℕ → name-of-lts.Claims
-name-of-claims t = (first-word-reads.Asked, first-word-reads.Learnt, bound-reads.Asked, bound-reads.Learnt, given-reads.Asked, given-reads.Learnt, tail-reads.Asked, tail-reads.Learnt, name-of-below t, name-of.Post, plain-name-reads.Asked, plain-name-reads.Learnt)
+abbrev μ : Measures 4 ps ℕ
+μ κs a = length (a .1 .1 .0 .now)
 
 module _ (t : ℕ) where
-  -- the way from a place to one before it
-  abbrev bound-start : name-of-lts.After-bound (name-of-claims t) (name-of-at t) name-of.Post → name-of-lts.Start (name-of-claims t) (name-of-at t) name-of.Post
+  abbrev at : In 4 ps
+  at = and 4 ps (is 4 ps μ t) name-of.Pre
+
+  abbrev claims : lts.Claims
+  claims = (first-word.Asked, first-word.Learnt, bound.Asked, bound.Learnt, given.Asked, given.Learnt, tail.Asked, tail.Learnt, and 4 ps (falls 4 ps _<_ μ t) name-of.Pre, name-of.Post, plain-name.Asked, plain-name.Learnt)
+
+  -- the places, and the way from each to those before it
+  abbrev At : (lts.Claims → In 4 ps → Out 4 ps r → Type 0) → Type 0
+  At place = place claims at name-of.Post
+
+  abbrev bound-start : At lts.After-bound → At lts.Start
   bound-start c = c .before .before .before .before .before .before
 
-  name-of-name-of-requires : name-of-lts.Need-name-of-requires (name-of-claims t) (name-of-at t) name-of.Post
-  name-of-name-of-requires c κs =
-      let l = simp length-drop at (ap length (c .before .tail .ensures)) in
-      let m = simp length-drop at (ap length (c .tail2 .ensures)) in
-      (omega arith, omega arith)
+  abbrev named-tail : At lts.After-name-of → At lts.After-tail
+  named-tail c = c .before .before
 
-  name-of-returns : name-of-lts.Need-returns (name-of-claims t) (name-of-at t) name-of.Post
-  name-of-returns c =
-      let at-tail = c .before .before in let at-given = at-tail .before in let at-then1 = at-given .before in
-      let at-bound = at-then1 .before in let start = bound-start at-bound in
-      c .name-of .ensures
-      ∙ rw (at-given .given .ensures, at-tail .tail .ensures, c .before .tail2 .ensures)
-      (ap nameOf (given-message (start .args .script .now) (start .args .variables .now) (start .args .places .now) (start .pre .1) (at-bound .bound .result) (at-then1 .if1 .taken) (start .args .words .now) (rw (at-bound .before .first-word .ensures) at (at-bound .bound .ensures))))
+  abbrev tail-then : At lts.After-tail → At lts.Then1
+  tail-then c = c .before .before
 
-  name-of-returns-2 : name-of-lts.Need-returns-2 (name-of-claims t) (name-of-at t) name-of.Post
-  name-of-returns-2 c =
-      let at-bound = c .before .before in let start = bound-start at-bound in
-      let e = rw (at-bound .before .first-word .ensures) at (at-bound .bound .ensures) in
-      c .plain-name .ensures
-      ∙ rw (at-bound .before .first-word .ensures) (sym (name-free _ (start .args .words .now) (unbound-free (start .args .script .now) (start .args .variables .now) (start .args .places .now) _ (omega (arith, c .before .if1 .left)))))
+  abbrev plain-bound : At lts.After-plain-name → At lts.After-bound
+  plain-bound c = c .before .before
+
+  given-returns : At lts.Need-returns
+  given-returns c =
+      let l = named-tail c in
+      let g = tail-then l in
+      let f = g .before in
+      let s = bound-start f in
+      let a = s .args in
+      c .name-of .ensures ∙ ap nameOf (given-message (a .script .now) (a .variables .now) (a .places .now) (s .pre .1) _ (g .if1 .taken) (a .words .now) (first-bound _ _ (f .before .first-word .ensures) (f .bound .ensures)) (l .tail .ensures) (c .before .tail2 .ensures) (l .before .given .ensures))
+
+  older-requires : At lts.Need-name-of-requires
+  older-requires c κs = let l = simp length-drop at (ap length (c .before .tail .ensures)) in let m = simp length-drop at (ap length (c .tail2 .ensures)) in (omega arith, omega arith)
+
+  plain-returns : At lts.Need-returns-2
+  plain-returns c =
+      let b = plain-bound c in
+      let a = bound-start b .args in
+      c .plain-name .ensures ∙ rw (b .before .first-word .ensures) (sym (name-free _ (a .words .now) (unbound-free (a .script .now) (a .variables .now) (a .places .now) _ (omega (arith, first-bound _ _ (b .before .first-word .ensures) (b .bound .ensures), c .before .if1 .left)))))
+
+  met : {M : Type 1} → lts.Closed claims at name-of.Post M
+  met = lts.spec claims at name-of.Post (λ c κs. search needs) (λ c κs. search needs) (λ c κs. omega arith) (λ c. omega arith) (λ c κs. search needs)
+      (λ c. omega arith) (λ c κs. search needs) older-requires given-returns (λ c κs. search needs) plain-returns
 
 pub +name-of-spec : {M : Type 1} → statement M
-+name-of-spec =
-    close
-    μ-name-of
-    (λ t. name-of-lts.spec
-    (name-of-claims t)
-    (name-of-at t)
-    name-of.Post
-    (λ c κs. search needs) (λ c κs. search needs) (λ c κs. omega arith) (λ c. omega arith) (λ c κs. search needs)
-    (λ c. omega arith) (λ c κs. search needs)
-    (name-of-name-of-requires t)
-    (name-of-returns t)
-    (λ c κs. search needs)
-    (name-of-returns-2 t))
++name-of-spec = close μ (λ t. met t)

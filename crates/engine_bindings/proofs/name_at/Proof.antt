@@ -9,26 +9,23 @@ use Rattle.engine_bindings.proofs.name_at.Statement.{statement}
 use Rattle.engine_bindings.proofs.name_at.Tie as tie
 
 -- the way from a place to one before it
-abbrev else1-start : tie.Else1 → tie.Start
-else1-start c = c .before .before .before .before
+abbrev known-start : tie.After-shared-slice-known3 → tie.Start
+known-start c = c .before .before .before
+
+abbrev named-wide : tie.After-name-of → tie.After-wide
+named-wide c = c .before .before
 
 abbrev wide-start : tie.After-wide → tie.Start
-wide-start c = c .before .before .before .before .before
+wide-start c = known-start (c .before .before)
 
 returns : tie.Need-returns
 returns c =
-    let at-wide = c .before .before in
-    c .name-of .ensures ∙ rw (c .before .tail .ensures, at-wide .wide .ensures, message-word (wide-start at-wide .args .script .now) (wide-start at-wide .args .start) (lt-ltb _ _ (at-wide .before .if1 .taken)))
+    let w = named-wide c in
+    c .name-of .ensures ∙ rw (c .before .tail .ensures, w .wide .ensures, message-word (wide-start w .args .script .now) (wide-start w .args .start) (lt-ltb _ _ (w .before .if1 .taken)))
 
 returns-2 : tie.Need-returns-2
 unfolding nameOf
-returns-2 c =
-    rw (message-given (else1-start c .args .script .now) (else1-start c .args .start) (le-ltb _ _ (c .if1 .left)), resolve-name)
+returns-2 c = let a = known-start (c .before) .args in rw (message-given (a .script .now) (a .start) (le-ltb _ _ (c .if1 .left)), resolve-name)
 
 pub name-at-spec : {M : Type 1} → statement M
-name-at-spec =
-    tie.close
-    (tie.spec
-    (λ c κs. search needs) (λ c κs. search needs) (λ c κs. search needs)
-    returns
-    returns-2)
+name-at-spec = tie.close (tie.spec (λ c κs. search needs) (λ c κs. search needs) (λ c κs. search needs) returns returns-2)

@@ -4,20 +4,22 @@ use mathlib.Core.Path.{_≡_, refl}
 use native.Mathlib.Omega.{arith}
 use borrow.Author.Needs.{needs}
 use lib.ListN.{length}
-use Rattle.engine_bindings.specs.Bindings.{bindingsIn}
 use Rattle.engine_held_bindings.specs.Held.{bindingsOf}
 use Rattle.base_slices.proofs.Tails.{drop-set}
-use Rattle.engine_held_bindings.proofs.Sizing.{cached-more}
+use Rattle.engine_held_bindings.proofs.Sizing.{cached-as, cached-more, bindings-more}
 use Rattle.engine_held_bindings.proofs.bind.Statement.{statement}
 use Rattle.engine_held_bindings.proofs.bind.Tie as tie
 
-abbrev held-start : tie.After-measure-held → tie.Start
-held-start c = c .before .before .before
+abbrev known-wide : tie.After-struct-known → tie.After-wide
+known-wide c = c .before .before
+
+abbrev known-start : tie.After-struct-known → tie.Start
+known-start c = known-wide c .before .before
 
 returns : tie.Need-returns
-unfolding bindingsOf bindingsIn
+unfolding bindingsOf
 returns c =
-    let s = held-start (c .before) in
+    let s = known-start c in
     let l-variables : length (s .args .b .variables) ≡ 32 = search needs in
     let l-places : length (s .args .b .places) ≡ 32 = search needs in
     let l-counts : length (s .args .b .counts) ≡ 32 = search needs in
@@ -27,17 +29,13 @@ returns c =
     let places = drop-set (s .args .b .places) (s .args .b .first) (s .args .at) (s .pre .1) (omega arith) in
     let counts = drop-set (s .args .b .counts) (s .args .b .first) (c .before .measure-held .result .count) (s .pre .1) (omega arith) in
     let sizes = drop-set (s .args .b .sizes) (s .args .b .first) (c .before .measure-held .result .size) (s .pre .1) (omega arith) in
-    let bulks = drop-set (s .args .b .bulks) (s .args .b .first) (c .before .measure-held .result .bulk) (s .pre .1) (omega arith) in (
-      record { within = omega arith; cached = rw (variables, places, counts, sizes, bulks) (cached-more (s .args .v) (s .args .at) (c .before .measure-held .result) (s .pre .0 .cached) (rw (c .before .before .wide .ensures) at (c .before .measure-held .ensures))) },
-      rw (variables, places),
-      refl,
-    )
+    let bulks = drop-set (s .args .b .bulks) (s .args .b .first) (c .before .measure-held .result .bulk) (s .pre .1) (omega arith) in
+    record {
+      held = record { within = omega arith; cached = cached-as variables places counts sizes bulks (cached-more (s .args .v) (s .args .at) (c .before .measure-held .result) (s .pre .0 .cached) (known-wide c .wide .ensures) (c .before .measure-held .ensures)) };
+      bindings = bindings-more _ variables places;
+      room = refl;
+    }
 
 pub bind-spec : {M : Type 1} → statement M
-bind-spec =
-    tie.close
-    (tie.spec
-    (λ c κs. search needs) (λ c κs. search needs) (λ c. search needs) (λ c. search needs) (λ c. search needs)
-    (λ c. search needs) (λ c. search needs) (λ c. search needs) (λ c. search needs) (λ c. search needs)
-    (λ c. search needs) (λ c. search needs) (λ c. search needs)
-    returns)
+bind-spec = tie.close (tie.spec (λ c κs. search needs) (λ c κs. search needs) (λ c. search needs) (λ c. search needs) (λ c. search needs)
+    (λ c. search needs) (λ c. search needs) (λ c. search needs) (λ c. search needs) (λ c. search needs) (λ c. search needs) (λ c. search needs) (λ c. search needs) returns)

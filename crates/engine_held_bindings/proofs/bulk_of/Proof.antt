@@ -2,7 +2,6 @@
 use mathlib.Core.List.{List}
 use mathlib.Core.Path.{ap, _∙_}
 use borrow.Author.Needs.{needs}
-use lib.ListN.{drop}
 use Rattle.read_messages.specs.Message.{Message}
 use Rattle.base_slices.specs.Sums.{capped}
 use Rattle.engine_held_bindings.specs.Sizes.{bulk}
@@ -10,18 +9,8 @@ use Rattle.engine_bindings.proofs.Passing.{one-message}
 use Rattle.engine_held_bindings.proofs.bulk_of.Statement.{statement}
 use Rattle.engine_held_bindings.proofs.bulk_of.Tie as tie
 
--- the way from a place to one before it
-abbrev tail-start : tie.After-tail → tie.Start
-tail-start c = c .before .before .before .before .before .before .before
-
 returns : tie.Need-returns
-returns c =
-    (rw (c .before .tail .ensures) at (c .bulk-from .ensures))
-    ∙ ap (λ (l : List Message). capped (bulk l)) (one-message _ (drop (tail-start (c .before) .args .at) (tail-start (c .before) .args .script .now)))
+returns c = c .bulk-from .ensures ∙ ap (λ (l : List Message). capped (bulk l)) (one-message _ (c .before .tail .ensures))
 
 pub bulk-of-spec : {M : Type 1} → statement M
-bulk-of-spec =
-    tie.close
-    (tie.spec
-    (λ c κs. search needs) (λ c κs. search needs)
-    returns)
+bulk-of-spec = tie.close (tie.spec (λ c κs. search needs) (λ c κs. search needs) returns)

@@ -20,14 +20,13 @@ bulk-start c = c .before .before .before .before .before .before .before .before
 
 -- the bulk of the items from the offset on
 counted : (c : tie.After-bulk-from) → let a = bulk-start c .args in c .bulk-from .result ≡ capped (bulk (drop (a .offset) (items (resolve (bindingsIn (a .script .now) (a .variables .now) (a .places .now)) (messageAt (drop (a .at) (a .script .now)))))))
-counted c =
-    let a = bulk-start c .args in
-    (rw (c .before .tail .ensures) at (c .bulk-from .ensures)) ∙ ap (λ (l : List Message). capped (bulk (drop (a .offset) l))) (one-message _ (drop (a .at) (a .script .now)))
+counted c = c .bulk-from .ensures ∙ ap (λ (l : List Message). capped (bulk (drop (bulk-start c .args .offset) l))) (one-message _ (c .before .tail .ensures))
+
+returns : tie.Need-returns
+returns c = words-none _ _ (counted (c .before)) (c .if1 .taken)
+
+returns-2 : tie.Need-returns-2
+returns-2 c = words-some _ _ (counted (c .before)) (c .if1 .left)
 
 pub item-words-spec : {M : Type 1} → statement M
-item-words-spec =
-    tie.close
-    (tie.spec
-    (λ c κs. search needs) (λ c κs. search needs) (λ c. search needs)
-    (λ c. words-none _ _ (counted (c .before)) (c .if1 .taken))
-    (λ c. words-some _ _ (counted (c .before)) (c .if1 .left)))
+item-words-spec = tie.close (tie.spec (λ c κs. search needs) (λ c κs. search needs) (λ c. search needs) returns returns-2)

@@ -1,44 +1,38 @@
 -- `engine_held_bindings::measure_held` meets its contract. Assumes nothing.
-use mathlib.Core.Path.{sym, transport}
-use lib.ListN.{drop}
 use borrow.Author.Needs.{needs}
-use Rattle.read_messages.specs.Spelling.{messageAt}
-use Rattle.theory_closures.specs.Resolve.{resolve}
-use Rattle.engine_bindings.specs.Bindings.{bindingsIn}
-use Rattle.engine_held_bindings.specs.Held.{Measures, bindingsOf}
-use Rattle.engine_held_bindings.specs.Sizes.{Cached}
+use Rattle.engine_held_bindings.specs.Held.{bindingsOf}
+use Rattle.engine_held_bindings.proofs.Sizing.{cached-as, measures-as}
 use Rattle.engine_held_bindings.proofs.measure_held.Statement.{statement}
 use Rattle.engine_held_bindings.proofs.measure_held.Tie as tie
 
--- the start, from the first call
-abbrev variables-start : tie.After-variables2 → tie.Start
-variables-start c = c .before .before .before .before .before .before .before
+-- the way from a place to one before it: what each call is lent
+abbrev tail-start : tie.After-tail → tie.Start
+tail-start c = c .before .before .before .before .before .before .before .before
 
--- the place behind the second call, from the last of them
-abbrev tails-places : tie.After-tail5 → tie.After-tail2
-tails-places c = c .before .before .before .before .before .before
+abbrev places-variables : tie.After-tail2 → tie.After-tail
+places-variables c = c .before .before
+
+abbrev counts-places : tie.After-tail3 → tie.After-tail2
+counts-places c = c .before .before
+
+abbrev sizes-counts : tie.After-tail4 → tie.After-tail3
+sizes-counts c = c .before .before
+
+abbrev bulks-sizes : tie.After-tail5 → tie.After-tail4
+bulks-sizes c = c .before .before
 
 measure-requires : tie.Need-measure-requires
 measure-requires c κs =
-    let d = c .before .before in
-    let p = tails-places c in
-    let v = p .before .before in
-    let s = variables-start (v .before) in
-    transport (λ q. Cached (s .args .script .now) (sym (v .tail .ensures) q) (sym (p .tail2 .ensures) q) (sym (d .before .before .tail3 .ensures) q) (sym (d .tail4 .ensures) q) (sym (c .tail5 .ensures) q)) (s .pre .cached)
+    let z = bulks-sizes c in
+    let n = sizes-counts z in
+    let p = counts-places n in
+    let v = places-variables p in
+    cached-as (v .tail .ensures) (p .tail2 .ensures) (n .tail3 .ensures) (z .tail4 .ensures) (c .tail5 .ensures) (tail-start v .pre .cached)
 
 returns : tie.Need-returns
 unfolding bindingsOf
-returns c =
-    let p = tails-places (c .before) in
-    let v = p .before .before in
-    let a = variables-start (v .before) .args in
-    transport (λ q. Measures (resolve (bindingsIn (a .script .now) (v .tail .ensures q) (p .tail2 .ensures q)) (messageAt (drop (a .at) (a .script .now)))) (c .measure .result)) (c .measure .ensures)
+returns c = let p = counts-places (sizes-counts (bulks-sizes (c .before))) in measures-as _ _ (places-variables p .tail .ensures) (p .tail2 .ensures) (c .measure .ensures)
 
 pub measure-held-spec : {M : Type 1} → statement M
-measure-held-spec =
-    tie.close
-    (tie.spec
-    (λ c. search needs) (λ c κs. search needs) (λ c. search needs) (λ c κs. search needs) (λ c. search needs)
-    (λ c κs. search needs) (λ c. search needs) (λ c κs. search needs) (λ c. search needs) (λ c κs. search needs)
-    measure-requires
-    returns)
+measure-held-spec = tie.close (tie.spec (λ c. search needs) (λ c κs. search needs) (λ c. search needs) (λ c κs. search needs) (λ c. search needs)
+    (λ c κs. search needs) (λ c. search needs) (λ c κs. search needs) (λ c. search needs) (λ c κs. search needs) measure-requires returns)

@@ -9,11 +9,7 @@ use Rattle.engine_held_bindings.proofs.none.Tie as tie
 
 returns : tie.Need-returns
 unfolding bindingsOf bindingsIn
-returns c =
-    λ script. (record { within = omega arith; cached = cached-none script }, refl, refl)
+returns c script = record { held = record { within = omega arith; cached = cached-none script }; none = refl; room = refl }
 
 pub none-spec : {M : Type 1} → statement M
-none-spec =
-    tie.close
-    (tie.spec
-    returns)
+none-spec = tie.close (tie.spec returns)

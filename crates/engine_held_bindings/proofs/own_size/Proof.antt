@@ -2,7 +2,6 @@
 use mathlib.Core.Path.{ap, _∙_}
 use native.Mathlib.Omega.{arith}
 use borrow.Author.Needs.{needs}
-use Rattle.engine_bindings.specs.Bindings.{bindingsIn}
 use Rattle.base_slices.specs.Sums.{capped}
 use Rattle.engine_bindings.proofs.Passing.{unbound-free}
 use Rattle.engine_bindings.proofs.Counting.{kept-given}
@@ -14,21 +13,16 @@ use Rattle.engine_held_bindings.proofs.own_size.Tie as tie
 abbrev bound-start : tie.After-bound → tie.Start
 bound-start c = c .before .before .before
 
+abbrev read-bound : tie.After-shared-slice-known3 → tie.After-bound
+read-bound c = c .before .before
+
 returns : tie.Need-returns
-returns c =
-    let at-bound = c .before .before in
-    λ script places ok. kept-given ok _ (c .before .if1 .taken)
-    ∙ ap capped (given-size script (bound-start at-bound .args .variables .now) places (ok .aligned) _ (c .before .if1 .taken) (bound-start at-bound .args .m) (at-bound .bound .ensures))
+returns c script places ok =
+    let b = read-bound c in
+    kept-given ok _ (c .before .if1 .taken) ∙ ap capped (given-size script (bound-start b .args .variables .now) places (ok .aligned) _ (c .before .if1 .taken) (bound-start b .args .m) (b .bound .ensures))
 
 returns-2 : tie.Need-returns-2
-returns-2 c =
-    let start = bound-start (c .before) in
-    λ script places ok. capped-one (bindingsIn script (start .args .variables .now) places) (start .args .m) (unbound-free script (start .args .variables .now) places (start .args .m) (omega (arith, c .before .bound .ensures, c .if1 .left)))
+returns-2 c script places ok = let a = bound-start (c .before) .args in capped-one _ (a .m) (unbound-free script (a .variables .now) places (a .m) (omega (arith, c .before .bound .ensures, c .if1 .left)))
 
 pub own-size-spec : {M : Type 1} → statement M
-own-size-spec =
-    tie.close
-    (tie.spec
-    (λ c κs. search needs) (λ c. search needs) (λ c. search needs)
-    returns
-    returns-2)
+own-size-spec = tie.close (tie.spec (λ c κs. search needs) (λ c. search needs) (λ c. search needs) returns returns-2)

@@ -16,7 +16,7 @@ use Rattle.engine_settling.proofs.first_state.Statement.{statement}
 use Rattle.engine_settling.proofs.first_state.Tie as tie
 
 looked-requires : tie.Need-looked-requires
-looked-requires c κs = c .none .ensures (c .before .before .args .script .now) .0
+looked-requires c κs = c .none .ensures (c .before .before .args .script .now) .held
 
 returns : tie.Need-returns
 returns c =
@@ -31,7 +31,7 @@ returns c =
     let r = c .before .borrowed .result .state in
     let old : standing (l .sets) (l .numbers) ≡ s = z .1 in
     let new : r ≡ standing s₁ (l .numbers) = c .before .borrowed .ensures (z .0 .2) .2 in
-    let σ : boundIn (x .script .now) s ≡ [] = ap (bindingsOf (x .script .now)) (e .2) ∙ n .1 in
+    let σ : boundIn (x .script .now) s ≡ [] = ap (bindingsOf (x .script .now)) (e .2) ∙ n .none in
     let R : Ready (x .script .now) (x .kinds .now) (x .starts .now) (standing (l .sets) (l .numbers)) = subst (Ready (x .script .now) (x .kinds .now) (x .starts .now)) (sym old) (c .before .before .before .before .before .before .before .before .before .before .before .before .looked .ensures .0) in
     let same : r .bindings ≡ s .bindings = ap (λ (y : State). y .bindings) new ∙ ap (λ (y : State). y .bindings) old in (
       (
@@ -42,7 +42,7 @@ returns c =
       λ count b T. transport (λ q. Represents (x .script .now) (x .kinds .now) (x .starts .now) (parts b) 0 (sym new q) (settleUnder ((ap (boundIn (x .script .now)) old ∙ σ) q) (closureOf b)))
           (u .1 .1 (x .script .now) (x .kinds .now) (x .starts .now) (parts b) 0 (closureOf b) (z .0 .0) R (omega arith)
           (subst (λ (y : State). Represents (x .script .now) (x .kinds .now) (x .starts .now) (parts b) 0 y (closureOf b)) (sym old)
-          (begun (x .script .now) (x .kinds .now) (x .starts .now) (x .kids) count s b T (e .0) (e .1) (ap (λ (p : arrays.Bindings). p .first) (e .2) ∙ n .2)))),
+          (begun (x .script .now) (x .kinds .now) (x .starts .now) (x .kids) count s b T (e .0) (e .1) (ap (λ (p : arrays.Bindings). p .first) (e .2) ∙ n .room)))),
     )
 
 pub first-state-spec : {M : Type 1} → statement M

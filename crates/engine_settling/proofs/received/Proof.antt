@@ -24,8 +24,8 @@ returns-2 c =
         kids = n .0;
         members-of = c .before .union .ensures ∙ ap (joined (members (getD (x .t4 .kids) (x .a) 0))) (c .before .before .without2 .ensures ∙ ap (removed (x .t)) (c .before .before .before .without .ensures));
         offsets = n .1;
-        first = ap (λ (z : arrays.Bindings). z .first + 1) (n .2) ∙ (let e : c .before .before .before .before .before .before .before .before .bind .result .first + 1 ≡ x .t4 .bindings .first = omega (arith, b .2, c .before .before .before .before .before .before .before .before .before .before .before .if1 .left) in e);
-        news = ap (bindingsOf (x .script .now)) (n .2) ∙ b .1;
+        first = ap (λ (z : arrays.Bindings). z .first + 1) (n .2) ∙ (let e : c .before .before .before .before .before .before .before .before .bind .result .first + 1 ≡ x .t4 .bindings .first = omega (arith, b .room, c .before .before .before .before .before .before .before .before .before .before .before .if1 .left) in e);
+        news = ap (bindingsOf (x .script .now)) (n .2) ∙ b .bindings;
       },
     )
 

@@ -7,20 +7,24 @@ use Rattle.walk_rule_answers.proofs.name_said.Statement.{statement}
 use Rattle.walk_rule_answers.proofs.name_said.Tie as tie
 
 -- the way from a place to one before it
-abbrev result-t2 : tie.After-result → tie.After-t2
-result-t2 c = c .before .before .before
+abbrev constant-term : tie.After-t → tie.After-term-of
+constant-term c = c .before .before
+
+abbrev chosen-term : tie.After-t2 → tie.After-term-of
+chosen-term c = c .before .before
+
+abbrev then-chosen : tie.Then1 → tie.After-t2
+then-chosen c = c .before .before
+
+abbrev result-chosen : tie.After-result → tie.After-t2
+result-chosen c = c .before .before .before
 
 returns : tie.Need-returns
-returns c =
-    let at-t2 = c .before .before in
-    said-none _ _ _ (sym (at-t2 .t2 .given .1) ∙ at-t2 .before .before .term-of .ensures) (c .if1 .taken)
+returns c = let i = then-chosen c in said-none _ _ _ (sym (i .t2 .given .1) ∙ chosen-term i .term-of .ensures) (c .if1 .taken)
+
+returns-2 : tie.Need-returns-2
+returns-2 c = said-constant _ _ _ (sym (c .before .t .given .1) ∙ constant-term (c .before) .term-of .ensures)
 
 pub name-said-spec : {M : Type 1} → statement M
-name-said-spec =
-    tie.close
-    (tie.spec
-    (λ c κs. search needs) (λ c. search needs) (λ c. search needs)
-    returns
-    (λ c. search needs) (λ c. search needs) (λ c. search needs)
-    (λ c. said-constant _ _ _ (sym (c .before .t .given .1) ∙ c .before .before .before .term-of .ensures))
-    (λ c. said-chosen _ _ _ (sym (result-t2 c .t2 .given .1) ∙ result-t2 c .before .before .term-of .ensures) (omega (arith, c .before .if1 .left))))
+name-said-spec = tie.close (tie.spec (λ c κs. search needs) (λ c. search needs) (λ c. search needs) returns (λ c. search needs) (λ c. search needs) (λ c. search needs) returns-2
+    (λ c. said-chosen _ _ _ (sym (result-chosen c .t2 .given .1) ∙ chosen-term (result-chosen c) .term-of .ensures) (omega (arith, c .before .if1 .left))))

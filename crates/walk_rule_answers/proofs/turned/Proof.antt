@@ -7,15 +7,6 @@ use borrow.Author.Needs.{needs}
 use Rattle.walk_rule_answers.proofs.turned.Statement.{statement}
 use Rattle.walk_rule_answers.proofs.turned.Tie as tie
 
-enum-known-w : tie.Need-enum-known-w
-enum-known-w c = search needs
-
-enum-known-w-2 : tie.Need-enum-known-w-2
-enum-known-w-2 c = search needs
-
-enum-known-w-3 : tie.Need-enum-known-w-3
-enum-known-w-3 c = search needs
-
 returns : tie.Need-returns
 unfolding walkedOf spec.turned
 returns c = sym (ap (λ (y : Walked). spec.turned (walkedOf y)) (c .before .w .given .1))
@@ -29,5 +20,4 @@ unfolding walkedOf spec.turned
 returns-3 c = sym (ap (λ (y : Walked). spec.turned (walkedOf y)) (c .before .w3 .given .1))
 
 pub turned-spec : {M : Type 1} → statement M
-turned-spec =
-    tie.close (tie.spec enum-known-w enum-known-w-2 enum-known-w-3 returns returns-2 returns-3)
+turned-spec = tie.close (tie.spec (λ c. search needs) (λ c. search needs) (λ c. search needs) returns returns-2 returns-3)

@@ -1,447 +1,269 @@
 -- `write_own` and `write_rest` meet their contracts: a word's own items, then those behind it. The measure falls with the
 -- bindings, and then with the words and messages that are left. Assumes nothing.
-use Prim.Native.Nat.{ℕ, suc, _+_, _*_, _^_, _≤_, _<_}
+use Prim.Native.Nat.{ℕ, suc, _+_, _*_, _<_}
 use mathlib.Core.List.{List, _++_}
-use mathlib.Core.Path.{_≡_, ap, _∙_}
+use mathlib.Core.Path.{_≡_, ap}
 use native.Mathlib.Omega.{arith}
 use borrow.Author.Needs.{needs}
 use lib.ListN.{length, drop, getD}
 use Rattle.read_messages.specs.Message.{Message}
 use Rattle.read_messages.specs.Spelling.{spelled}
-use Rattle.read_messages.specs.declared.MessageWord.{MessageWord}
 use Rattle.engine_bindings.specs.Bindings.{bindingsIn}
-use Rattle.engine_message_words.specs.Words.{firstWord, boundAt}
+use Rattle.engine_message_words.specs.Words.{firstWord}
 use Rattle.engine_bindings.specs.Passes.{firsts, allItems, ownItems}
-use Rattle.engine_bindings.proofs.Passing.{none-pending, unbound-free, single}
+use Rattle.engine_bindings.proofs.Passing.{none-pending, first-bound, unbound-free, single, given-own}
 use Rattle.base_slices.specs.Sums.{capped}
 use Rattle.base_slices.proofs.Capping.{below-count}
 use Rattle.engine_bindings.proofs.Counting.{kept-length, drop-past, rank, rank-less, rank-older}
-use Rattle.theory_written_trees.specs.Write.{Indices}
 use Rattle.write_messages.specs.Indices.{indicesIn}
 use Rattle.write_messages.specs.Passes.{strung}
-use Rattle.write_messages.proofs.Lending.{Partly, partly-behind, partly-lent, partly-within, partly-kept, wrote-none, wrote-as, wrote-if, wrote-more}
-use Rattle.write_messages.proofs.Items.{strung-none, given-own, strung-single, strung-split}
+use Rattle.write_messages.proofs.Lending.{Partly, partly-behind, partly-bytes, partly-lent, partly-sum, partly-kept, wrote-none, wrote-as, wrote-if, wrote-more}
+use Rattle.write_messages.proofs.Items.{strung-none, strung-single, strung-split}
 use Rattle.write_messages.proofs.Words.{few-words, fewer-older, older-kept}
-use Prim.Native.Nat.{ℕ, _<_}
-use borrow.Fn.Kinds.{In}
+use borrow.Fn.Kinds.{In, Out}
 use borrow.Fn.PlainCycle.{Measures, is, falls, and}
 use Rattle.write_messages.proofs.write_own.Reads as write-own
-use Rattle.write_messages.proofs.write_own.Kinds as write-own-kinds
-use Rattle.write_messages.proofs.+write_own+write_rest.Lts-write_own as write-own-lts
+use Rattle.write_messages.proofs.write_own.Kinds as own-kinds
+use Rattle.write_messages.proofs.+write_own+write_rest.Lts-write_own as own-lts
 use Rattle.write_messages.proofs.write_rest.Reads as write-rest
-use Rattle.write_messages.proofs.write_rest.Kinds as write-rest-kinds
-use Rattle.write_messages.proofs.+write_own+write_rest.Lts-write_rest as write-rest-lts
-use Rattle.engine_bindings.proofs.after_own.Reads as after-own-reads
-use Rattle.engine_message_words.proofs.bound.Reads as bound-reads
-use Rattle.engine_message_words.proofs.first_word.Reads as first-word-reads
-use Rattle.engine_message_words.proofs.given.Reads as given-reads
-use Rattle.engine_bindings.proofs.own.Reads as own-reads
-use Rattle.base_slices.proofs.tail.Reads as tail-reads
-use Rattle.write_messages.proofs.less.Reads as less-reads
-use Rattle.write_messages.proofs.write_from.Reads as write-from-reads
-use Rattle.write_messages.proofs.write_link.Reads as write-link-reads
+use Rattle.write_messages.proofs.write_rest.Kinds as rest-kinds
+use Rattle.write_messages.proofs.+write_own+write_rest.Lts-write_rest as rest-lts
+use Rattle.engine_bindings.proofs.after_own.Reads as after-own
+use Rattle.engine_message_words.proofs.bound.Reads as bound
+use Rattle.engine_message_words.proofs.first_word.Reads as first-word
+use Rattle.engine_message_words.proofs.given.Reads as given
+use Rattle.engine_bindings.proofs.own.Reads as own
+use Rattle.base_slices.proofs.tail.Reads as tail
+use Rattle.write_messages.proofs.less.Reads as less
+use Rattle.write_messages.proofs.write_from.Reads as write-from
+use Rattle.write_messages.proofs.write_link.Reads as write-link
 use Rattle.write_messages.proofs.+write_own+write_rest.{statement}
 use Rattle.write_messages.proofs.+write_own+write_rest.Tie.{close}
 
-abbrev μ-write-own : Measures 8 write-own-kinds.ps ℕ
-μ-write-own κs a = rank (length (a .1 .1 .1 .1 .0 .now)) 0
+abbrev μ-own : Measures 8 own-kinds.ps ℕ
+μ-own κs a = rank (length (a .1 .1 .1 .1 .0 .now)) 0
 
-abbrev μ-write-rest : Measures 8 write-rest-kinds.ps ℕ
-μ-write-rest κs a = rank (length (a .1 .1 .1 .1 .1 .0 .now)) (suc (3 * length (a .1 .0 .now) + a .1 .1 .0))
-
-abbrev write-own-at : ℕ → In 8 write-own-kinds.ps
-write-own-at t = and 8 write-own-kinds.ps (is 8 write-own-kinds.ps μ-write-own t) write-own.Pre
-
-abbrev write-own-below : ℕ → In 8 write-own-kinds.ps
-write-own-below t = and 8 write-own-kinds.ps (falls 8 write-own-kinds.ps _<_ μ-write-own t) write-own.Pre
-
-abbrev write-rest-at : ℕ → In 8 write-rest-kinds.ps
-write-rest-at t = and 8 write-rest-kinds.ps (is 8 write-rest-kinds.ps μ-write-rest t) write-rest.Pre
-
-abbrev write-rest-below : ℕ → In 8 write-rest-kinds.ps
-write-rest-below t = and 8 write-rest-kinds.ps (falls 8 write-rest-kinds.ps _<_ μ-write-rest t) write-rest.Pre
-
-abbrev write-own-claims : ℕ → write-own-lts.Claims
-write-own-claims t = (first-word-reads.Asked, first-word-reads.Learnt, bound-reads.Asked, bound-reads.Learnt, given-reads.Asked, given-reads.Learnt, tail-reads.Asked, tail-reads.Learnt, write-rest-below t, write-rest.Post, write-link-reads.Asked, write-link-reads.Learnt, write-from-reads.Asked, write-from-reads.Learnt)
-
-abbrev write-rest-claims : ℕ → write-rest-lts.Claims
-write-rest-claims t = (own-reads.Asked, own-reads.Learnt, after-own-reads.Asked, after-own-reads.Learnt, tail-reads.Asked, tail-reads.Learnt, write-rest-below t, write-rest.Post, write-own-below t, write-own.Post, less-reads.Asked, less-reads.Learnt)
+abbrev μ-rest : Measures 8 rest-kinds.ps ℕ
+μ-rest κs a = rank (length (a .1 .1 .1 .1 .1 .0 .now)) (suc (3 * length (a .1 .0 .now) + a .1 .1 .0))
 
 module _ (t : ℕ) where
+  abbrev own-at : In 8 own-kinds.ps
+  own-at = and 8 own-kinds.ps (is 8 own-kinds.ps μ-own t) write-own.Pre
+
+  abbrev rest-at : In 8 rest-kinds.ps
+  rest-at = and 8 rest-kinds.ps (is 8 rest-kinds.ps μ-rest t) write-rest.Pre
+
+  abbrev rest-below : In 8 rest-kinds.ps
+  rest-below = and 8 rest-kinds.ps (falls 8 rest-kinds.ps _<_ μ-rest t) write-rest.Pre
+
+  abbrev own-claims : own-lts.Claims
+  own-claims = (first-word.Asked, first-word.Learnt, bound.Asked, bound.Learnt, given.Asked, given.Learnt, tail.Asked, tail.Learnt, rest-below, write-rest.Post, write-link.Asked, write-link.Learnt, write-from.Asked, write-from.Learnt)
+
+  abbrev rest-claims : rest-lts.Claims
+  rest-claims = (own.Asked, own.Learnt, after-own.Asked, after-own.Learnt, tail.Asked, tail.Learnt, rest-below, write-rest.Post, and 8 own-kinds.ps (falls 8 own-kinds.ps _<_ μ-own t) write-own.Pre, write-own.Post, less.Asked, less.Learnt)
+
   -- ---- write_own: the places, and the way from each to those before it
 
-  abbrev OwnStart : Type 0
-  OwnStart = write-own-lts.Start (write-own-claims t) (write-own-at t) write-own.Post
+  abbrev Own : (own-lts.Claims → In 8 own-kinds.ps → Out 8 own-kinds.ps own-kinds.r → Type 0) → Type 0
+  Own place = place own-claims own-at write-own.Post
 
   -- the first word is looked up
-  abbrev OwnFound : Type 0
-  OwnFound = write-own-lts.After-bound (write-own-claims t) (write-own-at t) write-own.Post
+  abbrev own-start : Own own-lts.After-bound → Own own-lts.Start
+  own-start c = c .before .before .before .before .before .before .before .before .before .before
 
   -- it has a binding: the message of the binding, and the older bindings
-  abbrev OwnOlder : Type 0
-  OwnOlder = write-own-lts.After-tail3 (write-own-claims t) (write-own-at t) write-own.Post
+  abbrev older-given : Own own-lts.After-tail3 → Own own-lts.After-given
+  older-given c = c .before .before .before
 
-  abbrev OwnGiven : Type 0
-  OwnGiven = write-own-lts.After-write-rest (write-own-claims t) (write-own-at t) write-own.Post
+  abbrev older-tail : Own own-lts.After-tail3 → Own own-lts.After-tail
+  older-tail c = c .before .before
 
-  -- it has none: PATH is written, and then the word's message
-  abbrev OwnLink : Type 0
-  OwnLink = write-own-lts.After-write-link (write-own-claims t) (write-own-at t) write-own.Post
+  abbrev older-found : Own own-lts.After-tail3 → Own own-lts.After-bound
+  older-found c = older-given c .before .before
 
-  abbrev OwnBehind : Type 0
-  OwnBehind = write-own-lts.After-slice-known3 (write-own-claims t) (write-own-at t) write-own.Post
-
-  abbrev OwnMore : Type 0
-  OwnMore = write-own-lts.After-write-from (write-own-claims t) (write-own-at t) write-own.Post
-
-  abbrev own-first : OwnFound → write-own-lts.After-first-word (write-own-claims t) (write-own-at t) write-own.Post
-  own-first c = c .before
-
-  abbrev own-start : OwnFound → OwnStart
-  own-start c = own-first c .before .before .before .before .before .before .before .before .before
-
-  abbrev own-then : write-own-lts.Then1 (write-own-claims t) (write-own-at t) write-own.Post → OwnFound
-  own-then c = c .before
-
-  abbrev older-places : OwnOlder → write-own-lts.After-tail2 (write-own-claims t) (write-own-at t) write-own.Post
-  older-places c = c .before
-
-  abbrev older-first : OwnOlder → write-own-lts.After-tail (write-own-claims t) (write-own-at t) write-own.Post
-  older-first c = older-places c .before
-
-  abbrev older-given : OwnOlder → write-own-lts.After-given (write-own-claims t) (write-own-at t) write-own.Post
-  older-given c = older-first c .before
-
-  abbrev older-then : OwnOlder → write-own-lts.Then1 (write-own-claims t) (write-own-at t) write-own.Post
-  older-then c = older-given c .before
-
-  abbrev older-found : OwnOlder → OwnFound
-  older-found c = own-then (older-then c)
-
-  abbrev asked-older : write-own-lts.After-write-rest-arg (write-own-claims t) (write-own-at t) write-own.Post → OwnOlder
-  asked-older c = c .before
-
-  abbrev given-older : OwnGiven → OwnOlder
-  given-older c = asked-older (c .before)
-
-  abbrev end-given : write-own-lts.After-slice-known2 (write-own-claims t) (write-own-at t) write-own.Post → OwnGiven
+  abbrev end-given : Own own-lts.After-slice-known2 → Own own-lts.After-write-rest
   end-given c = c .before .before
 
-  abbrev link-else : OwnLink → write-own-lts.Else1 (write-own-claims t) (write-own-at t) write-own.Post
+  abbrev given-older : Own own-lts.After-write-rest → Own own-lts.After-tail3
+  given-older c = c .before .before
+
+  -- it has none: PATH is written, and then the word's message
+  abbrev link-else : Own own-lts.After-write-link → Own own-lts.Else1
   link-else c = c .before .before
 
-  abbrev link-found : OwnLink → OwnFound
-  link-found c = link-else c .before
-
-  abbrev link-start : OwnLink → OwnStart
-  link-start c = own-start (link-found c)
-
-  abbrev behind-link : OwnBehind → OwnLink
+  abbrev behind-link : Own own-lts.After-slice-known3 → Own own-lts.After-write-link
   behind-link c = c .before .before
 
-  abbrev asked-link : write-own-lts.After-write-from-arg (write-own-claims t) (write-own-at t) write-own.Post → OwnLink
-  asked-link c = behind-link (c .before)
-
-  abbrev more-link : OwnMore → OwnLink
-  more-link c = asked-link (c .before)
-
-  abbrev end-more : write-own-lts.After-slice-known4 (write-own-claims t) (write-own-at t) write-own.Post → OwnMore
+  abbrev end-more : Own own-lts.After-slice-known4 → Own own-lts.After-write-from
   end-more c = c .before .before
+
+  abbrev more-link : Own own-lts.After-write-from → Own own-lts.After-write-link
+  more-link c = behind-link (c .before .before)
 
   -- ---- write_own: what is known at each
 
-  abbrev own-ix : OwnStart → Indices
-  own-ix s = indicesIn (s .args .receipts .now) (s .args .indices .now)
-
-  abbrev own-σ : OwnStart → List (ℕ × Message)
-  own-σ s = bindingsIn (s .args .script .now) (s .args .variables .now) (s .args .places .now)
-
-  own-long : (s : OwnStart) → length (s .args .out .now) * 4 < 2 ^ 63
-  own-long s = omega arith
-
-  found : (c : OwnFound) → c .bound .result ≡ boundAt (firstWord (own-start c .args .words .now)) (own-start c .args .variables .now)
-  found c = let s = own-start c in c .bound .ensures ∙ ap (λ (w : MessageWord). boundAt w (s .args .variables .now)) (own-first c .first-word .ensures)
-
-  partly-link : (c : OwnLink) → Partly (link-start c .args .out .now) (c .write-link .last .1 .0) (c .write-link .result)
-  partly-link c = record { within = c .write-link .ensures .within; kept = c .write-link .kept .1 .0 }
+  partly-link : (c : Own own-lts.After-write-link) → Partly (own-start (link-else c .before) .args .out .now) (c .write-link .last .1 .0) (c .write-link .result)
+  partly-link c = record { long = omega (arith, own-start (link-else c .before) .good); within = c .write-link .ensures .within; kept = c .write-link .kept .1 .0 }
 
   -- ---- write_own: the needs
 
-  write-own-add-older : write-own-lts.Need-add-older (write-own-claims t) (write-own-at t) write-own.Post
-  write-own-add-older c = let s = own-start (own-then c) in omega (arith, c .if1 .taken, s .good .1 .1 .1 .1 .0)
-
-  write-own-given-requires : write-own-lts.Need-given-requires (write-own-claims t) (write-own-at t) write-own.Post
-  write-own-given-requires c κs = omega (arith, own-start (own-then c) .pre .1 .0 .aligned, c .if1 .taken)
-
-  write-own-write-rest-requires : write-own-lts.Need-write-rest-requires (write-own-claims t) (write-own-at t) write-own.Post
-  write-own-write-rest-requires c κs =
-      let o = asked-older c in
+  given-requires : Own own-lts.Need-write-rest-requires
+  given-requires c κs =
+      let o = c .before in
       let f = older-found o in
       let s = own-start f in
       let a = s .args in
       let few = few-words (a .script .now) (getD (a .places .now) (f .bound .result) 0) (older-given o .given .ensures) (s .good .0 .1) in
-      let fewer = fewer-older (a .variables .now) (f .bound .result) (older-first o .tail .ensures) (older-then o .if1 .taken) in
-      (rank-older _ _ _ _ _ (s .pre .0) fewer (omega (arith, few)), (few, older-kept (s .pre .1 .0) (f .bound .result + 1) (older-first o .tail .ensures) (older-places o .tail2 .ensures) (o .tail3 .ensures), s .pre .1 .1, s .pre .1 .2))
+      let fewer = fewer-older (a .variables .now) (f .bound .result) (older-tail o .tail .ensures) (older-given o .before .if1 .taken) in
+      (rank-older _ _ _ _ _ (s .pre .0) fewer (omega (arith, few)), (few, record { counted = older-kept (s .pre .1 .0 .counted) (f .bound .result + 1) (older-tail o .tail .ensures) (o .before .tail2 .ensures) (o .tail3 .ensures); indexed = s .pre .1 .0 .indexed; small = s .pre .1 .0 .small }))
 
-  write-own-returns : write-own-lts.Need-returns (write-own-claims t) (write-own-at t) write-own.Post
-  write-own-returns c =
+  given-returns : Own own-lts.Need-returns
+  given-returns c =
       let g = end-given c in
       let o = given-older g in
       let f = older-found o in
       let s = own-start f in
       let a = s .args in
-      let own = given-own (a .script .now) (a .variables .now) (a .places .now) (a .words .now) (f .bound .result) (s .pre .1 .0 .aligned) (older-then o .if1 .taken) (found f) (older-first o .tail .ensures) (older-places o .tail2 .ensures) (older-given o .given .ensures) in
-      wrote-as (ap (λ (l : List Message). strung (own-ix s) (a .left) (drop (a .offset) l)) own) (g .write-rest .ensures)
+      let own = given-own (a .script .now) (a .variables .now) (a .places .now) (s .pre .1 .0 .counted .aligned) _ (older-given o .before .if1 .taken) (a .words .now) (first-bound _ _ (f .before .first-word .ensures) (f .bound .ensures)) (older-tail o .tail .ensures) (o .before .tail2 .ensures) (older-given o .given .ensures) in
+      wrote-as (ap (λ (l : List Message). strung (indicesIn (a .receipts .now) (a .indices .now)) (a .left) (drop (a .offset) l)) own) (g .write-rest .ensures)
 
-  write-own-write-from-requires : write-own-lts.Need-write-from-requires (write-own-claims t) (write-own-at t) write-own.Post
-  write-own-write-from-requires c κs = let s = link-start (asked-link c) in (omega (arith, s .good .1 .0), s .pre .1 .0 .aligned, s .pre .1 .1)
+  single-requires : Own own-lts.Need-write-from-requires
+  single-requires c κs = let s = own-start (link-else (behind-link (c .before)) .before) in record { room = omega (arith, s .good .1 .0); aligned = s .pre .1 .0 .counted .aligned; indexed = s .pre .1 .0 .indexed }
 
-  write-own-add-result : write-own-lts.Need-add-result (write-own-claims t) (write-own-at t) write-own.Post
-  write-own-add-result c = let m = end-more c in omega (arith, partly-within (partly-link (more-link m)) (m .write-from .ensures .within), own-long (link-start (more-link m)))
+  single-length : Own own-lts.Need-same-length-2
+  single-length c = let m = end-more c in partly-kept (partly-link (more-link m)) (m .write-from .last .1 .1 .1 .1 .1 .1 .1 .0) (m .write-from .kept .1 .1 .1 .1 .1 .1 .1 .0)
 
-  write-own-same-length-2 : write-own-lts.Need-same-length-2 (write-own-claims t) (write-own-at t) write-own.Post
-  write-own-same-length-2 c = let m = end-more c in partly-kept (partly-link (more-link m)) (m .write-from .last .1 .1 .1 .1 .1 .1 .1 .0) (m .write-from .kept .1 .1 .1 .1 .1 .1 .1 .0)
-
-  write-own-returns-2 : write-own-lts.Need-returns-2 (write-own-claims t) (write-own-at t) write-own.Post
-  write-own-returns-2 c =
+  single-returns : Own own-lts.Need-returns-2
+  single-returns c =
       let m = end-more c in
       let w = more-link m in
-      let f = link-found w in
+      let f = link-else w .before in
       let s = own-start f in
       let a = s .args in
-      let free = unbound-free (a .script .now) (a .variables .now) (a .places .now) (firstWord (a .words .now)) (omega (arith, found f, link-else w .if1 .left)) in
-      wrote-as (strung-single (own-ix s) (own-σ s) (a .left) _ (a .words .now) (single (own-σ s) (a .words .now) (a .offset) free (s .pre .1 .3))) (wrote-more (partly-link w) (w .write-link .ensures) (m .write-from .ensures))
+      let free = unbound-free (a .script .now) (a .variables .now) (a .places .now) (firstWord (a .words .now)) (omega (arith, first-bound _ _ (f .before .first-word .ensures) (f .bound .ensures), link-else w .if1 .left)) in
+      wrote-as (strung-single _ _ (a .left) _ (a .words .now) (single _ (a .words .now) (a .offset) free (s .pre .1 .1))) (wrote-more (partly-link w) (w .write-link .ensures) (m .write-from .ensures))
+
+  own-met : {M : Type 1} → own-lts.Closed own-claims own-at write-own.Post M
+  own-met = own-lts.spec own-claims own-at write-own.Post (λ c κs. search needs) (λ c κs. search needs)
+      (λ c. omega (arith, c .if1 .taken, own-start (c .before) .good .1 .1 .1 .1 .0)) (λ c κs. omega (arith, own-start (c .before) .pre .1 .0 .counted .aligned, c .if1 .taken))
+      (λ c κs. search needs) (λ c κs. search needs) (λ c κs. search needs) given-requires (λ c. search needs) given-returns (λ c κs. search needs)
+      (λ c. partly-bytes (partly-link (behind-link c))) (λ c. partly-behind (partly-link (behind-link c))) (λ c. partly-behind (partly-link (behind-link c))) (λ c. omega arith)
+      single-requires (λ c. partly-sum (partly-link (more-link (end-more c))) (end-more c .write-from .ensures .within)) single-length single-returns
 
   -- ---- write_rest: the places, and the way from each to those before it
 
-  abbrev RestStart : Type 0
-  RestStart = write-rest-lts.Start (write-rest-claims t) (write-rest-at t) write-rest.Post
+  abbrev Rest : (rest-lts.Claims → In 8 rest-kinds.ps → Out 8 rest-kinds.ps rest-kinds.r → Type 0) → Type 0
+  Rest place = place rest-claims rest-at write-rest.Post
 
-  abbrev RestElse : Type 0
-  RestElse = write-rest-lts.Else1 (write-rest-claims t) (write-rest-at t) write-rest.Post
+  abbrev known-start : Rest rest-lts.After-slice-known → Rest rest-lts.Start
+  known-start c = c .before .before .before .before .before .before .before .before
 
   -- the items that the first word has of its own are counted, and what stands behind it is found
-  abbrev RestAfter : Type 0
-  RestAfter = write-rest-lts.After-after-own (write-rest-claims t) (write-rest-at t) write-rest.Post
+  abbrev counted-start : Rest rest-lts.After-own → Rest rest-lts.Start
+  counted-start c = known-start (c .before .before)
+
+  abbrev rest-start : Rest rest-lts.After-after-own → Rest rest-lts.Start
+  rest-start c = counted-start (c .before)
 
   -- they stand before the offset
-  abbrev RestPassed : Type 0
-  RestPassed = write-rest-lts.After-tail (write-rest-claims t) (write-rest-at t) write-rest.Post
-
-  abbrev RestPast : Type 0
-  RestPast = write-rest-lts.After-write-rest (write-rest-claims t) (write-rest-at t) write-rest.Post
-
-  -- they do not: those from the offset on are written
-  abbrev RestOwn : Type 0
-  RestOwn = write-rest-lts.After-write-own (write-rest-claims t) (write-rest-at t) write-rest.Post
-
-  abbrev RestBehind : Type 0
-  RestBehind = write-rest-lts.After-tail2 (write-rest-claims t) (write-rest-at t) write-rest.Post
-
-  abbrev RestMore : Type 0
-  RestMore = write-rest-lts.After-write-rest2 (write-rest-claims t) (write-rest-at t) write-rest.Post
-
-  abbrev then-start : write-rest-lts.Then1 (write-rest-claims t) (write-rest-at t) write-rest.Post → RestStart
-  then-start c = c .before .before .before .before .before .before .before .before .before
-
-  abbrev else-start : RestElse → RestStart
-  else-start c = c .before .before .before .before .before .before .before .before .before
-
-  abbrev counted-else : write-rest-lts.After-own (write-rest-claims t) (write-rest-at t) write-rest.Post → RestElse
-  counted-else c = c .before
-
-  abbrev after-counted : RestAfter → write-rest-lts.After-own (write-rest-claims t) (write-rest-at t) write-rest.Post
-  after-counted c = c .before
-
-  abbrev after-else : RestAfter → RestElse
-  after-else c = counted-else (after-counted c)
-
-  abbrev rest-start : RestAfter → RestStart
-  rest-start c = else-start (after-else c)
-
-  abbrev passed-then : RestPassed → write-rest-lts.Then2 (write-rest-claims t) (write-rest-at t) write-rest.Post
-  passed-then c = c .before
-
-  abbrev passed-after : RestPassed → RestAfter
-  passed-after c = passed-then c .before
-
-  abbrev asked-passed : write-rest-lts.After-write-rest-arg (write-rest-claims t) (write-rest-at t) write-rest.Post → RestPassed
-  asked-passed c = c .before
-
-  abbrev past-passed : RestPast → RestPassed
-  past-passed c = asked-passed (c .before)
-
-  abbrev end-past : write-rest-lts.After-slice-known2 (write-rest-claims t) (write-rest-at t) write-rest.Post → RestPast
+  abbrev end-past : Rest rest-lts.After-slice-known2 → Rest rest-lts.After-write-rest
   end-past c = c .before .before
 
-  abbrev asked-else : write-rest-lts.After-write-own-arg (write-rest-claims t) (write-rest-at t) write-rest.Post → write-rest-lts.Else2 (write-rest-claims t) (write-rest-at t) write-rest.Post
-  asked-else c = c .before
+  abbrev past-tail : Rest rest-lts.After-write-rest → Rest rest-lts.After-tail
+  past-tail c = c .before .before
 
-  abbrev else-after : write-rest-lts.Else2 (write-rest-claims t) (write-rest-at t) write-rest.Post → RestAfter
-  else-after c = c .before
+  abbrev tail-after : Rest rest-lts.After-tail → Rest rest-lts.After-after-own
+  tail-after c = c .before .before
 
-  abbrev own-else : RestOwn → write-rest-lts.Else2 (write-rest-claims t) (write-rest-at t) write-rest.Post
-  own-else c = asked-else (c .before)
+  -- they do not: those from the offset on are written
+  abbrev own-else : Rest rest-lts.After-write-own → Rest rest-lts.Else2
+  own-else c = c .before .before
 
-  abbrev own-after : RestOwn → RestAfter
-  own-after c = else-after (own-else c)
+  abbrev else-start : Rest rest-lts.Else2 → Rest rest-lts.Start
+  else-start c = rest-start (c .before)
 
-  abbrev own-rest : RestOwn → RestStart
-  own-rest c = rest-start (own-after c)
-
-  abbrev known-own : write-rest-lts.After-slice-known3 (write-rest-claims t) (write-rest-at t) write-rest.Post → RestOwn
+  abbrev known-own : Rest rest-lts.After-slice-known3 → Rest rest-lts.After-write-own
   known-own c = c .before .before
 
-  abbrev behind-less : RestBehind → write-rest-lts.After-less (write-rest-claims t) (write-rest-at t) write-rest.Post
-  behind-less c = c .before
+  abbrev behind-own : Rest rest-lts.After-tail2 → Rest rest-lts.After-write-own
+  behind-own c = known-own (c .before .before)
 
-  abbrev behind-own : RestBehind → RestOwn
-  behind-own c = known-own (behind-less c .before)
-
-  abbrev asked-behind : write-rest-lts.After-write-rest-arg2 (write-rest-claims t) (write-rest-at t) write-rest.Post → RestBehind
-  asked-behind c = c .before
-
-  abbrev more-behind : RestMore → RestBehind
-  more-behind c = asked-behind (c .before)
-
-  abbrev end-rest : write-rest-lts.After-slice-known4 (write-rest-claims t) (write-rest-at t) write-rest.Post → RestMore
+  abbrev end-rest : Rest rest-lts.After-slice-known4 → Rest rest-lts.After-write-rest2
   end-rest c = c .before .before
 
-  abbrev end-own : write-rest-lts.After-slice-known4 (write-rest-claims t) (write-rest-at t) write-rest.Post → RestOwn
-  end-own c = behind-own (more-behind (end-rest c))
+  abbrev more-behind : Rest rest-lts.After-write-rest2 → Rest rest-lts.After-tail2
+  more-behind c = c .before .before
 
   -- ---- write_rest: what is known at each
 
-  abbrev rest-ix : RestStart → Indices
-  rest-ix s = indicesIn (s .args .receipts .now) (s .args .indices .now)
+  abbrev σ : Rest rest-lts.Start → List (ℕ × Message)
+  σ s = bindingsIn (s .args .script .now) (s .args .variables .now) (s .args .places .now)
 
-  abbrev rest-σ : RestStart → List (ℕ × Message)
-  rest-σ s = bindingsIn (s .args .script .now) (s .args .variables .now) (s .args .places .now)
+  abbrev own-items : Rest rest-lts.After-after-own → List Message
+  own-items c = let s = rest-start c in ownItems (σ s) (s .args .words .now)
 
-  rest-long : (s : RestStart) → length (s .args .out .now) * 4 < 2 ^ 63
-  rest-long s = omega arith
+  counted : (c : Rest rest-lts.After-after-own) → c .before .own .result ≡ capped (length (own-items c))
+  counted c = let s = rest-start c in c .before .own .ensures (s .args .script .now) (s .args .places .now) (s .pre .1 .1 .counted)
 
-  abbrev own-items : RestAfter → List Message
-  own-items c = let s = rest-start c in ownItems (rest-σ s) (s .args .words .now)
+  -- what is pending is the word's own items and those behind them
+  pending-after : (c : Rest rest-lts.After-after-own) {ws : List ℕ} → ws ≡ drop (c .after-own .result .used) (rest-start c .args .words .now)
+      → let s = rest-start c in allItems (σ s) (firsts (s .args .pending) (spelled (s .args .words .now))) ≡ own-items c ++ allItems (σ s) (firsts (c .after-own .result .left) (spelled ws))
+  pending-after c e = rw e (c .after-own .ensures .split (σ (rest-start c)))
 
-  counted : (c : RestAfter) → after-counted c .own .result ≡ capped (length (own-items c))
-  counted c = let s = rest-start c in after-counted c .own .ensures (s .args .script .now) (s .args .places .now) (s .pre .1 .1)
-
-  -- the words behind are less, and what is pending is the word's own items and those behind them
-  module _ (c : RestAfter) {ws : List ℕ} (e : ws ≡ drop (c .after-own .result .used) (rest-start c .args .words .now)) where
-    less-after : let s = rest-start c in let p = c .after-own .result .left in (p + length ws ≤ s .args .pending + length (s .args .words .now)) × (3 * length ws + p < 3 * length (s .args .words .now) + s .args .pending)
-    less-after = rw e (c .after-own .ensures .0)
-
-    pending-after : let s = rest-start c in allItems (rest-σ s) (firsts (s .args .pending) (spelled (s .args .words .now))) ≡ own-items c ++ allItems (rest-σ s) (firsts (c .after-own .result .left) (spelled ws))
-    pending-after = rw e (c .after-own .ensures .1 (rest-σ (rest-start c)))
-
-  partly-own : (c : RestOwn) → Partly (own-rest c .args .out .now) (c .write-own .last .1 .1 .1 .1 .1 .1 .1 .1 .1 .0) (c .write-own .result)
-  partly-own c = record { within = c .write-own .ensures .within; kept = c .write-own .kept .1 .1 .1 .1 .1 .1 .1 .1 .1 .0 }
+  partly-own : (c : Rest rest-lts.After-write-own) → Partly (else-start (own-else c) .args .out .now) (c .write-own .last .1 .1 .1 .1 .1 .1 .1 .1 .1 .0) (c .write-own .result)
+  partly-own c = record { long = omega (arith, else-start (own-else c) .good); within = c .write-own .ensures .within; kept = c .write-own .kept .1 .1 .1 .1 .1 .1 .1 .1 .1 .0 }
 
   -- ---- write_rest: the needs
 
-  write-rest-returns : write-rest-lts.Need-returns (write-rest-claims t) (write-rest-at t) write-rest.Post
-  write-rest-returns c =
-      let s = then-start c in
-      wrote-none (strung-none (rest-ix s) (s .args .left) (s .args .offset) _ (none-pending (rest-σ s) (s .args .pending) (spelled (s .args .words .now)) (c .if1 .taken)))
+  none-returns : Rest rest-lts.Need-returns
+  none-returns c = let s = known-start (c .before) in wrote-none (strung-none _ (s .args .left) (s .args .offset) _ (none-pending (σ s) (s .args .pending) (spelled (s .args .words .now)) (c .if1 .taken)))
 
-  write-rest-own-requires : write-rest-lts.Need-own-requires (write-rest-claims t) (write-rest-at t) write-rest.Post
-  write-rest-own-requires c κs = kept-length (else-start c .pre .1 .1)
-
-  write-rest-after-own-requires : write-rest-lts.Need-after-own-requires (write-rest-claims t) (write-rest-at t) write-rest.Post
-  write-rest-after-own-requires c κs = (omega (arith, counted-else c .if1 .left), else-start (counted-else c) .pre .1 .0)
-
-  write-rest-write-rest-requires : write-rest-lts.Need-write-rest-requires (write-rest-claims t) (write-rest-at t) write-rest.Post
-  write-rest-write-rest-requires c κs =
-      let l = asked-passed c in
-      let s = rest-start (passed-after l) in
-      let less = less-after (passed-after l) (l .tail .ensures) in
-      (rank-less _ _ _ _ (s .pre .0) (omega (arith, less .1)), (omega (arith, less .0, s .pre .1 .0), s .pre .1 .1, s .pre .1 .2, omega (arith, s .pre .1 .3)))
-
-  write-rest-returns-2 : write-rest-lts.Need-returns-2 (write-rest-claims t) (write-rest-at t) write-rest.Post
-  write-rest-returns-2 c =
-      let w = end-past c in
-      let l = past-passed w in
-      let n = passed-after l in
+  past-requires : Rest rest-lts.Need-write-rest-requires
+  past-requires c κs =
+      let n = tail-after (c .before) in
       let s = rest-start n in
-      wrote-as (ap (strung (rest-ix s) (s .args .left)) (drop-past _ (own-items n) _ (s .args .offset) (after-counted n .own .result) (pending-after n (l .tail .ensures)) (counted n) (passed-then l .if2 .taken) (omega (arith, s .pre .1 .3)))) (w .write-rest .ensures)
+      let l = ap length (c .before .tail .ensures) in
+      let p = n .after-own .ensures in
+      (rank-less _ _ _ _ (s .pre .0) (omega (arith, l, p .less)), (omega (arith, l, p .room, s .pre .1 .0), record { counted = s .pre .1 .1 .counted; indexed = s .pre .1 .1 .indexed; small = omega (arith, s .pre .1 .1 .small) }))
 
-  write-rest-write-own-requires : write-rest-lts.Need-write-own-requires (write-rest-claims t) (write-rest-at t) write-rest.Post
-  write-rest-write-own-requires c κs =
-      let e = asked-else c in
-      let n = else-after e in
+  past-returns : Rest rest-lts.Need-returns-2
+  past-returns c =
+      let l = past-tail (end-past c) in
+      let n = tail-after l in
       let s = rest-start n in
-      (rank-less _ _ _ _ (s .pre .0) (omega arith), (s .pre .1 .1, s .pre .1 .2, s .pre .1 .3, below-count _ _ _ (counted n) (e .if2 .left)))
+      wrote-as (ap (strung _ (s .args .left)) (drop-past _ (own-items n) _ (s .args .offset) (n .before .own .result) (pending-after n (l .tail .ensures)) (counted n) (l .before .if2 .taken) (omega (arith, s .pre .1 .1 .small)))) (end-past c .write-rest .ensures)
 
-  write-rest-sub-less : write-rest-lts.Need-sub-less (write-rest-claims t) (write-rest-at t) write-rest.Post
-  write-rest-sub-less c = omega (arith, own-else (known-own c) .if2 .left)
+  own-requires : Rest rest-lts.Need-write-own-requires
+  own-requires c κs = let e = c .before in let s = else-start e in (rank-less _ _ _ _ (s .pre .0) (omega arith), (s .pre .1 .1, below-count _ _ _ (counted (e .before)) (e .if2 .left)))
 
-  write-rest-write-rest-requires-2 : write-rest-lts.Need-write-rest-requires-2 (write-rest-claims t) (write-rest-at t) write-rest.Post
-  write-rest-write-rest-requires-2 c κs =
-      let l = asked-behind c in
-      let w = behind-own l in
-      let s = own-rest w in
-      let less = less-after (own-after w) (l .tail2 .ensures) in
-      (rank-less _ _ _ _ (s .pre .0) (omega (arith, less .1)), (omega (arith, less .0, s .pre .1 .0), s .pre .1 .1, s .pre .1 .2, omega (arith, s .pre .1 .3, partly-lent (partly-own w))))
+  behind-requires : Rest rest-lts.Need-write-rest-requires-2
+  behind-requires c κs =
+      let w = behind-own (c .before) in
+      let s = else-start (own-else w) in
+      let l = ap length (c .before .tail2 .ensures) in
+      let p = own-else w .before .after-own .ensures in
+      (rank-less _ _ _ _ (s .pre .0) (omega (arith, l, p .less)), (omega (arith, l, p .room, s .pre .1 .0), record { counted = s .pre .1 .1 .counted; indexed = s .pre .1 .1 .indexed; small = omega (arith, s .pre .1 .1 .small, partly-lent (partly-own w)) }))
 
-  write-rest-add-result : write-rest-lts.Need-add-result (write-rest-claims t) (write-rest-at t) write-rest.Post
-  write-rest-add-result c = let w = end-own c in omega (arith, partly-within (partly-own w) (end-rest c .write-rest2 .ensures .within), rest-long (own-rest w))
+  behind-length : Rest rest-lts.Need-same-length-2
+  behind-length c = let m = end-rest c in partly-kept (partly-own (behind-own (more-behind m))) (m .write-rest2 .last .1 .1 .1 .1 .1 .1 .1 .1 .1 .1 .0) (m .write-rest2 .kept .1 .1 .1 .1 .1 .1 .1 .1 .1 .1 .0)
 
-  write-rest-same-length-2 : write-rest-lts.Need-same-length-2 (write-rest-claims t) (write-rest-at t) write-rest.Post
-  write-rest-same-length-2 c = let m = end-rest c in partly-kept (partly-own (end-own c)) (m .write-rest2 .last .1 .1 .1 .1 .1 .1 .1 .1 .1 .1 .0) (m .write-rest2 .kept .1 .1 .1 .1 .1 .1 .1 .1 .1 .1 .0)
-
-  write-rest-returns-3 : write-rest-lts.Need-returns-3 (write-rest-claims t) (write-rest-at t) write-rest.Post
-  write-rest-returns-3 c =
+  behind-returns : Rest rest-lts.Need-returns-3
+  behind-returns c =
       let m = end-rest c in
       let l = more-behind m in
       let w = behind-own l in
-      let n = own-after w in
+      let n = own-else w .before in
       let s = rest-start n in
-      wrote-if (λ h. strung-split (rest-ix s) (s .args .left) (s .args .offset) (after-counted n .own .result) (behind-less l .less .result) _ (own-items n) _ (pending-after n (l .tail2 .ensures)) (counted n) (own-else w .if2 .left) (behind-less l .less .ensures) (omega (arith, h, s .pre .1 .3)))
+      wrote-if (λ h. strung-split _ (s .args .left) (s .args .offset) (n .before .own .result) (l .before .less .result) _ (own-items n) _ (pending-after n (l .tail2 .ensures)) (counted n) (own-else w .if2 .left) (l .before .less .ensures) (omega (arith, h, s .pre .1 .1 .small)))
       (wrote-more (partly-own w) (w .write-own .ensures) (m .write-rest2 .ensures))
 
+  rest-met : {M : Type 1} → rest-lts.Closed rest-claims rest-at write-rest.Post M
+  rest-met = rest-lts.spec rest-claims rest-at write-rest.Post none-returns (λ c κs. kept-length (known-start (c .before) .pre .1 .1 .counted))
+      (λ c κs. (omega (arith, c .before .if1 .left), counted-start c .pre .1 .0))
+      (λ c κs. search needs) past-requires (λ c. search needs) past-returns own-requires
+      (λ c. omega (arith, own-else (known-own c) .if2 .left)) (λ c κs. search needs) (λ c κs. search needs)
+      (λ c. partly-bytes (partly-own (behind-own c))) (λ c. partly-behind (partly-own (behind-own c))) (λ c. partly-behind (partly-own (behind-own c))) (λ c. omega arith)
+      behind-requires (λ c. partly-sum (partly-own (behind-own (more-behind (end-rest c)))) (end-rest c .write-rest2 .ensures .within)) behind-length behind-returns
+
 pub +write-own+write-rest-spec : {M : Type 1} → statement M
-+write-own+write-rest-spec = close μ-write-own μ-write-rest (λ t. write-own-lts.spec (write-own-claims t)
-    (write-own-at t)
-    write-own.Post
-    (λ c κs. search needs)
-    (λ c κs. search needs)
-    (write-own-add-older t)
-    (write-own-given-requires t)
-    (λ c κs. search needs)
-    (λ c κs. search needs)
-    (λ c κs. search needs)
-    (write-own-write-rest-requires t)
-    (λ c. search needs)
-    (write-own-returns t)
-    (λ c κs. search needs)
-    (λ c. let w = behind-link t c in omega (arith, partly-link t w .within, own-long t (link-start t w)))
-    (λ c. omega (arith, partly-behind (partly-link t (behind-link t c))))
-    (λ c. omega (arith, partly-behind (partly-link t (behind-link t c))))
-    (λ c. omega arith)
-    (write-own-write-from-requires t)
-    (write-own-add-result t)
-    (write-own-same-length-2 t)
-    (write-own-returns-2 t))
-    λ t. write-rest-lts.spec (write-rest-claims t)
-    (write-rest-at t)
-    write-rest.Post
-    (write-rest-returns t)
-    (write-rest-own-requires t)
-    (write-rest-after-own-requires t)
-    (λ c κs. search needs)
-    (write-rest-write-rest-requires t)
-    (λ c. search needs)
-    (write-rest-returns-2 t)
-    (write-rest-write-own-requires t)
-    (write-rest-sub-less t)
-    (λ c κs. search needs)
-    (λ c κs. search needs)
-    (λ c. let w = behind-own t c in omega (arith, partly-own t w .within, rest-long t (own-rest t w)))
-    (λ c. omega (arith, partly-behind (partly-own t (behind-own t c))))
-    (λ c. omega (arith, partly-behind (partly-own t (behind-own t c))))
-    (λ c. omega arith)
-    (write-rest-write-rest-requires-2 t)
-    (write-rest-add-result t)
-    (write-rest-same-length-2 t)
-    (write-rest-returns-3 t)
++write-own+write-rest-spec = close μ-own μ-rest (λ t. own-met t) (λ t. rest-met t)

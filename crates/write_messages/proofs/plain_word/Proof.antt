@@ -6,38 +6,23 @@ use borrow.Author.Needs.{needs}
 use Rattle.write_messages.proofs.plain_word.Statement.{statement}
 use Rattle.write_messages.proofs.plain_word.Tie as tie
 
-abbrev told-name : tie.After-known-told → tie.After-m
-told-name c = c .before
-
 abbrev word-variable : tie.After-variable-word → tie.After-m2
 word-variable c = c .before .before
 
 abbrev name-start : tie.After-m → tie.Start
 name-start c = c .before .before .before .before
 
-add-result : tie.Need-add-result
-add-result c = let n = told-name c in omega (arith, name-start n .pre .1 _ (n .m .given .1))
+returns-4 : tie.Need-returns-4
+unfolding plainWord word
+returns-4 c = rw (c .enum-told2 .given .1)
 
 pub plain-word-spec : {M : Type 1} → statement M
 unfolding plainWord word
 plain-word-spec =
     tie.close
-    (tie.spec
-    (λ c. search needs)
-    add-result
-    (λ c. search needs)
-    (λ c κs. search needs)
-    (λ c. search needs)
-    (λ c. search needs)
-    (λ c. search needs)
-    (λ c. search needs)
-    (λ c. search needs)
-    (λ c. search needs)
-    (λ c. rw (told-name c .m .given .1))
+    (tie.spec (λ c. search needs) (λ c. omega (arith, name-start (c .before) .pre .1 _ (c .before .m .given .1))) (λ c. search needs) (λ c κs. search needs)
+    (λ c. search needs) (λ c. search needs) (λ c. search needs) (λ c. search needs) (λ c. search needs) (λ c. search needs)
+    (λ c. rw (c .before .m .given .1))
     (λ c. rw (word-variable c .m2 .given .1) (c .variable-word .ensures))
-    (λ c. rw (c .enum-told .given .1))
-    (λ c. rw (c .enum-told2 .given .1))
-    (λ c. rw (c .enum-told3 .given .1))
-    (λ c. rw (c .enum-told4 .given .1))
-    (λ c. rw (c .enum-told5 .given .1))
-    (λ c. rw (c .enum-told6 .given .1)))
+    (λ c. rw (c .enum-told .given .1)) returns-4 (λ c. rw (c .enum-told3 .given .1))
+    (λ c. rw (c .enum-told4 .given .1)) (λ c. rw (c .enum-told5 .given .1)) (λ c. rw (c .enum-told6 .given .1)))

@@ -12,30 +12,12 @@ use Rattle.write_messages.proofs.variable_word.Tie as tie
 abbrev find-start : tie.After-find → tie.Start
 find-start c = c .before .before .before
 
-abbrev then-find : tie.Then1 → tie.After-find
-then-find c = c .before
-
-abbrev else-find : tie.Else1 → tie.After-find
-else-find c = c .before
-
-abbrev read-then : tie.After-shared-slice-known3 → tie.Then1
-read-then c = c .before
-
 abbrev read-find : tie.After-shared-slice-known3 → tie.After-find
-read-find c = then-find (read-then c)
+read-find c = c .before .before
 
 -- the receipt has an index
-indexed : (c : tie.Then1) → then-find c .find .result < length (find-start (then-find c) .args .indices .now)
-indexed c = omega (arith, find-start (then-find c) .pre .paired, c .if1 .taken)
-
-mul-result : tie.Need-mul-result
-mul-result c = let s = find-start (then-find c) in omega (arith, indexed c, s .good .1 .1 .0)
-
-shared-slice-read-result : tie.Need-shared-slice-read-result
-shared-slice-read-result c = omega (arith, indexed (read-then c))
-
-add-result : tie.Need-add-result
-add-result c = omega (arith, find-start (read-find c) .pre .small (read-find c .find .result))
+indexed : (c : tie.Then1) → c .before .find .result < length (find-start (c .before) .args .indices .now)
+indexed c = omega (arith, find-start (c .before) .pre .paired, c .if1 .taken)
 
 returns : tie.Need-returns
 unfolding word
@@ -47,11 +29,11 @@ returns c =
 returns-2 : tie.Need-returns-2
 unfolding word
 returns-2 c =
-    let f = else-find c in
+    let f = c .before in
     let s = find-start f in
     ap (λ (x : ℕ). 2415919104 + x) (index-none (s .args .receipts .now) (s .args .indices .now) (s .args .v) (f .find .result) (s .pre) (f .find .ensures) (c .if1 .left))
 
 pub variable-word-spec : {M : Type 1} → statement M
 variable-word-spec =
-    tie.close
-    (tie.spec (λ c κs. search needs) mul-result shared-slice-read-result add-result returns returns-2)
+    tie.close (tie.spec (λ c κs. search needs) (λ c. omega (arith, indexed c, find-start (c .before) .good .1 .1 .0)) (λ c. omega (arith, indexed (c .before)))
+    (λ c. omega (arith, find-start (read-find c) .pre .small (read-find c .find .result))) returns returns-2)

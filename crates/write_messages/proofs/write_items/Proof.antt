@@ -1,18 +1,14 @@
 -- `write_items` meets its contract: no items are one EMPTY, several are strung. Assumes nothing.
-use Prim.Native.Nat.{ℕ, _+_, _<_, _^_}
+use Prim.Native.Nat.{ℕ}
 use mathlib.Core.List.{List}
-use mathlib.Core.Path.{_≡_, ap, _∙_}
 use native.Mathlib.Omega.{arith}
-use lib.ListN.{length, drop}
+use lib.ListN.{drop}
 use Rattle.read_messages.specs.Words.{word}
 use Rattle.read_messages.specs.Message.{Message, items}
-use Rattle.read_messages.specs.Spelling.{spelled, messageAt}
+use Rattle.read_messages.specs.Spelling.{messageAt}
 use Rattle.theory_closures.specs.Resolve.{resolve}
 use Rattle.engine_bindings.specs.Bindings.{bindingsIn}
-use Rattle.engine_bindings.specs.Passes.{firsts, allItems}
 use Rattle.engine_bindings.proofs.Passing.{one-message}
-use Rattle.theory_written_trees.specs.Write.{Indices}
-use Rattle.write_messages.specs.Indices.{indicesIn}
 use Rattle.write_messages.proofs.Lending.{wrote-as, wrote-if}
 use Rattle.write_messages.proofs.Words.{few-words}
 use Rattle.write_messages.proofs.Items.{items-none, items-some}
@@ -28,70 +24,42 @@ known-start c = c .before .before .before .before .before .before .before
 abbrev count-start : tie.After-item-count → tie.Start
 count-start c = known-start (c .before)
 
-abbrev then-count : tie.Then1 → tie.After-item-count
-then-count c = c .before
-
 abbrev empty-then : tie.After-write-word → tie.Then1
 empty-then c = c .before .before
 
 abbrev end-empty : tie.After-slice-known2 → tie.After-write-word
 end-empty c = c .before .before
 
-abbrev tail-else : tie.After-tail → tie.Else1
-tail-else c = c .before
-
 abbrev tail-count : tie.After-tail → tie.After-item-count
-tail-count c = tail-else c .before
-
-abbrev asked-tail : tie.After-write-rest-arg → tie.After-tail
-asked-tail c = c .before
+tail-count c = c .before .before
 
 abbrev rest-tail : tie.After-write-rest → tie.After-tail
-rest-tail c = asked-tail (c .before)
+rest-tail c = c .before .before
 
 abbrev end-rest : tie.After-slice-known3 → tie.After-write-rest
 end-rest c = c .before .before
 
 -- ---- what is written
 
-abbrev ix : tie.Start → Indices
-ix s = indicesIn (s .args .receipts .now) (s .args .indices .now)
-
 abbrev σ : tie.Start → List (ℕ × Message)
 σ s = bindingsIn (s .args .script .now) (s .args .variables .now) (s .args .places .now)
 
-abbrev words : tie.Start → List ℕ
-words s = drop (s .args .at) (s .args .script .now)
-
 abbrev message-items : tie.Start → List Message
-message-items s = items (resolve (σ s) (messageAt (words s)))
+message-items s = items (resolve (σ s) (messageAt (drop (s .args .at) (s .args .script .now))))
 
 -- ---- the needs
-
-item-count-requires : tie.Need-item-count-requires
-item-count-requires c κs = known-start c .pre .0
 
 returns : tie.Need-returns
 unfolding word
 returns c =
     let w = end-empty c in
-    let n = then-count (empty-then w) in
+    let n = empty-then w .before in
     let s = count-start n in
-    wrote-as (items-none (ix s) (s .args .offset) (n .item-count .result) (message-items s) (n .item-count .ensures) (empty-then w .if1 .taken) (omega (arith, s .pre .2))) (w .write-word .ensures)
-
-sub-write-rest : tie.Need-sub-write-rest
-sub-write-rest c = omega (arith, tail-else c .if1 .left)
+    wrote-as (items-none _ (s .args .offset) (n .item-count .result) (message-items s) (n .item-count .ensures) (empty-then w .if1 .taken) (omega (arith, s .pre .small))) (w .write-word .ensures)
 
 -- one message is pending, before words that are fewer than 2^64
-few : (c : tie.After-tail) → 1 + length (c .tail .result .now) < 2 ^ 64
-few c = let s = count-start (tail-count c) in few-words (s .args .script .now) (s .args .at) (c .tail .ensures) (s .good .0 .1)
-
--- the items of the message that is pending
-read : (c : tie.After-tail) → let s = count-start (tail-count c) in allItems (σ s) (firsts 1 (spelled (c .tail .result .now))) ≡ message-items s
-read c = let s = count-start (tail-count c) in ap (λ (l : List ℕ). allItems (σ s) (firsts 1 (spelled l))) (c .tail .ensures) ∙ one-message (σ s) (words s)
-
 write-rest-requires : tie.Need-write-rest-requires
-write-rest-requires c κs = let l = asked-tail c in let p = count-start (tail-count l) .pre in (few l, p .0, p .1, p .2)
+write-rest-requires c κs = let s = count-start (tail-count (c .before)) in (few-words (s .args .script .now) (s .args .at) (c .before .tail .ensures) (s .good .0 .1), s .pre)
 
 returns-2 : tie.Need-returns-2
 returns-2 c =
@@ -99,18 +67,8 @@ returns-2 c =
     let l = rest-tail w in
     let n = tail-count l in
     let s = count-start n in
-    wrote-if (λ h. items-some (ix s) (s .args .offset) (n .item-count .result) (message-items s) (n .item-count .ensures) (tail-else l .if1 .left) (read l) (omega (arith, h, s .pre .2))) (w .write-rest .ensures)
+    wrote-if (λ h. items-some _ (s .args .offset) (n .item-count .result) (message-items s) (n .item-count .ensures) (l .before .if1 .left) (one-message (σ s) (l .tail .ensures)) (omega (arith, h, s .pre .small))) (w .write-rest .ensures)
 
 pub write-items-spec : {M : Type 1} → statement M
-write-items-spec =
-    tie.close
-    (tie.spec
-    item-count-requires
-    (λ c κs. search needs)
-    (λ c. search needs)
-    returns
-    (λ c κs. search needs)
-    sub-write-rest
-    write-rest-requires
-    (λ c. search needs)
-    returns-2)
+write-items-spec = tie.close (tie.spec (λ c κs. known-start c .pre .counted) (λ c κs. search needs) (λ c. search needs) returns (λ c κs. search needs)
+    (λ c. omega (arith, c .before .if1 .left)) write-rest-requires (λ c. search needs) returns-2)

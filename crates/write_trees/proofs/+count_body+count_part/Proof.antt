@@ -1,7 +1,6 @@
 -- `count_body` and `count_part` meet their contracts: the first part, and those beside it; a part's head, and its body. The
 -- measure is twice the fuel, and one more for a part. Assumes nothing.
 use Prim.Native.Nat.{ℕ, suc, _*_, _<_}
-use mathlib.Core.Bool.{true, false}
 use mathlib.Core.List.{List, _∷_, tail}
 use mathlib.Core.Path.{_≡_, sym, ap, _∙_}
 use native.Mathlib.Omega.{arith}
@@ -9,258 +8,161 @@ use borrow.Author.Needs.{needs}
 use Rattle.base_sets.specs.Sets.{members}
 use Rattle.base_sets.proofs.Members.{first-is, first-below, not-none, members-empty}
 use Rattle.read_scripts.specs.Represents.{bodyIn}
-use Rattle.engine_bindings.specs.Bindings.{bindingsIn}
-use Rattle.theory_closures.specs.Closure.{ClosureHead, Bindings}
+use Rattle.theory_closures.specs.Closure.{ClosureHead}
 use Rattle.engine_states.specs.Represents.{heads}
-use Rattle.write_trees.specs.Bodies.{hasBody}
 use Rattle.write_trees.proofs.Parts.{counts-none, counts-end, counts-inside, counts-only, counts-more}
-use Prim.Native.Nat.{ℕ, _<_}
-use borrow.Fn.Kinds.{In}
+use borrow.Fn.Kinds.{In, Out}
 use borrow.Fn.PlainCycle.{Measures, is, falls, and}
 use Rattle.write_trees.proofs.count_body.Reads as count-body
-use Rattle.write_trees.proofs.count_body.Kinds as count-body-kinds
-use Rattle.write_trees.proofs.+count_body+count_part.Lts-count_body as count-body-lts
+use Rattle.write_trees.proofs.count_body.Kinds as body-kinds
+use Rattle.write_trees.proofs.+count_body+count_part.Lts-count_body as body-lts
 use Rattle.write_trees.proofs.count_part.Reads as count-part
-use Rattle.write_trees.proofs.count_part.Kinds as count-part-kinds
-use Rattle.write_trees.proofs.+count_body+count_part.Lts-count_part as count-part-lts
-use Rattle.base_slices.proofs.sum.Reads as sum-reads
-use Rattle.base_sets.proofs.first.Reads as first-reads
-use Rattle.base_sets.proofs.rest.Reads as rest-reads
-use Rattle.write_trees.proofs.count_head.Reads as count-head-reads
-use Rattle.write_trees.proofs.has_body.Reads as has-body-reads
+use Rattle.write_trees.proofs.count_part.Kinds as part-kinds
+use Rattle.write_trees.proofs.+count_body+count_part.Lts-count_part as part-lts
+use Rattle.base_slices.proofs.sum.Reads as sum
+use Rattle.base_sets.proofs.first.Reads as first
+use Rattle.base_sets.proofs.rest.Reads as rest
+use Rattle.write_trees.proofs.count_head.Reads as count-head
+use Rattle.write_trees.proofs.has_body.Reads as has-body
 use Rattle.write_trees.proofs.+count_body+count_part.{statement}
 use Rattle.write_trees.proofs.+count_body+count_part.Tie.{close}
 
-abbrev μ-count-body : Measures 1 count-body-kinds.ps ℕ
-μ-count-body κs a = 2 * a .1 .1 .1 .1 .1 .1 .1 .1 .1 .1 .1 .0
+abbrev μ-body : Measures 1 body-kinds.ps ℕ
+μ-body κs a = 2 * a .1 .1 .1 .1 .1 .1 .1 .1 .1 .1 .1 .0
 
-abbrev μ-count-part : Measures 1 count-part-kinds.ps ℕ
-μ-count-part κs a = suc (2 * a .1 .1 .1 .1 .1 .1 .1 .1 .1 .1 .1 .0)
-
-abbrev count-body-at : ℕ → In 1 count-body-kinds.ps
-count-body-at t = and 1 count-body-kinds.ps (is 1 count-body-kinds.ps μ-count-body t) count-body.Pre
-
-abbrev count-body-below : ℕ → In 1 count-body-kinds.ps
-count-body-below t = and 1 count-body-kinds.ps (falls 1 count-body-kinds.ps _<_ μ-count-body t) count-body.Pre
-
-abbrev count-part-at : ℕ → In 1 count-part-kinds.ps
-count-part-at t = and 1 count-part-kinds.ps (is 1 count-part-kinds.ps μ-count-part t) count-part.Pre
-
-abbrev count-part-below : ℕ → In 1 count-part-kinds.ps
-count-part-below t = and 1 count-part-kinds.ps (falls 1 count-part-kinds.ps _<_ μ-count-part t) count-part.Pre
-
-abbrev count-body-claims : ℕ → count-body-lts.Claims
-count-body-claims t = (first-reads.Asked, first-reads.Learnt, count-part-below t, count-part.Post, rest-reads.Asked, rest-reads.Learnt, count-body-below t, count-body.Post, sum-reads.Asked, sum-reads.Learnt)
-
-abbrev count-part-claims : ℕ → count-part-lts.Claims
-count-part-claims t = (count-head-reads.Asked, count-head-reads.Learnt, has-body-reads.Asked, has-body-reads.Learnt, count-body-below t, count-body.Post, sum-reads.Asked, sum-reads.Learnt)
+abbrev μ-part : Measures 1 part-kinds.ps ℕ
+μ-part κs a = suc (2 * a .1 .1 .1 .1 .1 .1 .1 .1 .1 .1 .1 .0)
 
 module _ (t : ℕ) where
+  abbrev body-at : In 1 body-kinds.ps
+  body-at = and 1 body-kinds.ps (is 1 body-kinds.ps μ-body t) count-body.Pre
+
+  abbrev part-at : In 1 part-kinds.ps
+  part-at = and 1 part-kinds.ps (is 1 part-kinds.ps μ-part t) count-part.Pre
+
+  abbrev body-below : In 1 body-kinds.ps
+  body-below = and 1 body-kinds.ps (falls 1 body-kinds.ps _<_ μ-body t) count-body.Pre
+
+  abbrev body-claims : body-lts.Claims
+  body-claims = (first.Asked, first.Learnt, and 1 part-kinds.ps (falls 1 part-kinds.ps _<_ μ-part t) count-part.Pre, count-part.Post, rest.Asked, rest.Learnt, body-below, count-body.Post, sum.Asked, sum.Learnt)
+
+  abbrev part-claims : part-lts.Claims
+  part-claims = (count-head.Asked, count-head.Learnt, has-body.Asked, has-body.Learnt, body-below, count-body.Post, sum.Asked, sum.Learnt)
+
   -- ---- count_body: the places, and the way from each to those before it
 
-  abbrev BodyStart : Type 0
-  BodyStart = count-body-lts.Start (count-body-claims t) (count-body-at t) count-body.Post
+  abbrev Body : (body-lts.Claims → In 1 body-kinds.ps → Out 1 body-kinds.ps body-kinds.r → Type 0) → Type 0
+  Body place = place body-claims body-at count-body.Post
 
-  abbrev BodyElse : Type 0
-  BodyElse = count-body-lts.Else1 (count-body-claims t) (count-body-at t) count-body.Post
+  abbrev known-start : Body body-lts.After-shared-slice-known6 → Body body-lts.Start
+  known-start c = c .before .before .before .before .before .before
 
-  abbrev First : Type 0
-  First = count-body-lts.After-first (count-body-claims t) (count-body-at t) count-body.Post
+  abbrev fuel-start : Body body-lts.Then2 → Body body-lts.Start
+  fuel-start c = known-start (c .before .before)
 
-  abbrev Rest : Type 0
-  Rest = count-body-lts.After-rest (count-body-claims t) (count-body-at t) count-body.Post
+  -- the first part is found
+  abbrev first-else : Body body-lts.After-first → Body body-lts.Else1
+  first-else c = c .before .before
 
-  abbrev then-start : count-body-lts.Then1 (count-body-claims t) (count-body-at t) count-body.Post → BodyStart
-  then-start c = c .before .before .before .before .before .before .before
+  abbrev first-start : Body body-lts.After-first → Body body-lts.Start
+  first-start c = known-start (first-else c .before)
 
-  abbrev else-start : BodyElse → BodyStart
-  else-start c = c .before .before .before .before .before .before .before
+  -- it is counted, and those beside it are left
+  abbrev rest-first : Body body-lts.After-rest → Body body-lts.After-first
+  rest-first c = c .before .before
 
-  abbrev fuel-else : count-body-lts.Then2 (count-body-claims t) (count-body-at t) count-body.Post → BodyElse
-  fuel-else c = c .before
-
-  abbrev first-some : First → count-body-lts.Else2 (count-body-claims t) (count-body-at t) count-body.Post
-  first-some c = c .before
-
-  abbrev first-else : First → BodyElse
-  first-else c = first-some c .before
-
-  abbrev first-start : First → BodyStart
-  first-start c = else-start (first-else c)
-
-  abbrev counted-first : count-body-lts.After-count-part (count-body-claims t) (count-body-at t) count-body.Post → First
-  counted-first c = c .before
-
-  abbrev rest-counted : Rest → count-body-lts.After-count-part (count-body-claims t) (count-body-at t) count-body.Post
-  rest-counted c = c .before
-
-  abbrev rest-first : Rest → First
-  rest-first c = counted-first (rest-counted c)
-
-  abbrev sum-others : count-body-lts.After-sum (count-body-claims t) (count-body-at t) count-body.Post → count-body-lts.After-count-body (count-body-claims t) (count-body-at t) count-body.Post
-  sum-others c = c .before
-
-  abbrev sum-rest : count-body-lts.After-sum (count-body-claims t) (count-body-at t) count-body.Post → Rest
-  sum-rest c = sum-others c .before
+  abbrev sum-rest : Body body-lts.After-sum → Body body-lts.After-rest
+  sum-rest c = c .before .before
 
   -- ---- count_body: what is known at each
 
-  abbrev body-σ : BodyStart → Bindings
-  body-σ s = bindingsIn (s .args .script .now) (s .args .variables .now) (s .args .places .now)
+  abbrev body-heads : Body body-lts.Start → ℕ → ClosureHead
+  body-heads s = heads (s .args .script .now) (s .args .kinds .now) (s .args .starts .now) (s .args .offsets .now)
 
-  abbrev body-w : BodyStart → ℕ → ClosureHead
-  body-w s = heads (s .args .script .now) (s .args .kinds .now) (s .args .starts .now) (s .args .offsets .now)
+  fuel-left : (c : Body body-lts.After-first) → 0 < first-start c .args .fuel
+  fuel-left c = omega (arith, c .before .if2 .left)
 
-  fuel-left : (c : First) → 0 < first-start c .args .fuel
-  fuel-left c = omega (arith, first-some c .if2 .left)
-
-  first-then : (c : First) → let m = members (first-start c .args .left) in m ≡ c .first .result ∷ tail m
+  first-then : (c : Body body-lts.After-first) → let m = members (first-start c .args .left) in m ≡ c .first .result ∷ tail m
   first-then c = let s = first-start c in first-is (s .args .left) (c .first .result) (s .fits .left .fits) (first-else c .if1 .left) (c .first .ensures)
-
-  first-rest : (c : Rest) → members (first-start (rest-first c) .args .left) ≡ rest-first c .first .result ∷ members (c .rest .result)
-  first-rest c = let f = rest-first c in first-then f ∙ ap (λ (l : List ℕ). f .first .result ∷ l) (sym (c .rest .ensures))
 
   -- ---- count_body: the needs
 
-  count-body-returns : count-body-lts.Need-returns (count-body-claims t) (count-body-at t) count-body.Post
-  count-body-returns c = let s = then-start c in counts-none (body-σ s) (bodyIn (s .args .kids .now)) (body-w s) (members (s .args .left)) (s .args .fuel) (ap members (c .if1 .taken) ∙ members-empty)
+  none-returns : Body body-lts.Need-returns
+  none-returns c = let s = known-start (c .before) in counts-none _ (bodyIn (s .args .kids .now)) (body-heads s) _ (s .args .fuel) (ap members (c .if1 .taken) ∙ members-empty)
 
-  count-body-returns-2 : count-body-lts.Need-returns-2 (count-body-claims t) (count-body-at t) count-body.Post
-  count-body-returns-2 c = let s = else-start (fuel-else c) in counts-end (body-σ s) (bodyIn (s .args .kids .now)) (body-w s) (members (s .args .left)) (s .args .fuel) (c .if2 .taken)
+  fuel-returns : Body body-lts.Need-returns-2
+  fuel-returns c = let s = fuel-start c in counts-end _ (bodyIn (s .args .kids .now)) (body-heads s) _ (s .args .fuel) (c .if2 .taken)
 
-  count-body-count-part-requires : count-body-lts.Need-count-part-requires (count-body-claims t) (count-body-at t) count-body.Post
-  count-body-count-part-requires c κs =
+  part-requires : Body body-lts.Need-count-part-requires
+  part-requires c κs =
       let s = first-start c in
       (omega (arith, s .pre .0, fuel-left c), (s .pre .1 .0, s .pre .1 .1, first-below (s .args .left) (c .first .result) (tail (members (s .args .left))) (first-then c)))
 
-  count-body-rest-requires : count-body-lts.Need-rest-requires (count-body-claims t) (count-body-at t) count-body.Post
-  count-body-rest-requires c κs = let f = counted-first c in let s = first-start f in not-none (s .args .left) (s .fits .left .fits) (first-else f .if1 .left)
+  rest-requires : Body body-lts.Need-rest-requires
+  rest-requires c κs = let f = c .before in let s = first-start f in not-none (s .args .left) (s .fits .left .fits) (first-else f .if1 .left)
 
-  count-body-count-body-requires : count-body-lts.Need-count-body-requires (count-body-claims t) (count-body-at t) count-body.Post
-  count-body-count-body-requires c κs = let f = rest-first c in let s = first-start f in (omega (arith, s .pre .0, fuel-left f), s .pre .1)
+  beside-requires : Body body-lts.Need-count-body-requires
+  beside-requires c κs = let f = rest-first c in let s = first-start f in (omega (arith, s .pre .0, fuel-left f), s .pre .1)
 
-  count-body-returns-3 : count-body-lts.Need-returns-3 (count-body-claims t) (count-body-at t) count-body.Post
-  count-body-returns-3 c =
+  beside-returns : Body body-lts.Need-returns-3
+  beside-returns c =
       let r = sum-rest c in
       let f = rest-first r in
       let s = first-start f in
-      counts-more (body-σ s) (bodyIn (s .args .kids .now)) (body-w s) (members (s .args .left)) (s .args .fuel) (f .first .result) (members (r .rest .result)) (first-rest r) (rest-counted r .count-part .ensures) (sum-others c .count-body .ensures) (c .sum .ensures)
+      counts-more _ (bodyIn (s .args .kids .now)) (body-heads s) _ (s .args .fuel) (f .first .result) (members (r .rest .result)) (first-then f ∙ ap (λ (l : List ℕ). f .first .result ∷ l) (sym (r .rest .ensures))) (r .before .count-part .ensures) (c .before .count-body .ensures) (c .sum .ensures)
+
+  body-met : {M : Type 1} → body-lts.Closed body-claims body-at count-body.Post M
+  body-met = body-lts.spec body-claims body-at count-body.Post none-returns fuel-returns (λ c κs. search needs) (λ c. omega (arith, fuel-left c)) part-requires rest-requires
+      (λ c. omega (arith, fuel-left (rest-first c))) beside-requires (λ c κs. search needs) beside-returns
 
   -- ---- count_part: the places, and the way from each to those before it
 
-  abbrev PartStart : Type 0
-  PartStart = count-part-lts.Start (count-part-claims t) (count-part-at t) count-part.Post
+  abbrev Part : (part-lts.Claims → In 1 part-kinds.ps → Out 1 part-kinds.ps part-kinds.r → Type 0) → Type 0
+  Part place = place part-claims part-at count-part.Post
 
-  abbrev Head : Type 0
-  Head = count-part-lts.After-count-head (count-part-claims t) (count-part-at t) count-part.Post
+  abbrev kind-start : Part part-lts.After-kind → Part part-lts.Start
+  kind-start c = c .before .before .before .before .before .before .before
 
-  abbrev Has : Type 0
-  Has = count-part-lts.After-has-body (count-part-claims t) (count-part-at t) count-part.Post
+  abbrev offset-start : Part part-lts.After-offset → Part part-lts.Start
+  offset-start c = kind-start (c .before .before)
 
-  abbrev Then : Type 0
-  Then = count-part-lts.Then1 (count-part-claims t) (count-part-at t) count-part.Post
+  -- the head is counted
+  abbrev has-start : Part part-lts.After-has-body → Part part-lts.Start
+  has-start c = offset-start (c .before .before)
 
-  abbrev known-start : count-part-lts.After-shared-slice-known6 (count-part-claims t) (count-part-at t) count-part.Post → PartStart
-  known-start c = c .before .before .before .before .before .before
+  -- the part has a body
+  abbrev inside-start : Part part-lts.After-inside → Part part-lts.Start
+  inside-start c = has-start (c .before .before)
 
-  abbrev kind-start : count-part-lts.After-kind (count-part-claims t) (count-part-at t) count-part.Post → PartStart
-  kind-start c = known-start (c .before)
-
-  abbrev start-start : count-part-lts.After-start (count-part-claims t) (count-part-at t) count-part.Post → PartStart
-  start-start c = kind-start (c .before)
-
-  abbrev offset-start : count-part-lts.After-offset (count-part-claims t) (count-part-at t) count-part.Post → PartStart
-  offset-start c = start-start (c .before)
-
-  abbrev head-start : Head → PartStart
-  head-start c = offset-start (c .before)
-
-  abbrev has-head : Has → Head
-  has-head c = c .before
-
-  abbrev then-has : Then → Has
-  then-has c = c .before
-
-  abbrev then-head : Then → Head
-  then-head c = has-head (then-has c)
-
-  abbrev else-has : count-part-lts.Else1 (count-part-claims t) (count-part-at t) count-part.Post → Has
-  else-has c = c .before
-
-  abbrev else-head : count-part-lts.Else1 (count-part-claims t) (count-part-at t) count-part.Post → Head
-  else-head c = has-head (else-has c)
-
-  abbrev inside-then : count-part-lts.After-inside (count-part-claims t) (count-part-at t) count-part.Post → Then
-  inside-then c = c .before
-
-  abbrev sum-body : count-part-lts.After-sum (count-part-claims t) (count-part-at t) count-part.Post → count-part-lts.After-count-body (count-part-claims t) (count-part-at t) count-part.Post
-  sum-body c = c .before
-
-  abbrev sum-then : count-part-lts.After-sum (count-part-claims t) (count-part-at t) count-part.Post → Then
-  sum-then c = inside-then (sum-body c .before)
-
-  -- ---- count_part: what is known at each
-
-  abbrev part-σ : PartStart → Bindings
-  part-σ s = bindingsIn (s .args .script .now) (s .args .variables .now) (s .args .places .now)
-
-  abbrev part-w : PartStart → ℕ → ClosureHead
-  part-w s = heads (s .args .script .now) (s .args .kinds .now) (s .args .starts .now) (s .args .offsets .now)
-
-  body : (c : Then) → let s = head-start (then-head c) in hasBody (part-w s (s .args .i)) ≡ true
-  body c = sym (then-has c .has-body .ensures (head-start (then-head c) .args .script .now) _ _) ∙ c .if1 .taken
-
-  no-body : (c : count-part-lts.Else1 (count-part-claims t) (count-part-at t) count-part.Post) → let s = head-start (else-head c) in hasBody (part-w s (s .args .i)) ≡ false
-  no-body c = sym (else-has c .has-body .ensures (head-start (else-head c) .args .script .now) _ _) ∙ c .if1 .left
+  abbrev sum-then : Part part-lts.After-sum → Part part-lts.Then1
+  sum-then c = c .before .before .before
 
   -- ---- count_part: the needs
 
-  count-part-count-head-requires : count-part-lts.Need-count-head-requires (count-part-claims t) (count-part-at t) count-part.Post
-  count-part-count-head-requires c κs = let s = offset-start c in (s .pre .1 .0, s .pre .1 .1 .placed (s .args .i), omega (arith, s .pre .1 .1 .spent (s .args .i)))
+  abbrev part-heads : Part part-lts.Start → ℕ → ClosureHead
+  part-heads s = heads (s .args .script .now) (s .args .kinds .now) (s .args .starts .now) (s .args .offsets .now)
 
-  count-part-count-body-requires : count-part-lts.Need-count-body-requires (count-part-claims t) (count-part-at t) count-part.Post
-  count-part-count-body-requires c κs = let s = head-start (then-head (inside-then c)) in (omega (arith, s .pre .0), (s .pre .1 .0, s .pre .1 .1))
+  head-requires : Part part-lts.Need-count-head-requires
+  head-requires c κs = let s = offset-start c in (s .pre .1 .0, s .pre .1 .1 .placed (s .args .i), omega (arith, s .pre .1 .1 .spent (s .args .i)))
 
-  count-part-returns : count-part-lts.Need-returns (count-part-claims t) (count-part-at t) count-part.Post
-  count-part-returns c =
+  inside-returns : Part part-lts.Need-returns
+  inside-returns c =
       let e = sum-then c in
-      let h = then-head e in
-      let s = head-start h in
-      counts-inside (part-σ s) (bodyIn (s .args .kids .now)) (part-w s) (bodyIn (s .args .kids .now) (s .args .i)) (s .args .fuel) (part-w s (s .args .i)) (h .count-head .ensures) (body e) (sum-body c .count-body .ensures) (c .sum .ensures)
+      let h = e .before in
+      let s = has-start h in
+      counts-inside _ (bodyIn (s .args .kids .now)) (part-heads s) _ (s .args .fuel) (part-heads s (s .args .i)) (h .before .count-head .ensures) (sym (h .has-body .ensures (s .args .script .now) _ _) ∙ e .if1 .taken) (c .before .count-body .ensures) (c .sum .ensures)
 
-  count-part-returns-2 : count-part-lts.Need-returns-2 (count-part-claims t) (count-part-at t) count-part.Post
-  count-part-returns-2 c =
-      let h = else-head c in
-      let s = head-start h in
-      counts-only (part-σ s) (bodyIn (s .args .kids .now)) (part-w s) (bodyIn (s .args .kids .now) (s .args .i)) (s .args .fuel) (part-w s (s .args .i)) (h .count-head .ensures) (no-body c)
+  only-returns : Part part-lts.Need-returns-2
+  only-returns c =
+      let h = c .before in
+      let s = has-start h in
+      counts-only _ (bodyIn (s .args .kids .now)) (part-heads s) _ (s .args .fuel) (part-heads s (s .args .i)) (h .before .count-head .ensures) (sym (h .has-body .ensures (s .args .script .now) _ _) ∙ c .if1 .left)
+
+  part-met : {M : Type 1} → part-lts.Closed part-claims part-at count-part.Post M
+  part-met = part-lts.spec part-claims part-at count-part.Post (λ c. search needs) (λ c. omega (arith, kind-start c .pre .1 .2)) (λ c. kind-start c .pre .1 .2)
+      (λ c. omega (arith, kind-start (c .before) .pre .1 .2)) (λ c. kind-start (c .before) .pre .1 .2) head-requires (λ c κs. search needs)
+      (λ c. omega (arith, has-start (c .before) .pre .1 .2)) (λ c. omega (arith, has-start (c .before) .pre .1 .2))
+      (λ c κs. (omega (arith, inside-start c .pre .0), (inside-start c .pre .1 .0, inside-start c .pre .1 .1))) (λ c κs. search needs) inside-returns only-returns
 
 pub +count-body+count-part-spec : {M : Type 1} → statement M
-+count-body+count-part-spec = close μ-count-body μ-count-part (λ t. count-body-lts.spec (count-body-claims t)
-    (count-body-at t)
-    count-body.Post
-    (count-body-returns t)
-    (count-body-returns-2 t)
-    (λ c κs. search needs)
-    (λ c. omega (arith, fuel-left t c))
-    (count-body-count-part-requires t)
-    (count-body-rest-requires t)
-    (λ c. omega (arith, fuel-left t (rest-first t c)))
-    (count-body-count-body-requires t)
-    (λ c κs. search needs)
-    (count-body-returns-3 t))
-    λ t. count-part-lts.spec (count-part-claims t)
-    (count-part-at t)
-    count-part.Post
-    (λ c. known-start t c .pre .1 .2)
-    (λ c. omega (arith, kind-start t c .pre .1 .2))
-    (λ c. kind-start t c .pre .1 .2)
-    (λ c. omega (arith, start-start t c .pre .1 .2))
-    (λ c. start-start t c .pre .1 .2)
-    (count-part-count-head-requires t)
-    (λ c κs. search needs)
-    (λ c. omega (arith, head-start t (then-head t c) .pre .1 .2))
-    (λ c. omega (arith, head-start t (then-head t c) .pre .1 .2))
-    (count-part-count-body-requires t)
-    (λ c κs. search needs)
-    (count-part-returns t)
-    (count-part-returns-2 t)
++count-body+count-part-spec = close μ-body μ-part (λ t. body-met t) (λ t. part-met t)

@@ -7,8 +7,7 @@ use Rattle.write_trees.proofs.nothing_around.Tie as tie
 
 returns : tie.Need-returns
 unfolding indicesOf indicesIn
-returns c =
-    search needs
+returns c = search needs
 
 pub nothing-around-spec : {M : Type 1} → statement M
 nothing-around-spec = tie.close (tie.spec returns)
