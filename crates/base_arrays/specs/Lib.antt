@@ -1,2 +1,2 @@
--- What the contracts of `arrays` cite. Assumes nothing: these are definitions.
+-- What the contracts of `base_arrays` cite. Assumes nothing: these are definitions.
 pub mod Stretches

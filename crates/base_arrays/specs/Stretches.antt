@@ -9,7 +9,7 @@ unfoldable pub stretch : (i n : ℕ) → List ℕ → List ℕ
 stretch i zero l = []
 stretch i (suc n) l = getD l i 0 ∷ stretch (suc i) n l
 
--- `after` is `before` with the numbers of `from` at the place `at`
+-- `after` is `before` with the numbers of `from` at the index `at`
 pub record Put (at : ℕ) (from before after : List ℕ) : Type 0 where
   pub here : (i : ℕ) → i < length from → getD after (at + i) 0 ≡ getD from i 0
   pub below : (j : ℕ) → j < at → getD after j 0 ≡ getD before j 0

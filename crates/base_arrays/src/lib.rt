@@ -1,11 +1,11 @@
-// Copies between arrays, and small numbers as bytes: an array is put into a stretch of a longer one, and a stretch is read
-// out again. It rests on slices, for a law of tests.
+// Copies between arrays, and small numbers as bytes: an array is put into a stretch of a longer one, and a stretch is
+// read out again.
 ghost use mathlib.Core.Path.{_≡_};
 ghost use Prim.Native.Nat.{ℕ, _+_, _≤_, _<_};
 ghost use lib.ListN.{length, getD};
 ghost use Rattle.base_arrays.specs.Stretches.{stretch, Put};
 
-// Writes the numbers of from at the place at.
+// Writes the numbers of from at the index at.
 pub fn put_numbers<'a, 'b>(to: &'b mut [u32; 481], at: usize, from: &'a [u32])
     requires { ⌜ (length (now to) ≡ 481) × (at + length (now from) ≤ 481) ⌝ }
     ensures kept { λ r. ⌜ length (now (to .exit)) ≡ 481 ⌝ }
@@ -18,7 +18,7 @@ pub fn put_numbers<'a, 'b>(to: &'b mut [u32; 481], at: usize, from: &'a [u32])
     }
 }
 
-// Writes the sets of from at the place at.
+// Writes the sets of from at the index at.
 pub fn put_sets<'a, 'b>(to: &'b mut [u64; 131], at: usize, from: &'a [u64])
     requires { ⌜ (length (now to) ≡ 131) × (at + length (now from) ≤ 131) ⌝ }
     ensures kept { λ r. ⌜ length (now (to .exit)) ≡ 131 ⌝ }
@@ -31,7 +31,7 @@ pub fn put_sets<'a, 'b>(to: &'b mut [u64; 131], at: usize, from: &'a [u64])
     }
 }
 
-// Fills to with the numbers of from from the place at on.
+// Fills to with the numbers of from from the index at on.
 fn read_numbers<'a, 'b>(from: &'a [u32], at: usize, to: &'b mut [u32])
     requires { ⌜ at + length (now to) ≤ length (now from) ⌝ }
     ensures { λ r. ⌜ now (to .exit) ≡ stretch at (length (now (to .entry))) (now (from .entry)) ⌝ }
@@ -43,7 +43,7 @@ fn read_numbers<'a, 'b>(from: &'a [u32], at: usize, to: &'b mut [u32])
     }
 }
 
-// Fills to with the sets of from from the place at on.
+// Fills to with the sets of from from the index at on.
 fn read_sets<'a, 'b>(from: &'a [u64], at: usize, to: &'b mut [u64])
     requires { ⌜ at + length (now to) ≤ length (now from) ⌝ }
     ensures { λ r. ⌜ now (to .exit) ≡ stretch at (length (now (to .entry))) (now (from .entry)) ⌝ }
@@ -55,7 +55,7 @@ fn read_sets<'a, 'b>(from: &'a [u64], at: usize, to: &'b mut [u64])
     }
 }
 
-// The 64 numbers from the place at on.
+// The 64 numbers from the index at on.
 pub fn numbers_64(from: &[u32; 481], at: usize) -> [u32; 64]
     requires { ⌜ at + 64 ≤ 481 ⌝ }
     ensures { λ r. ⌜ r ≡ stretch at 64 (now (from .entry)) ⌝ }
@@ -65,7 +65,7 @@ pub fn numbers_64(from: &[u32; 481], at: usize) -> [u32; 64]
     r
 }
 
-// The 32 numbers from the place at on.
+// The 32 numbers from the index at on.
 pub fn numbers_32(from: &[u32; 481], at: usize) -> [u32; 32]
     requires { ⌜ at + 32 ≤ 481 ⌝ }
     ensures { λ r. ⌜ r ≡ stretch at 32 (now (from .entry)) ⌝ }
@@ -75,7 +75,7 @@ pub fn numbers_32(from: &[u32; 481], at: usize) -> [u32; 32]
     r
 }
 
-// The 64 sets from the place at on.
+// The 64 sets from the index at on.
 pub fn sets_64(from: &[u64; 131], at: usize) -> [u64; 64]
     requires { ⌜ at + 64 ≤ 131 ⌝ }
     ensures { λ r. ⌜ r ≡ stretch at 64 (now (from .entry)) ⌝ }
@@ -85,7 +85,7 @@ pub fn sets_64(from: &[u64; 131], at: usize) -> [u64; 64]
     r
 }
 
-// The 65 sets from the place at on.
+// The 65 sets from the index at on.
 pub fn sets_65(from: &[u64; 131], at: usize) -> [u64; 65]
     requires { ⌜ at + 65 ≤ 131 ⌝ }
     ensures { λ r. ⌜ r ≡ stretch at 65 (now (from .entry)) ⌝ }

@@ -56,7 +56,7 @@ pub odd-or : (a b : ℕ) → isOdd (bitOr a b) ≡ (isOdd a || isOdd b)
 unfolding isOdd
 odd-or a b = ap (λ (x : ℕ). eqb x 1) (or-low a b) ∙ max-bit (a % 2) (b % 2) (omega arith) (omega arith)
 
--- ---- the digit at a place
+-- ---- the digit at a position
 
 pub has-and : (a b i : ℕ) → has (bitAnd a b) i ≡ (has a i && has b i)
 unfolding has

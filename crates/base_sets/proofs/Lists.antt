@@ -11,7 +11,7 @@ use lib.Dec.{eqb, ltb}
 use lib.Pow.{pow-pos}
 use borrow.Author.Tests.{eqb-true, ltb-true, ltb-false}
 use Rattle.base_sets.specs.Sets.{members, elem, inserted, joined, mask, RisingFrom, AllUnder, removed, isOne, headOr}
-use Rattle.base_sets.proofs.Places.{places, members-places, places-0, places-1, places-zero}
+use Rattle.base_sets.proofs.Places.{positions, members-places, places-0, places-1, places-zero}
 use Rattle.base_sets.proofs.Members.{inserted-front, inserted-same, inserted-past, elem-keep}
 
 pub lt-or-ge : (a b : ℕ) → (a < b) ⊎ (b ≤ a)
@@ -64,8 +64,8 @@ inserted-rising a j (x ∷ l) h r = go (lt-or-ge j x) (λ e. inserted-rising (su
 up : (y b : ℕ) → y * 2 ^ suc b ≡ y * 2 * 2 ^ b
 up y b = ap (λ (n : ℕ). y * n) (pow-suc 2 b ∙ mul-comm (2 ^ b) 2) ∙ sym (mul-assoc y 2 (2 ^ b))
 
-placed : (d b : ℕ) (l : List ℕ) → RisingFrom b l → AllUnder (b + d) l → (y : ℕ) × (mask l ≡ y * 2 ^ b) × (y < 2 ^ d) × (places d b y ≡ l)
-unfolding mask places
+placed : (d b : ℕ) (l : List ℕ) → RisingFrom b l → AllUnder (b + d) l → (y : ℕ) × (mask l ≡ y * 2 ^ b) × (y < 2 ^ d) × (positions d b y ≡ l)
+unfolding mask positions
 placed zero b [] r s = (0, sym (zero-mul (2 ^ b)), omega arith, refl)
 placed zero b (x ∷ l) r s = absurd (let p : b ≤ x = r .0 in let q : x < b + 0 = s .0 in let f : ⊥ = omega arith in f)
 placed (suc d) b [] r s = (0, sym (zero-mul (2 ^ b)), omega (arith, pow-suc 2 d, pow-pos d), places-zero (suc d) b)
@@ -77,9 +77,9 @@ placed (suc d) b (x ∷ l) r s =
     shift = omega arith
 
     go : (b ≡ x) ⊎ (b < x)
-        → (b ≡ x → (y : ℕ) × (mask l ≡ y * 2 ^ suc b) × (y < 2 ^ d) × (places d (suc b) y ≡ l))
-        → (b < x → (y : ℕ) × (mask (x ∷ l) ≡ y * 2 ^ suc b) × (y < 2 ^ d) × (places d (suc b) y ≡ x ∷ l))
-        → (y : ℕ) × (mask (x ∷ l) ≡ y * 2 ^ b) × (y < 2 ^ suc d) × (places (suc d) b y ≡ x ∷ l)
+        → (b ≡ x → (y : ℕ) × (mask l ≡ y * 2 ^ suc b) × (y < 2 ^ d) × (positions d (suc b) y ≡ l))
+        → (b < x → (y : ℕ) × (mask (x ∷ l) ≡ y * 2 ^ suc b) × (y < 2 ^ d) × (positions d (suc b) y ≡ x ∷ l))
+        → (y : ℕ) × (mask (x ∷ l) ≡ y * 2 ^ b) × (y < 2 ^ suc d) × (positions (suc d) b y ≡ x ∷ l)
     go (inl e) p q =
         let t = p e in
         let y = t .0 in
@@ -88,7 +88,7 @@ placed (suc d) b (x ∷ l) r s =
           1 + y * 2,
           ap₂ (λ (m n : ℕ). m + n) (ap (λ (n : ℕ). 2 ^ n) (sym e) ∙ sym (one-mul (2 ^ b))) (t .1 ∙ up y b) ∙ sym (add-mul 1 (y * 2) (2 ^ b)),
           omega (arith, pow-suc 2 d),
-          places-1 d b (1 + y * 2) (omega arith) ∙ (λ i. e i ∷ (ap (places d (suc b)) h ∙ t .3) i),
+          places-1 d b (1 + y * 2) (omega arith) ∙ (λ i. e i ∷ (ap (positions d (suc b)) h ∙ t .3) i),
         )
     go (inr e) p q =
         let t = q e in
@@ -98,7 +98,7 @@ placed (suc d) b (x ∷ l) r s =
           y * 2,
           t .1 ∙ up y b,
           omega (arith, pow-suc 2 d),
-          places-0 d b (y * 2) (omega arith) ∙ ap (places d (suc b)) h ∙ t .3,
+          places-0 d b (y * 2) (omega arith) ∙ ap (positions d (suc b)) h ∙ t .3,
         )
 
 pub members-mask : (l : List ℕ) → RisingFrom 0 l → AllUnder 64 l → members (mask l) ≡ l

@@ -14,19 +14,19 @@ use lib.Count.{ones, ones-step, trailingZeros, under}
 use Rattle.base_sets.specs.Sets.{isOdd, has, keepIf, keep, numbersFrom, members, headOr, mask}
 use Rattle.base_sets.proofs.Digits.{shr-suc', and-low, and-half}
 
-unfoldable pub places : ℕ → ℕ → ℕ → List ℕ
-places zero b x = []
-places (suc d) b x = keepIf (isOdd x) b (places d (suc b) (x / 2))
+unfoldable pub positions : ℕ → ℕ → ℕ → List ℕ
+positions zero b x = []
+positions (suc d) b x = keepIf (isOdd x) b (positions d (suc b) (x / 2))
 
-pub keep-places : (m b d : ℕ) → keep (has m) (numbersFrom b d) ≡ places d b (m / 2 ^ b)
-unfolding keep numbersFrom places has
+pub keep-places : (m b d : ℕ) → keep (has m) (numbersFrom b d) ≡ positions d b (m / 2 ^ b)
+unfolding keep numbersFrom positions has
 keep-places m b zero = refl
 keep-places m b (suc d) =
-    ap (keepIf (isOdd (m / 2 ^ b)) b) (keep-places m (suc b) d ∙ ap (places d (suc b)) (shr-suc' m b))
+    ap (keepIf (isOdd (m / 2 ^ b)) b) (keep-places m (suc b) d ∙ ap (positions d (suc b)) (shr-suc' m b))
 
-pub members-places : (m : ℕ) → members m ≡ places 64 0 m
+pub members-places : (m : ℕ) → members m ≡ positions 64 0 m
 unfolding members
-members-places m = keep-places m 0 64 ∙ ap (places 64 0) (div-one m)
+members-places m = keep-places m 0 64 ∙ ap (positions 64 0) (div-one m)
 
 -- ---- even and odd
 
@@ -46,39 +46,39 @@ pub odd-1 : (n : ℕ) → n % 2 ≡ 1 → isOdd n ≡ true
 unfolding isOdd
 odd-1 n e = ap (λ (r : ℕ). eqb r 1) e
 
-pub places-0 : (d b n : ℕ) → n % 2 ≡ 0 → places (suc d) b n ≡ places d (suc b) (n / 2)
-unfolding places
-places-0 d b n e = ap (λ (t : Bool). keepIf t b (places d (suc b) (n / 2))) (odd-0 n e)
+pub places-0 : (d b n : ℕ) → n % 2 ≡ 0 → positions (suc d) b n ≡ positions d (suc b) (n / 2)
+unfolding positions
+places-0 d b n e = ap (λ (t : Bool). keepIf t b (positions d (suc b) (n / 2))) (odd-0 n e)
 
-pub places-1 : (d b n : ℕ) → n % 2 ≡ 1 → places (suc d) b n ≡ b ∷ places d (suc b) (n / 2)
-unfolding places
-places-1 d b n e = ap (λ (t : Bool). keepIf t b (places d (suc b) (n / 2))) (odd-1 n e)
+pub places-1 : (d b n : ℕ) → n % 2 ≡ 1 → positions (suc d) b n ≡ b ∷ positions d (suc b) (n / 2)
+unfolding positions
+places-1 d b n e = ap (λ (t : Bool). keepIf t b (positions d (suc b) (n / 2))) (odd-1 n e)
 
-pub places-zero : (d b : ℕ) → places d b 0 ≡ []
-unfolding places
+pub places-zero : (d b : ℕ) → positions d b 0 ≡ []
+unfolding positions
 places-zero zero b = refl
 places-zero (suc d) b = places-0 d b 0 refl ∙ places-zero d (suc b)
 
 -- ---- the count
 
-pub count-places : (d b x : ℕ) → x < 2 ^ d → ones x ≡ length (places d b x)
-unfolding places ones
+pub count-places : (d b x : ℕ) → x < 2 ^ d → ones x ≡ length (positions d b x)
+unfolding positions ones
 count-places zero b x h = ap ones (lt-one h)
 count-places (suc d) b x h = go (count-places d (suc b) (x / 2) (omega (arith, pow-suc 2 d))) (parity x)
   where
-    go : ones (x / 2) ≡ length (places d (suc b) (x / 2)) → (x % 2 ≡ 0) ⊎ (x % 2 ≡ 1) → ones x ≡ length (places (suc d) b x)
+    go : ones (x / 2) ≡ length (positions d (suc b) (x / 2)) → (x % 2 ≡ 0) ⊎ (x % 2 ≡ 1) → ones x ≡ length (positions (suc d) b x)
     go ih (inl e) = omega (arith, ones-step x, ap length (places-0 d b x e))
     go ih (inr e) = omega (arith, ones-step x, ap length (places-1 d b x e))
 
 -- ---- the first
 
-pub first-places : (d b x : ℕ) → headOr (b + d) (places d b x) ≡ b + trailingZeros d x
-unfolding places trailingZeros
+pub first-places : (d b x : ℕ) → headOr (b + d) (positions d b x) ≡ b + trailingZeros d x
+unfolding positions trailingZeros
 first-places zero b x = refl
 first-places (suc d) b x = go (first-places d (suc b) (x / 2)) (parity x)
   where
-    go : headOr (suc b + d) (places d (suc b) (x / 2)) ≡ suc b + trailingZeros d (x / 2) → (x % 2 ≡ 0) ⊎ (x % 2 ≡ 1)
-        → headOr (b + suc d) (places (suc d) b x) ≡ b + trailingZeros (suc d) x
+    go : headOr (suc b + d) (positions d (suc b) (x / 2)) ≡ suc b + trailingZeros d (x / 2) → (x % 2 ≡ 0) ⊎ (x % 2 ≡ 1)
+        → headOr (b + suc d) (positions (suc d) b x) ≡ b + trailingZeros (suc d) x
     go ih (inl e) =
         let s : b + suc d ≡ suc b + d = omega arith in
         let z : suc b + trailingZeros d (x / 2) ≡ b + suc (trailingZeros d (x / 2)) = omega arith in
@@ -89,37 +89,37 @@ first-places (suc d) b x = go (first-places d (suc b) (x / 2)) (parity x)
 
 -- ---- the rest
 
-pub rest-places : (d b x : ℕ) → places d b (bitAnd x (x - 1)) ≡ tail (places d b x)
-unfolding places
+pub rest-places : (d b x : ℕ) → positions d b (bitAnd x (x - 1)) ≡ tail (positions d b x)
+unfolding positions
 rest-places zero b x = refl
 rest-places (suc d) b x = go (rest-places d (suc b) (x / 2)) (parity x)
   where
-    go : places d (suc b) (bitAnd (x / 2) (x / 2 - 1)) ≡ tail (places d (suc b) (x / 2)) → (x % 2 ≡ 0) ⊎ (x % 2 ≡ 1)
-        → places (suc d) b (bitAnd x (x - 1)) ≡ tail (places (suc d) b x)
+    go : positions d (suc b) (bitAnd (x / 2) (x / 2 - 1)) ≡ tail (positions d (suc b) (x / 2)) → (x % 2 ≡ 0) ⊎ (x % 2 ≡ 1)
+        → positions (suc d) b (bitAnd x (x - 1)) ≡ tail (positions (suc d) b x)
     go ih (inl e) =
         let z : bitAnd x (x - 1) % 2 ≡ 0 = omega (arith, and-low x (x - 1)) in
         let h : (x - 1) / 2 ≡ x / 2 - 1 = omega arith in
         places-0 d b (bitAnd x (x - 1)) z
-        ∙ ap (places d (suc b)) (and-half x (x - 1) ∙ ap (bitAnd (x / 2)) h)
+        ∙ ap (positions d (suc b)) (and-half x (x - 1) ∙ ap (bitAnd (x / 2)) h)
         ∙ ih ∙ ap tail (sym (places-0 d b x e))
     go ih (inr e) =
         let z : bitAnd x (x - 1) % 2 ≡ 0 = omega (arith, and-low x (x - 1)) in
         let h : (x - 1) / 2 ≡ x / 2 = omega arith in
         places-0 d b (bitAnd x (x - 1)) z
-        ∙ ap (places d (suc b)) (and-half x (x - 1) ∙ ap (bitAnd (x / 2)) h ∙ and-self (x / 2))
+        ∙ ap (positions d (suc b)) (and-half x (x - 1) ∙ ap (bitAnd (x / 2)) h ∙ and-self (x / 2))
         ∙ ap tail (sym (places-1 d b x e))
 
 -- ---- the sum of the powers
 
-pub mask-places : (d b x : ℕ) → x < 2 ^ d → mask (places d b x) ≡ x * 2 ^ b
-unfolding places mask
+pub mask-places : (d b x : ℕ) → x < 2 ^ d → mask (positions d b x) ≡ x * 2 ^ b
+unfolding positions mask
 mask-places zero b x h = sym (ap (λ (n : ℕ). n * 2 ^ b) (lt-one h) ∙ zero-mul (2 ^ b))
 mask-places (suc d) b x h = go (mask-places d (suc b) (x / 2) (omega (arith, pow-suc 2 d))) (parity x)
   where
     up : x / 2 * 2 ^ suc b ≡ x / 2 * 2 * 2 ^ b
     up = ap (λ (n : ℕ). x / 2 * n) (pow-suc 2 b ∙ mul-comm (2 ^ b) 2) ∙ sym (mul-assoc (x / 2) 2 (2 ^ b))
 
-    go : mask (places d (suc b) (x / 2)) ≡ x / 2 * 2 ^ suc b → (x % 2 ≡ 0) ⊎ (x % 2 ≡ 1) → mask (places (suc d) b x) ≡ x * 2 ^ b
+    go : mask (positions d (suc b) (x / 2)) ≡ x / 2 * 2 ^ suc b → (x % 2 ≡ 0) ⊎ (x % 2 ≡ 1) → mask (positions (suc d) b x) ≡ x * 2 ^ b
     go ih (inl e) =
         let z : x / 2 * 2 ≡ x = omega arith in
         ap mask (places-0 d b x e) ∙ ih ∙ up ∙ ap (λ (n : ℕ). n * 2 ^ b) z

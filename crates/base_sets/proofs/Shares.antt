@@ -15,9 +15,9 @@ use Rattle.base_sets.specs.Shares.{putIf, picked}
 use Rattle.base_sets.proofs.Digits.{and-low, and-half}
 use Rattle.base_sets.proofs.Members.{members-same, members-both, members-empty}
 use Rattle.base_sets.proofs.Lists.{lt-or-ge}
-use Rattle.base_sets.proofs.Places.{places, members-places, parity, odd-0, odd-1, places-0, places-1}
+use Rattle.base_sets.proofs.Places.{positions, members-places, parity, odd-0, odd-1, places-0, places-1}
 
--- the digits of k, put at the places where m has a 1
+-- the digits of k, put at the positions where m has a 1
 unfoldable pub deposit : ℕ → ℕ → ℕ → ℕ
 deposit zero m k = 0
 deposit (suc d) m k = cond (isOdd m) (deposit d (m / 2) (k / 2) * 2 + k % 2) (deposit d (m / 2) k * 2)
@@ -42,26 +42,26 @@ deposit-le (suc d) m k = go (deposit-le d (m / 2) k) (deposit-le d (m / 2) (k / 
     go p q (inr e) = omega (arith, deposit-1 d m k e)
 
 -- its members are the share with the number k
-pub deposit-places : (d b m k : ℕ) → places d b (deposit d m k) ≡ picked (places d b m) k
-unfolding deposit places picked
+pub deposit-places : (d b m k : ℕ) → positions d b (deposit d m k) ≡ picked (positions d b m) k
+unfolding deposit positions picked
 deposit-places zero b m k = refl
 deposit-places (suc d) b m k = go (deposit-places d (suc b) (m / 2) k) (deposit-places d (suc b) (m / 2) (k / 2)) (parity m)
   where
     R : List ℕ
-    R = places d (suc b) (m / 2)
+    R = positions d (suc b) (m / 2)
 
-    go : places d (suc b) (deposit d (m / 2) k) ≡ picked R k → places d (suc b) (deposit d (m / 2) (k / 2)) ≡ picked R (k / 2)
-        → (m % 2 ≡ 0) ⊎ (m % 2 ≡ 1) → places (suc d) b (deposit (suc d) m k) ≡ picked (places (suc d) b m) k
+    go : positions d (suc b) (deposit d (m / 2) k) ≡ picked R k → positions d (suc b) (deposit d (m / 2) (k / 2)) ≡ picked R (k / 2)
+        → (m % 2 ≡ 0) ⊎ (m % 2 ≡ 1) → positions (suc d) b (deposit (suc d) m k) ≡ picked (positions (suc d) b m) k
     go p q (inl e) =
         let z : deposit (suc d) m k % 2 ≡ 0 = omega (arith, deposit-0 d m k e) in
         let h : deposit (suc d) m k / 2 ≡ deposit d (m / 2) k = omega (arith, deposit-0 d m k e) in
-        places-0 d b (deposit (suc d) m k) z ∙ ap (places d (suc b)) h ∙ p ∙ ap (λ (l : List ℕ). picked l k) (sym (places-0 d b m e))
+        places-0 d b (deposit (suc d) m k) z ∙ ap (positions d (suc b)) h ∙ p ∙ ap (λ (l : List ℕ). picked l k) (sym (places-0 d b m e))
     go p q (inr e) =
         let h : deposit (suc d) m k / 2 ≡ deposit d (m / 2) (k / 2) = omega (arith, deposit-1 d m k e) in
-        low (parity k) (ap (places d (suc b)) h ∙ q) ∙ ap (λ (l : List ℕ). picked l k) (sym (places-1 d b m e))
+        low (parity k) (ap (positions d (suc b)) h ∙ q) ∙ ap (λ (l : List ℕ). picked l k) (sym (places-1 d b m e))
       where
-        low : (k % 2 ≡ 0) ⊎ (k % 2 ≡ 1) → places d (suc b) (deposit (suc d) m k / 2) ≡ picked R (k / 2)
-            → places (suc d) b (deposit (suc d) m k) ≡ putIf (isOdd k) b (picked R (k / 2))
+        low : (k % 2 ≡ 0) ⊎ (k % 2 ≡ 1) → positions d (suc b) (deposit (suc d) m k / 2) ≡ picked R (k / 2)
+            → positions (suc d) b (deposit (suc d) m k) ≡ putIf (isOdd k) b (picked R (k / 2))
         low (inl f) r =
             let z : deposit (suc d) m k % 2 ≡ 0 = omega (arith, deposit-1 d m k e) in
             places-0 d b (deposit (suc d) m k) z ∙ r ∙ ap (λ (t : Bool). putIf t b (picked R (k / 2))) (sym (odd-0 k f))
@@ -71,33 +71,33 @@ deposit-places (suc d) b m k = go (deposit-places d (suc b) (m / 2) k) (deposit-
 
 -- ---- the number of shares
 
-count-0 : (d b m : ℕ) → m % 2 ≡ 0 → 2 ^ length (places (suc d) b m) ≡ 2 ^ length (places d (suc b) (m / 2))
+count-0 : (d b m : ℕ) → m % 2 ≡ 0 → 2 ^ length (positions (suc d) b m) ≡ 2 ^ length (positions d (suc b) (m / 2))
 count-0 d b m e = ap (λ (l : List ℕ). 2 ^ length l) (places-0 d b m e)
 
-count-1 : (d b m : ℕ) → m % 2 ≡ 1 → 2 ^ length (places (suc d) b m) ≡ 2 ^ length (places d (suc b) (m / 2)) * 2
-count-1 d b m e = ap (λ (l : List ℕ). 2 ^ length l) (places-1 d b m e) ∙ pow-suc 2 (length (places d (suc b) (m / 2)))
+count-1 : (d b m : ℕ) → m % 2 ≡ 1 → 2 ^ length (positions (suc d) b m) ≡ 2 ^ length (positions d (suc b) (m / 2)) * 2
+count-1 d b m e = ap (λ (l : List ℕ). 2 ^ length l) (places-1 d b m e) ∙ pow-suc 2 (length (positions d (suc b) (m / 2)))
 
 -- the last share is all of m
-pub deposit-last : (d b m k : ℕ) → m < 2 ^ d → suc k ≡ 2 ^ length (places d b m) → deposit d m k ≡ m
+pub deposit-last : (d b m k : ℕ) → m < 2 ^ d → suc k ≡ 2 ^ length (positions d b m) → deposit d m k ≡ m
 unfolding deposit
 deposit-last zero b m k h e = sym (lt-one h)
 deposit-last (suc d) b m k h e =
     go (deposit-last d (suc b) (m / 2) k (omega (arith, pow-suc 2 d))) (deposit-last d (suc b) (m / 2) (k / 2) (omega (arith, pow-suc 2 d))) (parity m)
   where
-    go : (suc k ≡ 2 ^ length (places d (suc b) (m / 2)) → deposit d (m / 2) k ≡ m / 2)
-        → (suc (k / 2) ≡ 2 ^ length (places d (suc b) (m / 2)) → deposit d (m / 2) (k / 2) ≡ m / 2)
+    go : (suc k ≡ 2 ^ length (positions d (suc b) (m / 2)) → deposit d (m / 2) k ≡ m / 2)
+        → (suc (k / 2) ≡ 2 ^ length (positions d (suc b) (m / 2)) → deposit d (m / 2) (k / 2) ≡ m / 2)
         → (m % 2 ≡ 0) ⊎ (m % 2 ≡ 1) → deposit (suc d) m k ≡ m
     go p q (inl f) = omega (arith, deposit-0 d m k f, p (e ∙ count-0 d b m f))
     go p q (inr f) = omega (arith, deposit-1 d m k f, q (omega (arith, count-1 d b m f)), count-1 d b m f)
 
 -- each share is a smaller number than the next
-pub deposit-rises : (d b m k : ℕ) → suc k < 2 ^ length (places d b m) → deposit d m k < deposit d m (suc k)
-unfolding deposit places
+pub deposit-rises : (d b m k : ℕ) → suc k < 2 ^ length (positions d b m) → deposit d m k < deposit d m (suc k)
+unfolding deposit positions
 deposit-rises zero b m k h = absurd (let f : ⊥ = omega arith in f)
 deposit-rises (suc d) b m k h = go (deposit-rises d (suc b) (m / 2) k) (deposit-rises d (suc b) (m / 2) (k / 2)) (parity m) (parity k)
   where
-    go : (suc k < 2 ^ length (places d (suc b) (m / 2)) → deposit d (m / 2) k < deposit d (m / 2) (suc k))
-        → (suc (k / 2) < 2 ^ length (places d (suc b) (m / 2)) → deposit d (m / 2) (k / 2) < deposit d (m / 2) (suc (k / 2)))
+    go : (suc k < 2 ^ length (positions d (suc b) (m / 2)) → deposit d (m / 2) k < deposit d (m / 2) (suc k))
+        → (suc (k / 2) < 2 ^ length (positions d (suc b) (m / 2)) → deposit d (m / 2) (k / 2) < deposit d (m / 2) (suc (k / 2)))
         → (m % 2 ≡ 0) ⊎ (m % 2 ≡ 1) → (k % 2 ≡ 0) ⊎ (k % 2 ≡ 1) → deposit (suc d) m k < deposit (suc d) m (suc k)
     go p q (inl f) g = omega (arith, deposit-0 d m k f, deposit-0 d m (suc k) f, p (omega (arith, count-0 d b m f)))
     go p q (inr f) (inl g) =
@@ -130,9 +130,9 @@ filled (suc d) m k h = go (filled d (m / 2) k (omega (arith, pow-suc 2 d))) (fil
         let a : bitAnd (W / 2) (m / 2) ≡ deposit d (m / 2) (k / 2) = ap (λ (n : ℕ). bitAnd n (m / 2)) w ∙ q in
         omega (arith, and-step W m, deposit-1 d m k e)
 
-pub deposit-step : (d b m k : ℕ) → m < 2 ^ d → suc k < 2 ^ length (places d b m)
+pub deposit-step : (d b m k : ℕ) → m < 2 ^ d → suc k < 2 ^ length (positions d b m)
     → bitAnd (deposit d m k + 2 ^ d - m) m ≡ deposit d m (suc k)
-unfolding deposit places
+unfolding deposit positions
 deposit-step zero b m k h l = absurd (let f : ⊥ = omega arith in f)
 deposit-step (suc d) b m k h l =
     go (deposit-step d (suc b) (m / 2) k (omega (arith, pow-suc 2 d))) (deposit-step d (suc b) (m / 2) (k / 2) (omega (arith, pow-suc 2 d)))
@@ -141,8 +141,8 @@ deposit-step (suc d) b m k h l =
     X : ℕ
     X = deposit (suc d) m k + 2 ^ suc d - m
 
-    go : (suc k < 2 ^ length (places d (suc b) (m / 2)) → bitAnd (deposit d (m / 2) k + 2 ^ d - m / 2) (m / 2) ≡ deposit d (m / 2) (suc k))
-        → (suc (k / 2) < 2 ^ length (places d (suc b) (m / 2))
+    go : (suc k < 2 ^ length (positions d (suc b) (m / 2)) → bitAnd (deposit d (m / 2) k + 2 ^ d - m / 2) (m / 2) ≡ deposit d (m / 2) (suc k))
+        → (suc (k / 2) < 2 ^ length (positions d (suc b) (m / 2))
         → bitAnd (deposit d (m / 2) (k / 2) + 2 ^ d - m / 2) (m / 2) ≡ deposit d (m / 2) (suc (k / 2)))
         → bitAnd (deposit d (m / 2) (k / 2) + ((2 ^ d - 1) - m / 2)) (m / 2) ≡ deposit d (m / 2) (k / 2)
         → (m % 2 ≡ 0) ⊎ (m % 2 ≡ 1) → (k % 2 ≡ 0) ⊎ (k % 2 ≡ 1) → bitAnd X m ≡ deposit (suc d) m (suc k)
@@ -179,12 +179,12 @@ pub rank-1 : (d m s : ℕ) → m % 2 ≡ 1 → rank (suc d) m s ≡ rank d (m / 
 unfolding rank
 rank-1 d m s e = ap (λ (t : Bool). cond t (rank d (m / 2) (s / 2) * 2 + s % 2) (rank d (m / 2) (s / 2))) (odd-1 m e)
 
-pub rank-lt : (d b m s : ℕ) → rank d m s < 2 ^ length (places d b m)
-unfolding rank places
+pub rank-lt : (d b m s : ℕ) → rank d m s < 2 ^ length (positions d b m)
+unfolding rank positions
 rank-lt zero b m s = omega arith
 rank-lt (suc d) b m s = go (rank-lt d (suc b) (m / 2) (s / 2)) (parity m)
   where
-    go : rank d (m / 2) (s / 2) < 2 ^ length (places d (suc b) (m / 2)) → (m % 2 ≡ 0) ⊎ (m % 2 ≡ 1) → rank (suc d) m s < 2 ^ length (places (suc d) b m)
+    go : rank d (m / 2) (s / 2) < 2 ^ length (positions d (suc b) (m / 2)) → (m % 2 ≡ 0) ⊎ (m % 2 ≡ 1) → rank (suc d) m s < 2 ^ length (positions (suc d) b m)
     go h (inl e) = omega (arith, rank-0 d m s e, count-0 d b m e)
     go h (inr e) = omega (arith, rank-1 d m s e, count-1 d b m e)
 
@@ -201,14 +201,14 @@ deposit-rank (suc d) m s h e = go (deposit-rank d (m / 2) (s / 2) (omega (arith,
         let u : rank (suc d) m s % 2 ≡ s % 2 = omega (arith, rank-1 d m s f) in
         omega (arith, deposit-1 d m (rank (suc d) m s) f, ap (deposit d (m / 2)) r)
 
--- THEOREM: the place of the k-th share is k: no share is met twice.
-pub rank-deposit : (d b m k : ℕ) → k < 2 ^ length (places d b m) → rank d m (deposit d m k) ≡ k
-unfolding deposit rank places
+-- THEOREM: the position of the k-th share is k: no share is met twice.
+pub rank-deposit : (d b m k : ℕ) → k < 2 ^ length (positions d b m) → rank d m (deposit d m k) ≡ k
+unfolding deposit rank positions
 rank-deposit zero b m k h = omega arith
 rank-deposit (suc d) b m k h = go (rank-deposit d (suc b) (m / 2) k) (rank-deposit d (suc b) (m / 2) (k / 2)) (parity m)
   where
-    go : (k < 2 ^ length (places d (suc b) (m / 2)) → rank d (m / 2) (deposit d (m / 2) k) ≡ k)
-        → (k / 2 < 2 ^ length (places d (suc b) (m / 2)) → rank d (m / 2) (deposit d (m / 2) (k / 2)) ≡ k / 2)
+    go : (k < 2 ^ length (positions d (suc b) (m / 2)) → rank d (m / 2) (deposit d (m / 2) k) ≡ k)
+        → (k / 2 < 2 ^ length (positions d (suc b) (m / 2)) → rank d (m / 2) (deposit d (m / 2) (k / 2)) ≡ k / 2)
         → (m % 2 ≡ 0) ⊎ (m % 2 ≡ 1) → rank (suc d) m (deposit (suc d) m k) ≡ k
     go p q (inl f) =
         let h2 : deposit (suc d) m k / 2 ≡ deposit d (m / 2) k = omega (arith, deposit-0 d m k f) in
@@ -227,7 +227,7 @@ share-members m k =
 pub share-is : (m s k : ℕ) → m < 2 ^ 64 → s < 2 ^ 64 → members s ≡ picked (members m) k → s ≡ deposit 64 m k
 share-is m s k h g e = members-same s (deposit 64 m k) g (omega (arith, deposit-le 64 m k)) (e ∙ sym (share-members m k))
 
-many : (m : ℕ) → 2 ^ length (members m) ≡ 2 ^ length (places 64 0 m)
+many : (m : ℕ) → 2 ^ length (members m) ≡ 2 ^ length (positions 64 0 m)
 many m = ap (λ (l : List ℕ). 2 ^ length l) (members-places m)
 
 -- a share before the last is not the whole set

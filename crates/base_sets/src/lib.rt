@@ -1,5 +1,5 @@
-// Part sets: sets of numbers below 64, each held in the digits of a u64, where number i is in the set if digit i is 1. A
-// contract speaks of a set as the list of its members, in rising order. It rests on nothing.
+// Part sets: sets of numbers below 64, each held in the digits of a u64, where number i is in the set if digit i is 1.
+// A contract speaks of a set as the list of its members, in rising order.
 ghost use mathlib.Core.Path.{_≡_};
 ghost use mathlib.Core.Bool.{cond};
 ghost use mathlib.Core.List.{[], _∷_, tail};

@@ -1,4 +1,4 @@
--- The laws of `slices` that its own proofs and the crates above cite.
+-- The laws of `base_slices` that its own proofs and the crates above cite.
 pub mod Tests
 pub mod Tails
 pub mod Capping

@@ -32,7 +32,7 @@ part-drop s k = take-all (length s - k) (drop k s) (omega (arith, length-drop k 
 pub length-part : (s : List ℕ) (k : ℕ) → length (part s k) ≡ length s - k
 length-part s k = ap length (part-drop s k) ∙ length-drop k s
 
--- the tail from the place before i is one longer
+-- the tail from the index before i is one longer
 pub before : (s : List ℕ) (i : ℕ) → 0 < i → i ≤ length s → drop (i - 1) s ≡ getD s (i - 1) 0 ∷ drop i s
 before s i h k =
     let e : suc (i - 1) ≡ i = omega arith in

@@ -1,5 +1,4 @@
-// Parts of slices, words as indices, and sums that stop at 2^32 - 1: what the other layers share. It rests on no other
-// crate.
+// Parts of slices, words as indices, and sums that stop at 2^32 - 1: what the other layers share.
 ghost use mathlib.Core.Path.{_≡_};
 ghost use Prim.Native.Nat.{_+_};
 ghost use lib.ListN.{take, drop};

@@ -13,9 +13,9 @@ use Rattle.read_messages.specs.Words.{kind, operand}
 use Rattle.theory_closures.specs.Closure.{Closure, Bindings, closureMove, ClosureMachine}
 use Rattle.engine_states.specs.Represents.{boundIn, Represents}
 use Rattle.engine_states.specs.declared.State.{State}
-use Rattle.engine_state_arrays.specs.Lent.{kindsIn, startsIn, standing, Lends}
+use Rattle.engine_state_arrays.specs.Lent.{kindsIn, startsIn, ownState, LentReady}
 use Rattle.engine_targets.specs.Targets.{isSome}
-use Rattle.engine_targets.specs.Makes.{Makes, Tries}
+use Rattle.engine_targets.specs.Makes.{Makes, MakesOrLeaves}
 use Rattle.theory_call.specs.Call.{actor, target, moveFits}
 use Rattle.theory_call.specs.ClosureCall.{halted, moved, afterMove, ifMade, closureRun}
 use Rattle.call_lists.specs.Running.{endedOf, Left, Runs, ListRan}
@@ -97,7 +97,7 @@ module _ (script kinds starts : List ℕ) (n : ℕ) (moves : List ℕ) (s : Stat
           let d : closureRun n i (w ∷ behind) (q .machine) ≡ halted 15 i = rw e in
           (sym (ap endedOf (whole weight spent b q ∙ on (q .machine) ∙ d)), left weight spent b q)
 
-      module _ (fits : moveFits n w ≡ true) (t : State) (made : Bool) (T : Tries script kinds starts r t made (actor w) (target w)) where
+      module _ (fits : moveFits n w ≡ true) (t : State) (made : Bool) (T : MakesOrLeaves script kinds starts r t made (actor w) (target w)) where
         -- what was tried, of the machine that is reached
         tried : (weight spent : ℕ) (b : Closure) → spent + length moves < 4294967295 → (q : Reached weight spent b i r)
             → (made ≡ isSome (closureMove (q .machine .bindings) (actor w) (target w) (q .machine .tree))) × (made ≡ true → Makes script kinds starts r t weight (spent + i + 1) (actor w) (target w) (q .machine .tree))
@@ -139,18 +139,18 @@ module _ (script kinds starts : List ℕ) (n : ℕ) (moves : List ℕ) (s : Stat
 -- i moves are made, and the arrays hold the state behind them
 pub record Turn (script sets₀ numbers₀ moves : List ℕ) (n i : ℕ) (sets numbers : List ℕ) : Type 0 where
   pub within : i ≤ length moves
-  pub lends : Lends script sets numbers
+  pub lends : LentReady script sets numbers
   pub same-kinds : kindsIn numbers ≡ kindsIn numbers₀
   pub same-starts : startsIn numbers ≡ startsIn numbers₀
-  pub going : Going script (kindsIn numbers₀) (startsIn numbers₀) n moves (standing sets₀ numbers₀) i (standing sets numbers)
+  pub going : Going script (kindsIn numbers₀) (startsIn numbers₀) n moves (ownState sets₀ numbers₀) i (ownState sets numbers)
 
 module _ (script sets₀ numbers₀ moves : List ℕ) (n : ℕ) where
-  pub turn-none : Lends script sets₀ numbers₀ → Turn script sets₀ numbers₀ moves n 0 sets₀ numbers₀
-  turn-none l = record { within = omega arith; lends = l; same-kinds = refl; same-starts = refl; going = going-none script (kindsIn numbers₀) (startsIn numbers₀) n moves (standing sets₀ numbers₀) }
+  pub turn-none : LentReady script sets₀ numbers₀ → Turn script sets₀ numbers₀ moves n 0 sets₀ numbers₀
+  turn-none l = record { within = omega arith; lends = l; same-kinds = refl; same-starts = refl; going = going-none script (kindsIn numbers₀) (startsIn numbers₀) n moves (ownState sets₀ numbers₀) }
 
   module _ (i : ℕ) (sets numbers : List ℕ) (T : Turn script sets₀ numbers₀ moves n i sets numbers) where
     -- the list ends with this turn, which has changed nothing
-    ended : (e : Ended) → Runs script (kindsIn numbers₀) (startsIn numbers₀) n moves (standing sets₀ numbers₀) e (standing sets numbers) → ListRan script sets₀ numbers₀ moves n sets numbers e
+    ended : (e : Ended) → Runs script (kindsIn numbers₀) (startsIn numbers₀) n moves (ownState sets₀ numbers₀) e (ownState sets numbers) → ListRan script sets₀ numbers₀ moves n sets numbers e
     ended e r = record { lends = T .lends; same-kinds = T .same-kinds; same-starts = T .same-starts; runs = r }
 
     pub turn-ends : length moves ≤ i → ListRan script sets₀ numbers₀ moves n sets numbers Made
@@ -160,12 +160,12 @@ module _ (script sets₀ numbers₀ moves : List ℕ) (n : ℕ) where
       pub turn-unfit : f ≡ false → ListRan script sets₀ numbers₀ moves n sets numbers (Halted 15 i)
       turn-unfit e = ended (Halted 15 i) (going-unfit _ _ _ _ _ _ _ _ (T .going) m (sym asked ∙ e))
 
-      module _ (fits : f ≡ true) (a b : ℕ) (ea : a ≡ actor (getD moves i 0)) (eb : b ≡ target (getD moves i 0)) (sets₁ numbers₁ : List ℕ) (L : Lends script sets₁ numbers₁)
+      module _ (fits : f ≡ true) (a b : ℕ) (ea : a ≡ actor (getD moves i 0)) (eb : b ≡ target (getD moves i 0)) (sets₁ numbers₁ : List ℕ) (L : LentReady script sets₁ numbers₁)
           (ek : kindsIn numbers₁ ≡ kindsIn numbers) (es : startsIn numbers₁ ≡ startsIn numbers) (made : Bool)
-          (X : Tries script (kindsIn numbers) (startsIn numbers) (standing sets numbers) (standing sets₁ numbers₁) made a b) where
+          (X : MakesOrLeaves script (kindsIn numbers) (startsIn numbers) (ownState sets numbers) (ownState sets₁ numbers₁) made a b) where
         -- by the move word, and by the part table that the list began with
-        tried-so : Tries script (kindsIn numbers₀) (startsIn numbers₀) (standing sets numbers) (standing sets₁ numbers₁) made (actor (getD moves i 0)) (target (getD moves i 0))
-        tried-so = transport (λ q. Tries script (T .same-kinds q) (T .same-starts q) (standing sets numbers) (standing sets₁ numbers₁) made (ea q) (eb q)) X
+        tried-so : MakesOrLeaves script (kindsIn numbers₀) (startsIn numbers₀) (ownState sets numbers) (ownState sets₁ numbers₁) made (actor (getD moves i 0)) (target (getD moves i 0))
+        tried-so = transport (λ q. MakesOrLeaves script (T .same-kinds q) (T .same-starts q) (ownState sets numbers) (ownState sets₁ numbers₁) made (ea q) (eb q)) X
 
         pub turn-stuck : made ≡ false → ListRan script sets₀ numbers₀ moves n sets₁ numbers₁ (Halted 16 i)
         turn-stuck e = record { lends = L; same-kinds = ek ∙ T .same-kinds; same-starts = es ∙ T .same-starts; runs = going-stuck _ _ _ _ _ _ _ _ (T .going) m (sym asked ∙ fits) _ made tried-so e }

@@ -1,2 +1,2 @@
--- What the contracts of `lists` cite. Assumes nothing: these are definitions.
+-- What the contracts of `call_lists` cite. Assumes nothing: these are definitions.
 pub mod Running

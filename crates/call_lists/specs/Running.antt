@@ -6,7 +6,7 @@ use lib.ListN.{length, take}
 use Rattle.theory_closures.specs.Closure.{Closure}
 use Rattle.engine_states.specs.Represents.{boundIn, Represents}
 use Rattle.engine_states.specs.declared.State.{State}
-use Rattle.engine_state_arrays.specs.Lent.{kindsIn, startsIn, standing, Lends}
+use Rattle.engine_state_arrays.specs.Lent.{kindsIn, startsIn, ownState, LentReady}
 use Rattle.theory_call.specs.ClosureCall.{ClosureRan, halted, moved, closureRun}
 use Rattle.call_lists.specs.declared.Ended.{Ended}
 use Rattle.call_lists.specs.declared.Ended.the-variants.{Made, Halted}
@@ -22,12 +22,12 @@ madeOf moves Made = length moves
 madeOf moves (Halted q i) = i
 
 module _ (script kinds starts : List ℕ) where
-  -- the state stands for the machine that a run leaves
+  -- the state represents the machine that a run leaves
   abbrev pub Left : State → (weight spent : ℕ) → ClosureRan → Type 0
   Left r weight spent (halted q i) = ⊥
   Left r weight spent (moved m) = Represents script kinds starts weight spent r (m .tree) × (boundIn script r ≡ m .bindings)
 
-  -- For every closure for which s stands, n being the script's parts: the list ends as the closure machine's, and r stands for
+  -- For every closure for which s stands, n being the script's parts: the list ends as the closure machine's, and r represents
   -- the machine that the moves made leave. Offsets that fit into 32 bits do after the list.
   abbrev pub Runs : (n : ℕ) (moves : List ℕ) (s : State) → Ended → State → Type 0
   Runs n moves s e r =
@@ -42,15 +42,15 @@ pub record Runnable (script sets numbers moves : List ℕ) (parts : ℕ) : Type 
   -- question 14 lets at most 4,096 moves in
   pub short : length moves ≤ 4096
   -- the arrays hold a state
-  pub lends : Lends script sets numbers
+  pub lends : LentReady script sets numbers
 
 -- what the run of a list leaves of the arrays, and how it ends
 pub record ListRan (script sets numbers moves : List ℕ) (parts : ℕ) (sets₁ numbers₁ : List ℕ) (e : Ended) : Type 0 where
   -- the arrays hold a state again
-  pub lends : Lends script sets₁ numbers₁
+  pub lends : LentReady script sets₁ numbers₁
   -- the kinds of the parts stay
   pub same-kinds : kindsIn numbers₁ ≡ kindsIn numbers
   -- so do their starts
   pub same-starts : startsIn numbers₁ ≡ startsIn numbers
-  -- the list ends as the closure machine's, and the state stands for the machine that it leaves
-  pub runs : Runs script (kindsIn numbers) (startsIn numbers) parts moves (standing sets numbers) e (standing sets₁ numbers₁)
+  -- the list ends as the closure machine's, and the state represents the machine that it leaves
+  pub runs : Runs script (kindsIn numbers) (startsIn numbers) parts moves (ownState sets numbers) e (ownState sets₁ numbers₁)

@@ -1,5 +1,5 @@
-// The list of moves (document 01, "Questions at the door"): each word is asked questions 15 and 16 and its move is made, on a state that is
-// lent. It rests on the promises of moves, and on plain_call.
+// The list of moves (document 01, "Questions at the door"): each word is asked questions 15 and 16 and its move is
+// made, on a state that is lent.
 use engine_moves::try_move;
 ghost use mathlib.Core.Path.{_≡_};
 ghost use Rattle.theory_call.specs.Call.{actor, target, moveFits};

@@ -1,4 +1,4 @@
-// The call for C and Rust. It rests on the promises of checker's `call` and of answer_words.
+// The call for C and Rust.
 use checker::call;
 use host_answer_words::tell;
 ghost use mathlib.Core.Path.{_≡_};

@@ -31,13 +31,13 @@ use Rattle.read_rules.specs.declared.RuleScan.{RuleScan}
 use Rattle.theory_closures.specs.Closure.{ClosureMachine, settleUnder, closureOf, Bindings}
 use Rattle.engine_states.specs.Represents.{boundIn, Ready, Represents}
 use Rattle.engine_states.specs.declared.State.{State}
-use Rattle.engine_state_arrays.specs.Lent.{kindsIn, startsIn, standing, Small}
+use Rattle.engine_state_arrays.specs.Lent.{kindsIn, startsIn, ownState, Small}
 use Rattle.theory_call.specs.Call.{Call, refusal, startOf, Question, question, asking, terms, door, answer}
 use Rattle.theory_call.specs.ClosureCall.{ClosureRan, halted, moved, closureRun, begun}
 use Rattle.call_lists.specs.Running.{endedOf, madeOf, Left, Runs, Runnable, ListRan}
 use Rattle.checker.specs.Answering.{answerOf, askedOf, callOf}
 use Rattle.checker.specs.declared.Answer.{Answer}
-use Rattle.checker.specs.Calling.{ScriptHeld, RuleHeld, LetIn, Stands, Walkable, Greatest}
+use Rattle.checker.specs.Calling.{ScriptHeld, RuleHeld, LetIn, StateHeld, Walkable, Greatest}
 use Rattle.call_lists.specs.declared.Ended.{Ended}
 use Rattle.call_lists.specs.declared.Ended.the-variants.{Made, Halted}
 use Rattle.theory_call.proofs.Asking.{AllYes, asking-yes, asking-no}
@@ -201,12 +201,12 @@ module _ {script : List ℕ} {t : Table} (H : ScriptHeld script t) (words : List
     pub says-terms : {u : RuleTable} → RuleHeld (t .count) words u → (x : Outcome) → x ≡ Asked patience (length moves) → x ≡ Refused q i → answer c ≡ refusal q i 0 0 buffer
     says-terms R x e d = answers-door c (H .read) (H .reads) q i (own-unasked c (H .read) (R .read) (reads-rule (got (R .read)) (R .reads)) q i (asked-refused (asking (terms patience (length moves))) q i (sym e ∙ d)))
 
--- the arrays that are lent hold the state that the list begins with, and it stands for the script's closure
+-- the arrays that are lent hold the state that the list begins with, and it represents the script's closure
 pub record Began (script : List ℕ) (t : Table) (s : State) (sets numbers : List ℕ) : Type 0 where
   pub kinds : kindsIn numbers ≡ t .kinds
   pub starts : startsIn numbers ≡ t .starts
   pub small : Small numbers
-  pub state : standing sets numbers ≡ s
+  pub state : ownState sets numbers ≡ s
   pub ready : Ready script (t .kinds) (t .starts) s
   pub none : boundIn script s ≡ []
   pub first : (count : ℕ) (b : Script) → Tabled script (record { kinds = t .kinds; starts = t .starts; kids = t .kids; count = count }) b
@@ -230,7 +230,7 @@ module _ {script moves words : List ℕ} {patience : ℕ} {t : Table} {u : RuleT
   list-halted buffer q i r g = answers-halted (callOf script moves words patience buffer) (L .both .held .read) (L .both .held .reads) (L .both .ruled .read) (enters buffer) q i
       (subst (λ (k : ℕ). closureRun k 0 moves (begun (L .both .held .read .0)) ≡ halted q i) (number-is (L .both .held)) (ends-halted q i _ (g .0)))
 
-  list-made : (r : State) → Ends Made r → Stands script moves words patience t u r
+  list-made : (r : State) → Ends Made r → StateHeld script moves words patience t u r
   list-made r g =
       let z : 0 + length moves ≡ length moves = omega arith in
       let (m, x, R, d) = left-made script (t .kinds) (t .starts) r (t .count) (0 + length moves) _ (g .1) in
@@ -252,7 +252,7 @@ module _ {script moves words : List ℕ} {patience : ℕ} {t : Table} {u : RuleT
 
     module _ {sets₁ numbers₁ : List ℕ} {x : Ended} (R : ListRan script sets numbers moves (t .count) sets₁ numbers₁ x) where
       abbrev left : State
-      left = standing sets₁ numbers₁
+      left = ownState sets₁ numbers₁
 
       ran : Ends x left
       ran =
@@ -267,7 +267,7 @@ module _ {script moves words : List ℕ} {patience : ℕ} {t : Table} {u : RuleT
 
       -- the state that is borrowed where all moves are made
       module _ (d : x ≡ Made) {k l : List ℕ} {b : State} (f : Small numbers₁ → (k ≡ kindsIn numbers₁) × (l ≡ startsIn numbers₁) × (b ≡ left)) where
-        stood : Stands script moves words patience t u b
+        stood : StateHeld script moves words patience t u b
         stood = list-made b (transport (λ z. Ends (d z) (sym (f (R .lends .small) .2) z)) ran)
 
         pub list-walkable : Walkable script t u b
@@ -280,6 +280,6 @@ module _ {script moves words : List ℕ} {patience : ℕ} {t : Table} {u : RuleT
         }
 
         pub list-answered : (r : Answer) (after buffer : List ℕ)
-            → ((list : List ℕ) → length moves ≡ length list → Stands script list words patience t u b → answerOf r after ≡ answer (callOf script list words patience buffer))
+            → ((list : List ℕ) → length moves ≡ length list → StateHeld script list words patience t u b → answerOf r after ≡ answer (callOf script list words patience buffer))
             → answerOf r after ≡ answer (callOf script moves words patience buffer)
         list-answered r after buffer g = g moves refl stood

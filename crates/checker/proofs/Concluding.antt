@@ -27,7 +27,7 @@ use Rattle.theory_call.specs.Call as plain
 use Rattle.theory_call.specs.ClosureCall.{moved, closureRun, unfoldRan, begun}
 use Rattle.checker.specs.Answering.{verdictOf, answerOf, callOf}
 use Rattle.checker.specs.declared.Answer.{Answer}
-use Rattle.checker.specs.Calling.{Stands, Greatest, ComesTo}
+use Rattle.checker.specs.Calling.{StateHeld, Greatest, ComesTo}
 use Rattle.theory_call.specs.Standing.{Standing, Decides, Reduces, Returned, Readmitted, MovesBounded, WeightHolds, WeightBounded}
 use Rattle.theory_call.proofs.ClosureRuns.{started-unfolded, moves-bounded}
 use Rattle.theory_call.proofs.Runs.{weight-holds}
@@ -41,7 +41,7 @@ use Rattle.checker.proofs.Calling.{number-is, enters, short}
 
 -- ---- questions 17 to 19
 
-module _ (buffer : List ℕ) {script moves words : List ℕ} {patience : ℕ} {t : Table} {u : RuleTable} {s : State} (S : Stands script moves words patience t u s) where
+module _ (buffer : List ℕ) {script moves words : List ℕ} {patience : ℕ} {t : Table} {u : RuleTable} {s : State} (S : StateHeld script moves words patience t u s) where
   abbrev c : Call
   c = callOf script moves words patience buffer
 
@@ -91,7 +91,7 @@ module _ (buffer : List ℕ) {script moves words : List ℕ} {patience : ℕ} {t
 
 -- so is what the call comes to by it
 pub walk-answered : (script moves words : List ℕ) (patience : ℕ) (buffer : List ℕ) (t : Table) (u : RuleTable) (s : State) (greatest : ℕ) (w : Walked) (k : ℕ) (after : List ℕ) (r : Answer)
-    → Stands script moves words patience t u s → Greatest script words greatest → Walks words u script (t .kinds) (t .starts) s (record { patience = patience; greatest = greatest; parts = t .count; limit = t .count + u .count }) w
+    → StateHeld script moves words patience t u s → Greatest script words greatest → Walks words u script (t .kinds) (t .starts) s (record { patience = patience; greatest = greatest; parts = t .count; limit = t .count + u .count }) w
     → ComesTo script (t .kinds) (t .starts) s k buffer after r (walkedOf w) → k ≡ length moves → answerOf r after ≡ answer (callOf script moves words patience buffer)
 walk-answered script moves words patience buffer t u s g w k after r S G W C e = C .ends moves words patience (t .count) (length moves) (S .machine .tree) e (S .stands) ∙ walk-answers buffer S g G w W
 

@@ -90,7 +90,7 @@ weighs-so : (script : List ℕ) (s : State) (b : Closure) → length (s .binding
 unfolding weightOf unfoldMachine unfolded bindingsOf
 weighs-so script s b long counted w e =
     let many : length (boundIn script s) ≡ 32 - s .bindings .first
-    = as-many script (drop (s .bindings .first) (s .bindings .variables)) (drop (s .bindings .first) (s .bindings .places)) (counted .cached .counted .aligned) ∙ length-drop (s .bindings .first) (s .bindings .variables) ∙ ap (λ (k : ℕ). k - s .bindings .first) long in
+    = as-many script (drop (s .bindings .first) (s .bindings .variables)) (drop (s .bindings .first) (s .bindings .sources)) (counted .cached .counted .aligned) ∙ length-drop (s .bindings .first) (s .bindings .variables) ∙ ap (λ (k : ℕ). k - s .bindings .first) long in
     e ∙ (λ i. sym (map-total (λ j h. 1) (unfoldHead (boundIn script s)) b) i + 2 * sym many i)
 
 -- ---- what a call comes to, from the writer's answer and from the walk's

@@ -49,8 +49,8 @@ pub record LetIn (script moves words : List ℕ) (patience : ℕ) (parts : Table
   -- the patience and the number of moves fit
   pub asked : asking (terms patience (length moves)) ≡ got tt
 
--- questions 1 to 16 are answered by yes, and the state stands for the machine that the moves leave
-pub record Stands (script moves words : List ℕ) (patience : ℕ) (parts : Table) (table : RuleTable) (s : State) : Type 0 where
+-- questions 1 to 16 are answered by yes, and the state represents the machine that the moves leave
+pub record StateHeld (script moves words : List ℕ) (patience : ℕ) (parts : Table) (table : RuleTable) (s : State) : Type 0 where
   pub let-in : LetIn script moves words patience parts table
   pub machine : ClosureMachine
   pub runs : closureRun (parts .count) 0 moves (begun (let-in .both .held .read .0)) ≡ moved machine

@@ -1,10 +1,10 @@
-// The call. It rests on the promises of all layers below.
+// The call.
 use base_slices::tail;
 use call_lists::Ended;
 use call_lists::run_list;
 use engine_settling::first_state;
-use engine_state_arrays::borrowed;
-use engine_state_arrays::lend;
+use engine_state_arrays::from_arrays;
+use engine_state_arrays::to_arrays;
 use engine_states::State;
 use engine_states::weigh;
 use read_messages::Outcome;
@@ -33,7 +33,7 @@ ghost use Rattle.theory_decision.specs.Walk.{says};
 ghost use Rattle.theory_call.specs.Call.{accepted, refusal, asking, terms, answer};
 ghost use Rattle.checker.specs.Answering.{verdictOf, answerOf, askedOf, callOf};
 ghost use Rattle.theory_call.specs.Standing.{Decides, Reduces, Returned, Readmitted, MovesBounded, WeightHolds, WeightBounded};
-ghost use Rattle.checker.specs.Calling.{ScriptHeld, BothHeld, LetIn, Stands, Writable, Walkable, ComesTo, Greatest};
+ghost use Rattle.checker.specs.Calling.{ScriptHeld, BothHeld, LetIn, StateHeld, Writable, Walkable, ComesTo, Greatest};
 
 // The most visits that may be asked for, and the most moves of a list: questions 13 and 14.
 const MOST_PATIENCE: u32 = 16777216;
@@ -98,7 +98,7 @@ fn write_state<'a, 'b>(
     let offsets = state.offsets;
     let bindings = state.bindings;
     let variables = bindings.variables;
-    let places = bindings.places;
+    let sources = bindings.sources;
     let counts = bindings.counts;
     let sizes = bindings.sizes;
     let bulks = bindings.bulks;
@@ -110,7 +110,7 @@ fn write_state<'a, 'b>(
         starts,
         &offsets,
         tail(&variables, first),
-        tail(&places, first),
+        tail(&sources, first),
         tail(&counts, first),
         tail(&sizes, first),
         tail(&bulks, first),
@@ -221,7 +221,7 @@ fn with_moves<'a, 'b>(
     out: &'b mut [u32],
 ) -> Answer
     requires { ⌜ Walkable (now script) parts table state ⌝ }
-    ensures { λ r. ⌜ ((list : List ℕ) → moves ≡ length list → Stands (now (script .entry)) list (now (rule .entry)) patience parts table state → answerOf r (now (out .exit)) ≡ answer (callOf (now (script .entry)) list (now (rule .entry)) patience (now (out .entry)))) ⌝ }
+    ensures { λ r. ⌜ ((list : List ℕ) → moves ≡ length list → StateHeld (now (script .entry)) list (now (rule .entry)) patience parts table state → answerOf r (now (out .exit)) ≡ answer (callOf (now (script .entry)) list (now (rule .entry)) patience (now (out .entry)))) ⌝ }
 {
     let kinds = parts.kinds;
     let starts = parts.starts;
@@ -252,7 +252,7 @@ fn with_terms<'a, 'b>(
     let starts = parts.starts;
     let kids = parts.kids;
     let begun = first_state(script, &kinds, &starts, kids);
-    let l = lend(kinds, starts, begun);
+    let l = to_arrays(kinds, starts, begun);
     let mut sets = l.sets;
     let mut numbers = l.numbers;
     let ended = run_list(script, &mut sets, &mut numbers, moves, parts.count);
@@ -260,7 +260,7 @@ fn with_terms<'a, 'b>(
         return refused(question, place, place, 0);
     }
     let top = sets[64];
-    let after = borrowed(&sets, &numbers, top);
+    let after = from_arrays(&sets, &numbers, top);
     with_moves(
         script,
         parts,

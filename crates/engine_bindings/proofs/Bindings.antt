@@ -8,24 +8,24 @@ use lib.Dec.{eqb, ltb}
 use lib.ListN.{length, drop, getD}
 use Rattle.read_messages.specs.Message.{Message, name, variable}
 use Rattle.read_messages.specs.Spelling.{messageAt}
-use Rattle.engine_message_words.specs.Words.{place}
+use Rattle.engine_message_words.specs.Words.{newestBinding}
 use Rattle.base_slices.proofs.Tests.{byTest}
-use Rattle.engine_message_words.proofs.Variables.{place-hit, place-miss}
+use Rattle.engine_message_words.proofs.Variables.{newest-hit, newest-miss}
 use Rattle.theory_closures.specs.Resolve.{resolve}
 use Rattle.theory_closures.proofs.Resolving.{substitute-hit, substitute-miss}
 use Rattle.engine_bindings.specs.Bindings.{bindingsIn, messageOf}
 
 -- a variable that has no binding stays
-pub resolve-unbound : (script vs ps : List ℕ) (u : ℕ) → length vs ≤ place vs u → resolve (bindingsIn script vs ps) (variable u) ≡ variable u
+pub resolve-unbound : (script vs ps : List ℕ) (u : ℕ) → length vs ≤ newestBinding vs u → resolve (bindingsIn script vs ps) (variable u) ≡ variable u
 unfolding resolve bindingsIn
 resolve-unbound script [] ps u h = refl
 resolve-unbound script (v ∷ vs) [] u h = refl
 resolve-unbound script (v ∷ vs) (a ∷ ps) u h =
-    byTest (eqb u v) (λ e. absurd (omega (arith, place-hit v u vs e)))
-    (λ e. ap (resolve (bindingsIn script vs ps)) (substitute-miss v u _ e) ∙ resolve-unbound script vs ps u (omega (arith, place-miss v u vs e)))
+    byTest (eqb u v) (λ e. absurd (omega (arith, newest-hit v u vs e)))
+    (λ e. ap (resolve (bindingsIn script vs ps)) (substitute-miss v u _ e) ∙ resolve-unbound script vs ps u (omega (arith, newest-miss v u vs e)))
 
--- the message of the binding at that place, after the older bindings
-abbrev pub bindingMessage : (script variables places : List ℕ) → (k : ℕ) → Message
+-- the message of the binding at that index, after the older bindings
+abbrev pub bindingMessage : (script variables sources : List ℕ) → (k : ℕ) → Message
 bindingMessage script vs ps k = resolve (bindingsIn script (drop (k + 1) vs) (drop (k + 1) ps)) (messageAt (drop (getD ps k 0) script))
 
 pub binding-message-next : (script : List ℕ) (v a : ℕ) (vs ps : List ℕ) (k : ℕ) → bindingMessage script (v ∷ vs) (a ∷ ps) (suc k) ≡ bindingMessage script vs ps k
@@ -34,14 +34,14 @@ binding-message-next script v a vs ps k =
     rw e
 
 -- a variable becomes the message of its newest binding, after the older ones
-pub resolve-bound : (script vs ps : List ℕ) (u : ℕ) → length ps ≡ length vs → place vs u < length vs → resolve (bindingsIn script vs ps) (variable u) ≡ bindingMessage script vs ps (place vs u)
+pub resolve-bound : (script vs ps : List ℕ) (u : ℕ) → length ps ≡ length vs → newestBinding vs u < length vs → resolve (bindingsIn script vs ps) (variable u) ≡ bindingMessage script vs ps (newestBinding vs u)
 unfolding resolve bindingsIn
 resolve-bound script [] ps u l h = absurd (omega arith)
 resolve-bound script (v ∷ vs) [] u l h = absurd (omega arith)
 resolve-bound script (v ∷ vs) (a ∷ ps) u l h =
-    byTest (eqb u v) (λ e. rw (place-hit v u vs e) (ap (resolve (bindingsIn script vs ps)) (substitute-hit v u _ e)))
-    (λ e. rw (place-miss v u vs e) (ap (resolve (bindingsIn script vs ps)) (substitute-miss v u _ e)
-    ∙ resolve-bound script vs ps u (omega arith) (omega (arith, place-miss v u vs e)) ∙ sym (binding-message-next script v a vs ps (place vs u))))
+    byTest (eqb u v) (λ e. rw (newest-hit v u vs e) (ap (resolve (bindingsIn script vs ps)) (substitute-hit v u _ e)))
+    (λ e. rw (newest-miss v u vs e) (ap (resolve (bindingsIn script vs ps)) (substitute-miss v u _ e)
+    ∙ resolve-bound script vs ps u (omega arith) (omega (arith, newest-miss v u vs e)) ∙ sym (binding-message-next script v a vs ps (newestBinding vs u))))
 
 -- a part's message, by where it starts
 pub message-word : (script : List ℕ) (start : ℕ) → ltb start 65536 ≡ true → messageOf script start ≡ messageAt (drop start script)

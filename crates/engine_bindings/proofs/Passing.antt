@@ -10,7 +10,7 @@ use Rattle.read_messages.specs.Message.{Message, variable, emptyMessage, items,
 use Rattle.read_messages.specs.Spelling.{topMessage, push, spelled, messageAt}
 use Rattle.read_messages.specs.declared.MessageWord.{MessageWord}
 use Rattle.read_messages.specs.declared.MessageWord.the-variants.{Name, Variable, Enter, Exit, Open, Empty, Path, Unfit}
-use Rattle.engine_message_words.specs.Words.{place, firstWord, shapeOf, arityOf, boundAt, plainName, plainItem}
+use Rattle.engine_message_words.specs.Words.{newestBinding, firstWord, shapeOf, arityOf, boundAt, plainName, plainItem}
 use Rattle.engine_message_words.specs.declared.Shape.{Shape}
 use Rattle.engine_message_words.proofs.FirstWords.{arity-small, bound, bound-variable}
 use Rattle.theory_closures.specs.Resolve.{resolve}
@@ -117,7 +117,7 @@ one-message σ {l} {ws} e = rw e (append-nil (items (resolve σ (topMessage (spe
 pub first-bound : (l vs : List ℕ) {m : MessageWord} {k : ℕ} → m ≡ firstWord l → k ≡ boundAt m vs → k ≡ boundAt (firstWord l) vs
 first-bound l vs e f = rw e at f
 
--- A word that is no variable with a binding stands for itself.
+-- A word that is no variable with a binding represents itself.
 
 abbrev pub Free : List (ℕ × Message) → MessageWord → Type 0
 Free σ m = (v : ℕ) → m ≡ Variable v → resolve σ (variable v) ≡ variable v
@@ -170,7 +170,7 @@ pub single : (σ : List (ℕ × Message)) (l : List ℕ) (o : ℕ) → Free σ (
 unfolding ownItems
 single σ l o f h = rw (message-first l) (single-word σ (firstWord l) (spelled (drop 1 l)) o f h)
 
--- A word that is a variable with a binding stands for the message of that binding, after the older ones.
+-- A word that is a variable with a binding represents the message of that binding, after the older ones.
 
 pub split-bound : (σ : List (ℕ × Message)) (vs l : List ℕ) (p k : ℕ) → 0 < p → k ≡ boundAt (firstWord l) vs → k < length vs
     → allItems σ (firsts p (spelled l)) ≡ ownItems σ l ++ allItems σ (firsts (p - 1) (spelled (drop 1 l)))
@@ -178,17 +178,17 @@ unfolding shapeOf
 split-bound σ vs l p k z e h = elim (bound-variable vs (firstWord l) k e h) [ bound v q i ↦ rw (q, add-zero (p - 1)) at (own-front σ l p z) ]
 
 module _ (script vs ps : List ℕ) (l : length ps ≡ length vs) (k : ℕ) (h : k < length vs) where
-  pub given-place : (v : ℕ) → k ≡ place vs v → bindingMessage script vs ps k ≡ resolve (bindingsIn script vs ps) (variable v)
-  given-place v e = rw e (sym (resolve-bound script vs ps v l (omega arith)))
+  pub given-newest : (v : ℕ) → k ≡ newestBinding vs v → bindingMessage script vs ps k ≡ resolve (bindingsIn script vs ps) (variable v)
+  given-newest v e = rw e (sym (resolve-bound script vs ps v l (omega arith)))
 
   pub given-message : (ws : List ℕ) → k ≡ boundAt (firstWord ws) vs → {us qs g : List ℕ} → us ≡ drop (k + 1) vs → qs ≡ drop (k + 1) ps → g ≡ drop (getD ps k 0) script
       → resolve (bindingsIn script us qs) (messageAt g) ≡ resolve (bindingsIn script vs ps) (messageAt ws)
   unfolding push topMessage
-  given-message ws e e₁ e₂ e₃ = elim (bound-variable vs (firstWord ws) k e h) [ bound v q p ↦ rw (e₁, e₂, e₃, message-first ws, q) (given-place v p) ]
+  given-message ws e e₁ e₂ e₃ = elim (bound-variable vs (firstWord ws) k e h) [ bound v q p ↦ rw (e₁, e₂, e₃, message-first ws, q) (given-newest v p) ]
 
   pub given-items : (ws : List ℕ) → k ≡ boundAt (firstWord ws) vs → items (bindingMessage script vs ps k) ≡ ownItems (bindingsIn script vs ps) ws
   unfolding ownItems wordItems
-  given-items ws e = elim (bound-variable vs (firstWord ws) k e h) [ bound v q p ↦ rw q (ap items (given-place v p)) ]
+  given-items ws e = elim (bound-variable vs (firstWord ws) k e h) [ bound v q p ↦ rw q (ap items (given-newest v p)) ]
 
   pub given-own : (ws : List ℕ) → k ≡ boundAt (firstWord ws) vs → {us qs g : List ℕ} → us ≡ drop (k + 1) vs → qs ≡ drop (k + 1) ps → g ≡ drop (getD ps k 0) script
       → allItems (bindingsIn script us qs) (firsts 1 (spelled g)) ≡ ownItems (bindingsIn script vs ps) ws

@@ -9,7 +9,7 @@ use Rattle.read_messages.specs.Message.{Message, name}
 use Rattle.read_messages.specs.Spelling.{messageAt}
 
 -- the bindings, newest first, from the variables and the indices of the messages' first words in the script
-unfoldable pub bindingsIn : (script variables places : List ℕ) → List (ℕ × Message)
+unfoldable pub bindingsIn : (script variables sources : List ℕ) → List (ℕ × Message)
 bindingsIn script [] ps = []
 bindingsIn script (v ∷ vs) [] = []
 bindingsIn script (v ∷ vs) (a ∷ ps) = (v, messageAt (drop a script)) ∷ bindingsIn script vs ps

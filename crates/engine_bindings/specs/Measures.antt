@@ -14,12 +14,12 @@ abbrev pub itemCount : Message → ℕ
 itemCount m = length (items m)
 
 -- what is kept with each binding: the count of its message under the older bindings
-unfoldable pub keptOf : (count : Message → ℕ) → (script variables places : List ℕ) → List ℕ
+unfoldable pub keptOf : (count : Message → ℕ) → (script variables sources : List ℕ) → List ℕ
 keptOf f script [] ps = []
 keptOf f script (v ∷ vs) [] = []
 keptOf f script (v ∷ vs) (a ∷ ps) = capped (f (resolve (bindingsIn script vs ps) (messageAt (drop a script)))) ∷ keptOf f script vs ps
 
 -- the values are the counts that are to be kept with the bindings
-pub record Kept (count : Message → ℕ) (script variables places values : List ℕ) : Type 0 where
-  pub aligned : length places ≡ length variables
-  pub right : values ≡ keptOf count script variables places
+pub record Kept (count : Message → ℕ) (script variables sources values : List ℕ) : Type 0 where
+  pub aligned : length sources ≡ length variables
+  pub right : values ≡ keptOf count script variables sources

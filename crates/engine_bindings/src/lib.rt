@@ -1,8 +1,7 @@
-// Messages under bindings, read from the script's words. A binding says that a receipt was given the message at a word of
-// the script. Bindings are lent newest first, in slices: the variables, the indices of the messages' first words, and the
-// number of items that was counted of each message when it was bound. What is older than a binding is the tail behind it.
-// Each operation is one pass over words, since a variable's count is at hand; counts stop at 2^32 - 1. It rests on the
-// promises of message_words, messages and slices.
+// Messages under bindings, read from the script's words. A binding says that a receipt was given the message at a word
+// of the script. Bindings are lent newest first, in slices: the variables, the indices of the messages' first words,
+// and the number of items that was counted of each message when it was bound. What is older than a binding is the tail
+// behind it. Each operation is one pass over words, since a variable's count is at hand; counts stop at 2^32 - 1.
 use base_slices::sum;
 use base_slices::tail;
 use base_slices::wide;
@@ -32,30 +31,30 @@ pub struct Behind {
 }
 
 // The name that the message at the first of the words is, after the bindings.
-pub fn name_of(script: &[u32], words: &[u32], variables: &[u32], places: &[u32]) -> Named
-    requires { ⌜ length (now places) ≡ length (now variables) ⌝ }
-    ensures { λ r. ⌜ r ≡ nameOf (resolve (bindingsIn (now (script .entry)) (now (variables .entry)) (now (places .entry))) (messageAt (now (words .entry)))) ⌝ }
+pub fn name_of(script: &[u32], words: &[u32], variables: &[u32], sources: &[u32]) -> Named
+    requires { ⌜ length (now sources) ≡ length (now variables) ⌝ }
+    ensures { λ r. ⌜ r ≡ nameOf (resolve (bindingsIn (now (script .entry)) (now (variables .entry)) (now (sources .entry))) (messageAt (now (words .entry)))) ⌝ }
 {
     let m = first_word(words);
     let k = bound(m, variables);
     if k < variables.len() {
         return name_of(
             script,
-            given(script, places, k),
+            given(script, sources, k),
             tail(variables, k + 1),
-            tail(places, k + 1),
+            tail(sources, k + 1),
         );
     }
     plain_name(m)
 }
 
 // The name that a part's message is, after the bindings: the message at a word of the script, or a name given directly.
-pub fn name_at(script: &[u32], start: u32, variables: &[u32], places: &[u32]) -> Named
-    requires { ⌜ length (now places) ≡ length (now variables) ⌝ }
-    ensures { λ r. ⌜ r ≡ nameOf (resolve (bindingsIn (now (script .entry)) (now (variables .entry)) (now (places .entry))) (messageOf (now (script .entry)) start)) ⌝ }
+pub fn name_at(script: &[u32], start: u32, variables: &[u32], sources: &[u32]) -> Named
+    requires { ⌜ length (now sources) ≡ length (now variables) ⌝ }
+    ensures { λ r. ⌜ r ≡ nameOf (resolve (bindingsIn (now (script .entry)) (now (variables .entry)) (now (sources .entry))) (messageOf (now (script .entry)) start)) ⌝ }
 {
     if start < 65536 {
-        return name_of(script, tail(script, wide(start)), variables, places);
+        return name_of(script, tail(script, wide(start)), variables, sources);
     }
     Named::Called(start - 65536)
 }
@@ -78,7 +77,7 @@ fn skip(words: &[u32], pending: usize) -> usize
 // The number of items that the first of the words has of its own.
 pub fn own(words: &[u32], variables: &[u32], counts: &[u32]) -> u32
     requires { ⌜ length (now counts) ≡ length (now variables) ⌝ }
-    ensures { λ r. ⌜ ((script places : List ℕ) → Kept itemCount script (now (variables .entry)) places (now (counts .entry)) → r ≡ capped (length (ownItems (bindingsIn script (now (variables .entry)) places) (now (words .entry))))) ⌝ }
+    ensures { λ r. ⌜ ((script sources : List ℕ) → Kept itemCount script (now (variables .entry)) sources (now (counts .entry)) → r ≡ capped (length (ownItems (bindingsIn script (now (variables .entry)) sources) (now (words .entry))))) ⌝ }
 {
     let m = first_word(words);
     let k = bound(m, variables);
@@ -106,7 +105,7 @@ pub fn after_own(words: &[u32], pending: usize) -> Behind
 // The number of items of the first `pending` messages of the words, after the bindings.
 fn count_from(words: &[u32], pending: usize, variables: &[u32], counts: &[u32]) -> u32
     requires { ⌜ (pending + length (now words) < 2 ^ 64) × (length (now counts) ≡ length (now variables)) ⌝ }
-    ensures { λ r. ⌜ ((script places : List ℕ) → Kept itemCount script (now (variables .entry)) places (now (counts .entry)) → r ≡ capped (length (allItems (bindingsIn script (now (variables .entry)) places) (firsts pending (spelled (now (words .entry))))))) ⌝ }
+    ensures { λ r. ⌜ ((script sources : List ℕ) → Kept itemCount script (now (variables .entry)) sources (now (counts .entry)) → r ≡ capped (length (allItems (bindingsIn script (now (variables .entry)) sources) (firsts pending (spelled (now (words .entry))))))) ⌝ }
 {
     if pending == 0 {
         return 0;
@@ -123,11 +122,11 @@ pub fn item_count(
     script: &[u32],
     at: usize,
     variables: &[u32],
-    places: &[u32],
+    sources: &[u32],
     counts: &[u32],
 ) -> u32
-    requires { ⌜ Kept itemCount (now script) (now variables) (now places) (now counts) ⌝ }
-    ensures { λ r. ⌜ r ≡ capped (length (items (resolve (bindingsIn (now (script .entry)) (now (variables .entry)) (now (places .entry))) (messageAt (drop at (now (script .entry))))))) ⌝ }
+    requires { ⌜ Kept itemCount (now script) (now variables) (now sources) (now counts) ⌝ }
+    ensures { λ r. ⌜ r ≡ capped (length (items (resolve (bindingsIn (now (script .entry)) (now (variables .entry)) (now (sources .entry))) (messageAt (drop at (now (script .entry))))))) ⌝ }
 {
     count_from(tail(script, at), 1, variables, counts)
 }

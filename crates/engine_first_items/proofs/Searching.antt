@@ -54,11 +54,11 @@ left-behind script l u h =
 pub left-length : (script : List ℕ) (l : ℕ) → l ≤ length script → length (wordsLeft script l) ≡ l
 left-length script l h = omega (arith, length-drop (length script - l) script)
 
--- a place behind all bindings, from the o-th on too
+-- an index behind all bindings, from the o-th on too
 pub unbound : (o j : ℕ) (vs : List ℕ) (m : MessageWord) → j ≡ boundAt m (drop o vs) → length vs ≤ o + j → length (drop o vs) ≤ boundAt m (drop o vs)
 unbound o j vs m e h = omega (arith, length-drop o vs)
 
--- the item that a search is for, the bindings being those of the variables vs and the places ps
+-- the item that a search is for, the bindings being those of the variables vs and the sources ps
 
 pub sought : (script vs ps : List ℕ) → Search → First
 sought script vs ps s =
@@ -129,7 +129,7 @@ module _ {script vs ps cs : List ℕ} (ok : Kept itemCount script vs ps cs) (l p
 
 -- where a search for that item may stand, and what falls with each of its turns
 
-pub record Stands (script vs ps : List ℕ) (item : First) (s : Search) : Type 0 where
+pub record Finding (script vs ps : List ℕ) (item : First) (s : Search) : Type 0 where
   pub within : s .left ≤ length script
   pub room : s .pending + s .left ≤ 1 + length script
   pub small : s .before < 4294967295
@@ -142,17 +142,17 @@ turns vs s = rank (length vs - s .older) (3 * s .left + s .pending)
 -- a search that goes on from s
 pub record On (script vs ps : List ℕ) (item : First) (s r : Search) : Type 0 where
   pub fewer : turns vs r < turns vs s
-  pub stands : Stands script vs ps item r
+  pub stands : Finding script vs ps item r
 
-pub stands-first : (script vs ps : List ℕ) (at offset : ℕ) → offset < 4294967295 → Stands script vs ps (firstItem (drop offset (items (resolve (bindingsIn script vs ps) (messageAt (drop at script)))))) (searching (length script - at) 1 offset 0)
+pub stands-first : (script vs ps : List ℕ) (at offset : ℕ) → offset < 4294967295 → Finding script vs ps (firstItem (drop offset (items (resolve (bindingsIn script vs ps) (messageAt (drop at script)))))) (searching (length script - at) 1 offset 0)
 stands-first script vs ps at offset h = record { within = omega arith; room = omega arith; small = h; older = omega arith; same = sought-first script vs ps at offset }
 
-module _ {script vs ps cs : List ℕ} (ok : Kept itemCount script vs ps cs) (item : First) (s : Search) (st : Stands script vs ps item s) (some : 0 < s .pending) where
+module _ {script vs ps cs : List ℕ} (ok : Kept itemCount script vs ps cs) (item : First) (s : Search) (st : Finding script vs ps item s) (some : 0 < s .pending) where
   module _ (k j : ℕ) (at : k ≡ s .older + j) (e : j ≡ boundAt (firstWord (wordsLeft script (s .left))) (drop (s .older) vs)) (h : k < length vs) (r : Search) where
-    inside : s .before < getD cs k 0 → r ≡ searching (length script - getD ps k 0) 1 (s .before) (k + 1) → Stands script vs ps item r
+    inside : s .before < getD cs k 0 → r ≡ searching (length script - getD ps k 0) 1 (s .before) (k + 1) → Finding script vs ps item r
     inside q x = rw x record { within = omega arith; room = omega arith; small = st .small; older = omega arith; same = st .same ∙ sought-inside ok (s .left) (s .pending) (s .before) (s .older) some k j at e h q }
 
-    past : getD cs k 0 ≤ s .before → r ≡ searching (s .left - 1) (s .pending - 1) (s .before - getD cs k 0) (s .older) → Stands script vs ps item r
+    past : getD cs k 0 ≤ s .before → r ≡ searching (s .left - 1) (s .pending - 1) (s .before - getD cs k 0) (s .older) → Finding script vs ps item r
     past q x = rw x record { within = omega (arith, st .within); room = omega (arith, st .room); small = omega (arith, st .small); older = st .older; same = st .same ∙ sought-past ok (s .left) (s .pending) (s .before) (s .older) some k j at e h (st .within) q (st .small) }
 
     pub on-variable : {place : ℕ} → place ≡ getD ps k 0 → AtVariable s (length script) k (getD cs k 0) place r → length script < 2 ^ 64 → On script vs ps item s r

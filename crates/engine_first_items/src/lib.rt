@@ -1,4 +1,4 @@
-// The first item of an action under bindings. It rests on the promises of bindings, message_words, messages and slices.
+// The first item of an action under bindings.
 use base_slices::tail;
 use base_slices::wide;
 use engine_bindings::after_own;
@@ -63,11 +63,11 @@ pub fn first_item(
     at: usize,
     offset: u32,
     variables: &[u32],
-    places: &[u32],
+    sources: &[u32],
     counts: &[u32],
 ) -> First
-    requires { ⌜ Kept itemCount (now script) (now variables) (now places) (now counts) × (offset < 4294967295) ⌝ }
-    ensures { λ r. ⌜ r ≡ firstItem (drop offset (items (resolve (bindingsIn (now (script .entry)) (now (variables .entry)) (now (places .entry))) (messageAt (drop at (now (script .entry))))))) ⌝ }
+    requires { ⌜ Kept itemCount (now script) (now variables) (now sources) (now counts) × (offset < 4294967295) ⌝ }
+    ensures { λ r. ⌜ r ≡ firstItem (drop offset (items (resolve (bindingsIn (now (script .entry)) (now (variables .entry)) (now (sources .entry))) (messageAt (drop at (now (script .entry))))))) ⌝ }
 {
     let n = script.len();
     let mut s = Search {
@@ -82,13 +82,13 @@ pub fn first_item(
         let receipts = tail(variables, s.older);
         let k = s.older + bound(m, receipts);
         if k < variables.len() {
-            s = at_variable(s, n, k, counts[k], wide(places[k]));
+            s = at_variable(s, n, k, counts[k], wide(sources[k]));
         } else {
             let own = shape_of(m);
             if s.before < own.items {
                 return plain_item(
                     m,
-                    name_of(script, tail(words, 1), receipts, tail(places, s.older)),
+                    name_of(script, tail(words, 1), receipts, tail(sources, s.older)),
                 );
             }
             let b = after_own(words, s.pending);

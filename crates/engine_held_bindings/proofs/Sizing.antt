@@ -20,7 +20,7 @@ use Rattle.engine_bindings.specs.Passes.{firsts}
 use Rattle.theory_closures.proofs.Resolving.{resolve-name, resolve-enter, resolve-exit, resolve-opens, resolve-empty, resolve-path}
 use Rattle.engine_bindings.proofs.Bindings.{bindingMessage}
 use Rattle.engine_message_words.proofs.FirstWords.{bound, bound-variable}
-use Rattle.engine_bindings.proofs.Passing.{firsts-first, Free, given-place}
+use Rattle.engine_bindings.proofs.Passing.{firsts-first, Free, given-newest}
 use Rattle.base_slices.proofs.Capping.{capped-sum}
 use Rattle.engine_bindings.proofs.Counting.{kept-none, kept-drop, kept-more}
 use Rattle.engine_held_bindings.specs.Sizes.{messageSize, itemsSize, bulk, cappedItems, itemBulk, Cached, allSizes, ownSize}
@@ -98,7 +98,7 @@ capped-one σ m f = omega (arith, size-free σ m f)
 
 pub given-size : (script vs ps : List ℕ) → length ps ≡ length vs → (k : ℕ) → k < length vs → (m : MessageWord) → k ≡ boundAt m vs → messageSize (bindingMessage script vs ps k) ≡ ownSize (bindingsIn script vs ps) m
 unfolding ownSize
-given-size script vs ps l k h m e = elim (bound-variable vs m k e h) [ bound v q p ↦ rw q (ap messageSize (given-place script vs ps l k h v p)) ]
+given-size script vs ps l k h m e = elim (bound-variable vs m k e h) [ bound v q p ↦ rw q (ap messageSize (given-newest script vs ps l k h v p)) ]
 
 -- the items' bulk
 

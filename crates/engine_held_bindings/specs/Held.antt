@@ -21,12 +21,12 @@ pub record Measures (m : Message) (r : Measured) : Type 0 where
   pub bulk : r .bulk ≡ capped (itemBulk m)
 
 unfoldable pub bindingsOf : (script : List ℕ) → Bindings → List (ℕ × Message)
-bindingsOf script b = bindingsIn script (drop (b .first) (b .variables)) (drop (b .first) (b .places))
+bindingsOf script b = bindingsIn script (drop (b .first) (b .variables)) (drop (b .first) (b .sources))
 
 -- there is no more than fits, and what is kept with the bindings is right
 pub record Held (script : List ℕ) (b : Bindings) : Type 0 where
   pub within : b .first ≤ 32
-  pub cached : Cached script (drop (b .first) (b .variables)) (drop (b .first) (b .places)) (drop (b .first) (b .counts)) (drop (b .first) (b .sizes)) (drop (b .first) (b .bulks))
+  pub cached : Cached script (drop (b .first) (b .variables)) (drop (b .first) (b .sources)) (drop (b .first) (b .counts)) (drop (b .first) (b .sizes)) (drop (b .first) (b .bulks))
 
 -- no bindings are held
 pub record NoneHeld (script : List ℕ) (b : Bindings) : Type 0 where

@@ -56,25 +56,25 @@ ownSize σ Path = 1
 ownSize σ Unfit = 1
 
 -- the three counts that are kept with the bindings are right
-pub record Cached (script variables places counts sizes bulks : List ℕ) : Type 0 where
-  pub counted : Kept itemCount script variables places counts
-  pub sized : Kept messageSize script variables places sizes
-  pub bulked : Kept itemBulk script variables places bulks
+pub record Cached (script variables sources counts sizes bulks : List ℕ) : Type 0 where
+  pub counted : Kept itemCount script variables sources counts
+  pub sized : Kept messageSize script variables sources sizes
+  pub bulked : Kept itemBulk script variables sources bulks
 
 -- what is asked where the bulk of the items that a word has of its own is counted from an offset on
-pub record OwnAsked (script words : List ℕ) (offset : ℕ) (variables places counts sizes bulks : List ℕ) : Type 0 where
+pub record OwnAsked (script words : List ℕ) (offset : ℕ) (variables sources counts sizes bulks : List ℕ) : Type 0 where
   -- what is kept with the bindings is right
-  pub cached : Cached script variables places counts sizes bulks
+  pub cached : Cached script variables sources counts sizes bulks
   -- the offset is no count that stopped
   pub below : offset < 4294967295
   -- the word has an item there
-  pub within : offset < length (ownItems (bindingsIn script variables places) words)
+  pub within : offset < length (ownItems (bindingsIn script variables sources) words)
 
 -- and where it is that of the items of the messages that are pending
-pub record PendingAsked (script words : List ℕ) (pending offset : ℕ) (variables places counts sizes bulks : List ℕ) : Type 0 where
+pub record PendingAsked (script words : List ℕ) (pending offset : ℕ) (variables sources counts sizes bulks : List ℕ) : Type 0 where
   -- the messages and the words can be counted together
   pub room : pending + length words < 2 ^ 64
   -- what is kept with the bindings is right
-  pub cached : Cached script variables places counts sizes bulks
+  pub cached : Cached script variables sources counts sizes bulks
   -- the offset is no count that stopped
   pub below : offset < 4294967295

@@ -1,7 +1,6 @@
 // How many words messages under bindings are written with, and the holder of the bindings with what was counted of each
-// message when it was bound: its items, its words, and the words of its items with one PATH each. So a new binding, too, is
-// counted in one pass over words; counts stop at 2^32 - 1. It rests on the promises of bindings, message_words,
-// messages and slices.
+// message when it was bound: its items, its words, and the words of its items with one PATH each. So a new binding,
+// too, is counted in one pass over words; counts stop at 2^32 - 1.
 use base_slices::sum;
 use base_slices::tail;
 use base_slices::wide;
@@ -38,7 +37,7 @@ pub struct Measured {
 // The bindings, from first on, newest first, and what was counted of each.
 pub struct Bindings {
     pub variables: [u32; 32],
-    pub places: [u32; 32],
+    pub sources: [u32; 32],
     pub counts: [u32; 32],
     pub sizes: [u32; 32],
     pub bulks: [u32; 32],
@@ -48,7 +47,7 @@ pub struct Bindings {
 // The number of words that a word is written with itself, after the bindings.
 fn own_size(m: MessageWord, variables: &[u32], sizes: &[u32]) -> u32
     requires { ⌜ length (now sizes) ≡ length (now variables) ⌝ }
-    ensures { λ r. ⌜ ((script places : List ℕ) → Kept messageSize script (now (variables .entry)) places (now (sizes .entry)) → r ≡ capped (ownSize (bindingsIn script (now (variables .entry)) places) m)) ⌝ }
+    ensures { λ r. ⌜ ((script sources : List ℕ) → Kept messageSize script (now (variables .entry)) sources (now (sizes .entry)) → r ≡ capped (ownSize (bindingsIn script (now (variables .entry)) sources) m)) ⌝ }
 {
     let k = bound(m, variables);
     if k < variables.len() {
@@ -60,7 +59,7 @@ fn own_size(m: MessageWord, variables: &[u32], sizes: &[u32]) -> u32
 // The number of words that the first `pending` messages of the words are written with, after the bindings.
 fn size_from(words: &[u32], pending: usize, variables: &[u32], sizes: &[u32]) -> u32
     requires { ⌜ (pending + length (now words) < 2 ^ 64) × (length (now sizes) ≡ length (now variables)) ⌝ }
-    ensures { λ r. ⌜ ((script places : List ℕ) → Kept messageSize script (now (variables .entry)) places (now (sizes .entry)) → r ≡ capped (allSizes (bindingsIn script (now (variables .entry)) places) (firsts pending (spelled (now (words .entry)))))) ⌝ }
+    ensures { λ r. ⌜ ((script sources : List ℕ) → Kept messageSize script (now (variables .entry)) sources (now (sizes .entry)) → r ≡ capped (allSizes (bindingsIn script (now (variables .entry)) sources) (firsts pending (spelled (now (words .entry)))))) ⌝ }
 {
     if pending == 0 {
         return 0;
@@ -75,9 +74,9 @@ fn size_from(words: &[u32], pending: usize, variables: &[u32], sizes: &[u32]) ->
 }
 
 // The number of words that the message at a word of the script is written with, after the bindings.
-pub fn words_of(script: &[u32], at: usize, variables: &[u32], places: &[u32], sizes: &[u32]) -> u32
-    requires { ⌜ Kept messageSize (now script) (now variables) (now places) (now sizes) ⌝ }
-    ensures { λ r. ⌜ r ≡ capped (messageSize (resolve (bindingsIn (now (script .entry)) (now (variables .entry)) (now (places .entry))) (messageAt (drop at (now (script .entry)))))) ⌝ }
+pub fn words_of(script: &[u32], at: usize, variables: &[u32], sources: &[u32], sizes: &[u32]) -> u32
+    requires { ⌜ Kept messageSize (now script) (now variables) (now sources) (now sizes) ⌝ }
+    ensures { λ r. ⌜ r ≡ capped (messageSize (resolve (bindingsIn (now (script .entry)) (now (variables .entry)) (now (sources .entry))) (messageAt (drop at (now (script .entry)))))) ⌝ }
 {
     size_from(tail(script, at), 1, variables, sizes)
 }
@@ -88,13 +87,13 @@ fn own_bulk(
     words: &[u32],
     offset: u32,
     variables: &[u32],
-    places: &[u32],
+    sources: &[u32],
     counts: &[u32],
     sizes: &[u32],
     bulks: &[u32],
 ) -> u32
-    requires { ⌜ OwnAsked (now script) (now words) offset (now variables) (now places) (now counts) (now sizes) (now bulks) ⌝ }
-    ensures { λ r. ⌜ r ≡ capped (bulk (drop offset (ownItems (bindingsIn (now (script .entry)) (now (variables .entry)) (now (places .entry))) (now (words .entry))))) ⌝ }
+    requires { ⌜ OwnAsked (now script) (now words) offset (now variables) (now sources) (now counts) (now sizes) (now bulks) ⌝ }
+    ensures { λ r. ⌜ r ≡ capped (bulk (drop offset (ownItems (bindingsIn (now (script .entry)) (now (variables .entry)) (now (sources .entry))) (now (words .entry))))) ⌝ }
 {
     let k = bound(first_word(words), variables);
     if k < variables.len() {
@@ -104,11 +103,11 @@ fn own_bulk(
         let older = k + 1;
         return bulk_from(
             script,
-            given(script, places, k),
+            given(script, sources, k),
             1,
             offset,
             tail(variables, older),
-            tail(places, older),
+            tail(sources, older),
             tail(counts, older),
             tail(sizes, older),
             tail(bulks, older),
@@ -124,13 +123,13 @@ fn bulk_from(
     pending: usize,
     offset: u32,
     variables: &[u32],
-    places: &[u32],
+    sources: &[u32],
     counts: &[u32],
     sizes: &[u32],
     bulks: &[u32],
 ) -> u32
-    requires { ⌜ PendingAsked (now script) (now words) pending offset (now variables) (now places) (now counts) (now sizes) (now bulks) ⌝ }
-    ensures { λ r. ⌜ r ≡ capped (bulk (drop offset (allItems (bindingsIn (now (script .entry)) (now (variables .entry)) (now (places .entry))) (firsts pending (spelled (now (words .entry))))))) ⌝ }
+    requires { ⌜ PendingAsked (now script) (now words) pending offset (now variables) (now sources) (now counts) (now sizes) (now bulks) ⌝ }
+    ensures { λ r. ⌜ r ≡ capped (bulk (drop offset (allItems (bindingsIn (now (script .entry)) (now (variables .entry)) (now (sources .entry))) (firsts pending (spelled (now (words .entry))))))) ⌝ }
 {
     if pending == 0 {
         return 0;
@@ -146,7 +145,7 @@ fn bulk_from(
             left,
             offset - o,
             variables,
-            places,
+            sources,
             counts,
             sizes,
             bulks,
@@ -157,7 +156,7 @@ fn bulk_from(
         words,
         offset,
         variables,
-        places,
+        sources,
         counts,
         sizes,
         bulks,
@@ -170,7 +169,7 @@ fn bulk_from(
             left,
             0,
             variables,
-            places,
+            sources,
             counts,
             sizes,
             bulks,
@@ -183,13 +182,13 @@ fn bulk_of(
     script: &[u32],
     at: usize,
     variables: &[u32],
-    places: &[u32],
+    sources: &[u32],
     counts: &[u32],
     sizes: &[u32],
     bulks: &[u32],
 ) -> u32
-    requires { ⌜ Cached (now script) (now variables) (now places) (now counts) (now sizes) (now bulks) ⌝ }
-    ensures { λ r. ⌜ r ≡ capped (bulk (items (resolve (bindingsIn (now (script .entry)) (now (variables .entry)) (now (places .entry))) (messageAt (drop at (now (script .entry))))))) ⌝ }
+    requires { ⌜ Cached (now script) (now variables) (now sources) (now counts) (now sizes) (now bulks) ⌝ }
+    ensures { λ r. ⌜ r ≡ capped (bulk (items (resolve (bindingsIn (now (script .entry)) (now (variables .entry)) (now (sources .entry))) (messageAt (drop at (now (script .entry))))))) ⌝ }
 {
     bulk_from(
         script,
@@ -197,7 +196,7 @@ fn bulk_of(
         1,
         0,
         variables,
-        places,
+        sources,
         counts,
         sizes,
         bulks,
@@ -210,13 +209,13 @@ pub fn item_words(
     at: usize,
     offset: u32,
     variables: &[u32],
-    places: &[u32],
+    sources: &[u32],
     counts: &[u32],
     sizes: &[u32],
     bulks: &[u32],
 ) -> u32
-    requires { ⌜ Cached (now script) (now variables) (now places) (now counts) (now sizes) (now bulks) × (offset < 4294967295) ⌝ }
-    ensures { λ r. ⌜ r ≡ cappedItems (itemsSize (drop offset (items (resolve (bindingsIn (now (script .entry)) (now (variables .entry)) (now (places .entry))) (messageAt (drop at (now (script .entry)))))))) ⌝ }
+    requires { ⌜ Cached (now script) (now variables) (now sources) (now counts) (now sizes) (now bulks) × (offset < 4294967295) ⌝ }
+    ensures { λ r. ⌜ r ≡ cappedItems (itemsSize (drop offset (items (resolve (bindingsIn (now (script .entry)) (now (variables .entry)) (now (sources .entry))) (messageAt (drop at (now (script .entry)))))))) ⌝ }
 {
     let b = bulk_from(
         script,
@@ -224,7 +223,7 @@ pub fn item_words(
         1,
         offset,
         variables,
-        places,
+        sources,
         counts,
         sizes,
         bulks,
@@ -237,18 +236,18 @@ fn measure(
     script: &[u32],
     at: usize,
     variables: &[u32],
-    places: &[u32],
+    sources: &[u32],
     counts: &[u32],
     sizes: &[u32],
     bulks: &[u32],
 ) -> Measured
-    requires { ⌜ Cached (now script) (now variables) (now places) (now counts) (now sizes) (now bulks) ⌝ }
-    ensures { λ r. ⌜ Measures (resolve (bindingsIn (now (script .entry)) (now (variables .entry)) (now (places .entry))) (messageAt (drop at (now (script .entry))))) r ⌝ }
+    requires { ⌜ Cached (now script) (now variables) (now sources) (now counts) (now sizes) (now bulks) ⌝ }
+    ensures { λ r. ⌜ Measures (resolve (bindingsIn (now (script .entry)) (now (variables .entry)) (now (sources .entry))) (messageAt (drop at (now (script .entry))))) r ⌝ }
 {
     Measured {
-        count: item_count(script, at, variables, places, counts),
-        size: words_of(script, at, variables, places, sizes),
-        bulk: bulk_of(script, at, variables, places, counts, sizes, bulks),
+        count: item_count(script, at, variables, sources, counts),
+        size: words_of(script, at, variables, sources, sizes),
+        bulk: bulk_of(script, at, variables, sources, counts, sizes, bulks),
     }
 }
 
@@ -258,7 +257,7 @@ fn measure_held(script: &[u32], at: usize, b: Bindings) -> Measured
     ensures { λ r. ⌜ Measures (resolve (bindingsOf (now (script .entry)) b) (messageAt (drop at (now (script .entry))))) r ⌝ }
 {
     let variables = b.variables;
-    let places = b.places;
+    let sources = b.sources;
     let counts = b.counts;
     let sizes = b.sizes;
     let bulks = b.bulks;
@@ -267,7 +266,7 @@ fn measure_held(script: &[u32], at: usize, b: Bindings) -> Measured
         script,
         at,
         tail(&variables, first),
-        tail(&places, first),
+        tail(&sources, first),
         tail(&counts, first),
         tail(&sizes, first),
         tail(&bulks, first),
@@ -280,7 +279,7 @@ pub fn none() -> Bindings
 {
     Bindings {
         variables: [0; 32],
-        places: [0; 32],
+        sources: [0; 32],
         counts: [0; 32],
         sizes: [0; 32],
         bulks: [0; 32],
@@ -297,7 +296,7 @@ pub fn bind(script: &[u32], b: Bindings, v: u32, at: u32) -> Bindings
     let next = b.first - 1;
     let mut r = b;
     r.variables[next] = v;
-    r.places[next] = at;
+    r.sources[next] = at;
     r.counts[next] = m.count;
     r.sizes[next] = m.size;
     r.bulks[next] = m.bulk;

@@ -7,9 +7,9 @@ use lib.ListN.{length, getD}
 use Rattle.read_messages.specs.ReadMessage.{messageWord}
 use Rattle.read_messages.specs.declared.MessageWord.{MessageWord}
 use Rattle.read_messages.specs.declared.MessageWord.the-variants.{Name, Variable, Enter, Exit, Open, Empty, Path, Unfit}
-use Rattle.engine_message_words.specs.Words.{place, firstWord, shapeOf, arityOf, boundAt}
+use Rattle.engine_message_words.specs.Words.{newestBinding, firstWord, shapeOf, arityOf, boundAt}
 use Rattle.engine_message_words.specs.declared.Shape.{Shape}
-use Rattle.engine_message_words.proofs.Variables.{place-within}
+use Rattle.engine_message_words.proofs.Variables.{newest-within}
 
 pub first-none : (l : List ℕ) → length l ≡ 0 → Empty ≡ firstWord l
 unfolding firstWord
@@ -49,7 +49,7 @@ items-small Unfit = omega arith
 pub bound-within : (m : MessageWord) (vs : List ℕ) → boundAt m vs ≤ length vs
 unfolding boundAt
 bound-within (Name n) vs = omega arith
-bound-within (Variable v) vs = place-within vs v
+bound-within (Variable v) vs = newest-within vs v
 bound-within Enter vs = omega arith
 bound-within Exit vs = omega arith
 bound-within Open vs = omega arith
@@ -60,7 +60,7 @@ bound-within Unfit vs = omega arith
 -- a word that has a binding is a variable
 
 pub data Bound (vs : List ℕ) (k : ℕ) (m : MessageWord) : Type 0 where
-  bound : (v : ℕ) → m ≡ Variable v → k ≡ place vs v → Bound vs k m
+  bound : (v : ℕ) → m ≡ Variable v → k ≡ newestBinding vs v → Bound vs k m
 
 pub bound-variable : (vs : List ℕ) (m : MessageWord) (k : ℕ) → k ≡ boundAt m vs → k < length vs → Bound vs k m
 unfolding boundAt

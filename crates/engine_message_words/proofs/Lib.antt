@@ -1,3 +1,3 @@
--- The laws of `message_words` that its own proofs and the crates above cite.
+-- The laws of `engine_message_words` that its own proofs and the crates above cite.
 pub mod Variables
 pub mod FirstWords

@@ -1,2 +1,2 @@
--- What the contracts of `message_words` cite. Assumes nothing: these are definitions.
+-- What the contracts of `engine_message_words` cite. Assumes nothing: these are definitions.
 pub mod Words

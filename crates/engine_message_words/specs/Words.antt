@@ -38,15 +38,15 @@ shapeOf Unfit = shapeWith 0 0 0
 abbrev pub arityOf : MessageWord → ℕ
 arityOf m = shapeOf m .closed + shapeOf m .opened
 
--- the place of the newest binding of a variable, or the number of bindings
-unfoldable pub place : List ℕ → ℕ → ℕ
-place [] u = 0
-place (v ∷ vs) u = cond (eqb u v) 0 (suc (place vs u))
+-- the index of the newest binding of a variable, or the number of bindings
+unfoldable pub newestBinding : List ℕ → ℕ → ℕ
+newestBinding [] u = 0
+newestBinding (v ∷ vs) u = cond (eqb u v) 0 (suc (newestBinding vs u))
 
--- the place of the newest binding of a word that is a variable; of other words the number of bindings
+-- the index of the newest binding of a word that is a variable; of other words the number of bindings
 unfoldable pub boundAt : MessageWord → List ℕ → ℕ
 boundAt (Name n) vs = length vs
-boundAt (Variable v) vs = place vs v
+boundAt (Variable v) vs = newestBinding vs v
 boundAt Enter vs = length vs
 boundAt Exit vs = length vs
 boundAt Open vs = length vs

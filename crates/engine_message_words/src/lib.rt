@@ -1,6 +1,5 @@
 // The first word of a message: how it begins the message, what it is by itself, and which binding it has where it is a
-// variable. Bindings are lent newest first, in slices: the variables, and the indices of the messages' first words. It
-// rests on the promises of messages and slices.
+// variable. Bindings are lent newest first, in slices: the variables, and the indices of the messages' first words.
 use base_slices::tail;
 use base_slices::wide;
 use read_messages::First;
@@ -10,7 +9,7 @@ use read_messages::message_word;
 ghost use mathlib.Core.Path.{_≡_};
 ghost use Prim.Native.Nat.{_<_};
 ghost use lib.ListN.{length, drop, getD};
-ghost use Rattle.engine_message_words.specs.Words.{place, firstWord, shapeWith, shapeOf, arityOf, boundAt, plainName, plainItem};
+ghost use Rattle.engine_message_words.specs.Words.{newestBinding, firstWord, shapeWith, shapeOf, arityOf, boundAt, plainName, plainItem};
 
 // How a word begins a message: the items that it is of its own, the messages behind it that are closed in such an item,
 // and those that stand open.
@@ -98,9 +97,9 @@ pub fn plain_item(m: MessageWord, inside: Named) -> First
     }
 }
 
-// The place of the newest binding of a variable, or the number of bindings.
+// The index of the newest binding of a variable, or the number of bindings.
 pub fn find(variables: &[u32], v: u32) -> usize
-    ensures { λ r. ⌜ r ≡ place (now (variables .entry)) v ⌝ }
+    ensures { λ r. ⌜ r ≡ newestBinding (now (variables .entry)) v ⌝ }
 {
     let n = variables.len();
     let mut i: usize = 0;
@@ -113,7 +112,7 @@ pub fn find(variables: &[u32], v: u32) -> usize
     n
 }
 
-// The place of the newest binding of a word that is a variable; of other words the number of bindings.
+// The index of the newest binding of a word that is a variable; of other words the number of bindings.
 pub fn bound(m: MessageWord, variables: &[u32]) -> usize
     ensures { λ r. ⌜ r ≡ boundAt m (now (variables .entry)) ⌝ }
 {
@@ -129,10 +128,10 @@ pub fn bound(m: MessageWord, variables: &[u32]) -> usize
     }
 }
 
-// The words of the message of the binding at that place.
-pub fn given<'a, 'b>(script: &'a [u32], places: &'b [u32], k: usize) -> &'a [u32]
-    requires { ⌜ k < length (now places) ⌝ }
-    ensures { λ r. ⌜ now r ≡ drop (getD (now (places .entry)) k 0) (now (script .entry)) ⌝ }
+// The words of the message of the binding at that index.
+pub fn given<'a, 'b>(script: &'a [u32], sources: &'b [u32], k: usize) -> &'a [u32]
+    requires { ⌜ k < length (now sources) ⌝ }
+    ensures { λ r. ⌜ now r ≡ drop (getD (now (sources .entry)) k 0) (now (script .entry)) ⌝ }
 {
-    tail(script, wide(places[k]))
+    tail(script, wide(sources[k]))
 }

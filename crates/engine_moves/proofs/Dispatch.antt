@@ -17,12 +17,12 @@ use Rattle.theory_machine.specs.Moves.{toEnter, toExit, toOpen, variableOf, fir
 use Rattle.base_slices.proofs.Tests.{byTest}
 use Rattle.theory_closures.specs.Closure.{ClosureHead, Closure, Bindings, viewUnder, closureMove}
 use Rattle.engine_states.specs.Represents.{heads, boundIn, Ready, Represents}
-use Rattle.engine_states.specs.Searches.{place, Stands}
+use Rattle.engine_states.specs.Searches.{home, HeldOnce}
 use Rattle.engine_states.specs.Seen.{itemAct, actUnder}
 use Rattle.engine_states.specs.declared.State.{State}
-use Rattle.engine_states.proofs.Places.{Active, place-active}
+use Rattle.engine_states.proofs.Homes.{Active, home-active}
 use Rattle.engine_targets.specs.Targets.{isSome, canOpen, canReceive, canEnter, canExit, canMoveFrom, canMove}
-use Rattle.engine_targets.proofs.Actors.{by-opener, by-receiver, by-enterer, by-leaver, by-idler, by-places}
+use Rattle.engine_targets.proofs.Actors.{by-opener, by-receiver, by-enterer, by-leaver, by-idler, by-homes}
 use Rattle.engine_targets.proofs.Possible.{possible}
 use Rattle.engine_targets.proofs.Making.{represented}
 
@@ -94,7 +94,7 @@ module _ (σ : Bindings) (k : ℕ → List ℕ) (w : ℕ → ClosureHead) (p q a
   nowhere l = rw (le-ltb p 65 l, le-ltb p 64 (omega arith))
 
 module _ (script kinds starts : List ℕ) (weight spent : ℕ) (s : State) (b : Closure) (R : Represents script kinds starts weight spent s b) (ready : Ready script kinds starts s)
-    (few : spent + 1 < 4294967295) (P : ℕ → ℕ) (right : (i : ℕ) → i < 64 → P i ≡ place (boundIn script s) i b) (a t : ℕ) (low : a < 64)
+    (few : spent + 1 < 4294967295) (P : ℕ → ℕ) (right : (i : ℕ) → i < 64 → P i ≡ home (boundIn script s) i b) (a t : ℕ) (low : a < 64)
     (yes : isSome (closureMove (boundIn script s) a t b) ≡ true) where
   abbrev σ : Bindings
   σ = boundIn script s
@@ -106,14 +106,14 @@ module _ (script kinds starts : List ℕ) (weight spent : ℕ) (s : State) (b : 
   w = heads script kinds starts (s .offsets)
 
   abbrev act : ℕ
-  act = getD (s .looks .acts) a 0
+  act = getD (s .notes .acts) a 0
 
-  abbrev stands : Stands k w b
+  abbrev stands : HeldOnce k w b
   stands = represented script kinds starts weight spent s b R
 
   pub can : canMoveFrom σ k w (P a) (P (P a)) a t ≡ true
   unfolding canMove
-  can = by-places σ k w P (λ i. place σ i b) right a t low ∙ sym (possible σ k w b stands a t) ∙ yes
+  can = by-homes σ k w P (λ i. home σ i b) right a t low ∙ sym (possible σ k w b stands a t) ∙ yes
 
   told : act ≡ actUnder σ (w a)
   told = ready .seen (λ i. omega (arith, R .spends i)) .deeds a low .acts
@@ -149,11 +149,11 @@ module _ (script kinds starts : List ℕ) (weight spent : ℕ) (s : State) (b : 
       let u = and-eq-true-iff (ltb (P a) 64) _ .0 (to-exit o i r) in
       let v = and-eq-true-iff (ltb (P (P a)) 64) _ .0 (u .1) in
       let e : t ≡ P (P a) = eqb-true t (P (P a)) (and-eq-true-iff (eqb t (P (P a))) _ .0 (v .1) .0) in
-      let c : place σ (P a) b ≡ t = sym (right (P a) (ltb-true (P a) 64 (u .0))) ∙ sym e in (
+      let c : home σ (P a) b ≡ t = sym (right (P a) (ltb-true (P a) 64 (u .0))) ∙ sym e in (
         sym e,
-        subst (λ (n : ℕ). n < 65) (sym (right t lt)) (around (place-active σ k w b stands (P a) t c (omega arith) .1)),
+        subst (λ (n : ℕ). n < 65) (sym (right t lt)) (around (home-active σ k w b stands (P a) t c (omega arith) .1)),
       )
     where
-      around : Active σ w (λ i. place σ i b) t → place σ t b < 65
+      around : Active σ w (λ i. home σ i b) t → home σ t b < 65
       around (inl z) = absurd (let o : ⊥ = omega arith in o)
       around (inr z) = z .1

@@ -22,10 +22,10 @@ use Rattle.theory_machine.specs.Moves.{sameName, toEnter, toExit, toOpen, first
 use Rattle.theory_machine.proofs.Inversion.{here-inv}
 use Rattle.theory_closures.specs.Closure.{ClosureHead, Closure, Bindings, viewUnder, settleUnder}
 use Rattle.engine_states.specs.Represents.{headOf, heads, boundIn, Ready, Represents}
-use Rattle.engine_states.specs.Searches.{place, Stands}
+use Rattle.engine_states.specs.Searches.{home, HeldOnce}
 use Rattle.engine_states.specs.declared.State.{State}
 use Rattle.engine_states.proofs.Heads.{by-kind}
-use Rattle.engine_states.proofs.Places.{place-of, place-active, place-apart}
+use Rattle.engine_states.proofs.Homes.{home-of, home-active, home-apart}
 use Rattle.engine_states.proofs.Arrays.{Replaced, Carried, Raised, set-replaced, set-carried, set-raised}
 use Rattle.engine_states.proofs.Moving.{shrinks}
 use Rattle.engine_targets.specs.Targets.{isSome, canOpen, canReceive, canEnter, canExit}
@@ -110,9 +110,9 @@ module _ (script kinds starts : List ℕ) (s s′ r : State) (same : r .bindings
           let u₀ = and-eq-true-iff (ltb from 65) _ .0 (and-eq-true-iff (ltb p 64) _ .0 can .1) in
           let u₁ = and-eq-true-iff (elem into (k from)) _ .0 (u₀ .1) in
           let u₂ = and-eq-true-iff (not (eqb into p)) _ .0 (u₁ .1) in
-          let Q : Stands k w b = represented script kinds starts weight spent s b R in
-          let here : place σ into b ≡ from = place-of σ k w b Q from into (place-active σ k w b Q p from eq (ltb-true from 65 (u₀ .0)) .1) (u₁ .0) in
-          let two : from ≡ into → ⊥ = λ e. place-apart σ k w b Q into (omega (arith, here, ltb-true from 65 (u₀ .0))) (sym e ∙ sym here) in
+          let Q : HeldOnce k w b = represented script kinds starts weight spent s b R in
+          let here : home σ into b ≡ from = home-of σ k w b Q from into (home-active σ k w b Q p from eq (ltb-true from 65 (u₀ .0)) .1) (u₁ .0) in
+          let two : from ≡ into → ⊥ = λ e. home-apart σ k w b Q into (omega (arith, here, ltb-true from 65 (u₀ .0))) (sym e ∙ sym here) in
           let kind : getD kinds a 0 ≡ 2 = says-name script (getD kinds a 0) (getD starts a 0) (getD (s .offsets) a 0) σ toEnter (headName (viewUnder σ) (w into)) refl (u₂ .1) in
           finish weight spent b R a into (spent + 1) few [] (ap (bindingsOf script) bound)
           (enter-made script kinds starts weight spent s b R a into s′ (spends weight spent b few R kind) first p from ep eq can (carried two))
@@ -122,8 +122,8 @@ module _ (script kinds starts : List ℕ) (s s′ r : State) (same : r .bindings
       exits small weight spent b few R (ep, eq, ec, can) =
           let u₀ = and-eq-true-iff (ltb from 64) _ .0 (and-eq-true-iff (ltb p 64) _ .0 can .1) in
           let u₁ = and-eq-true-iff (eqb from from) _ .0 (u₀ .1) in
-          let Q : Stands k w b = represented script kinds starts weight spent s b R in
-          let two : from ≡ into → ⊥ = λ e. place-apart σ k w b Q from (omega (arith, ec)) (e ∙ sym ec) in
+          let Q : HeldOnce k w b = represented script kinds starts weight spent s b R in
+          let two : from ≡ into → ⊥ = λ e. home-apart σ k w b Q from (omega (arith, ec)) (e ∙ sym ec) in
           let kind : getD kinds a 0 ≡ 2 = says-name script (getD kinds a 0) (getD starts a 0) (getD (s .offsets) a 0) σ toExit (headName (viewUnder σ) (w from)) refl (u₁ .1) in
           finish weight spent b R a from (spent + 1) few [] (ap (bindingsOf script) bound)
           (exit-made script kinds starts weight spent s b R a from s′ (spends weight spent b few R kind) first p from into ep eq ec can (carried two))
@@ -142,7 +142,7 @@ module _ (script kinds starts : List ℕ) (s s′ r : State) (same : r .bindings
       (subst (λ (x : List ℕ). Replaced k (bodyIn x) p (joined (k a) (removed t (removed a (k p))))) (sym ek) (set-replaced (s .kids) p m (joined (k a) (removed t (removed a (k p)))) low em)) (spent + 1) (omega arith))
 
 -- a receipt that can be made finds two parts, so that there is room for one more binding
-pub room : (script kinds starts : List ℕ) (s : State) (weight spent : ℕ) (b : Closure) → Represents script kinds starts weight spent s b → (p a t : ℕ) → place (boundIn script s) a b ≡ p
+pub room : (script kinds starts : List ℕ) (s : State) (weight spent : ℕ) (b : Closure) → Represents script kinds starts weight spent s b → (p a t : ℕ) → home (boundIn script s) a b ≡ p
     → canReceive (boundIn script s) (bodyIn (s .kids)) (heads script kinds starts (s .offsets)) p a t ≡ true → s .bindings .first ≡ 0 → ⊥
 unfolding canReceive
 room script kinds starts s weight spent b R p a t ep can z =

@@ -1,4 +1,4 @@
--- The state with its top parts in the body of one new ambient, whose start stands for its name. Assumes nothing.
+-- The state with its top parts in the body of one new ambient, whose start represents its name. Assumes nothing.
 use Prim.Native.Nat.{ℕ, _+_, _*_, _-_, _≤_, _<_}
 use mathlib.Core.List.{List, [], _∷_}
 use mathlib.Core.Path.{_≡_, refl, sym, ap, _∙_, subst}

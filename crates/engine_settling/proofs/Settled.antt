@@ -1,4 +1,4 @@
--- A state that is settled, and the first state of a script, stand for the closures that the definitions make.
+-- A state that is settled, and the first state of a script, represent the closures that the definitions make.
 -- Assumes nothing.
 use Prim.Native.Nat.{ℕ, _+_, _-_, _≤_, _<_}
 use mathlib.Core.List.{List}
@@ -25,22 +25,22 @@ use Rattle.read_scripts.proofs.Tabled.{tops-map}
 use Rattle.engine_states.specs.Represents.{headOf, heads, boundIn, Counted, Ready, Represents}
 use Rattle.engine_states.specs.Searches.{SettlesBy}
 use Rattle.engine_states.specs.Seen.{Seen}
-use Rattle.engine_states.specs.declared.Looks.{Looks}
+use Rattle.engine_states.specs.declared.PartNotes.{PartNotes}
 use Rattle.engine_states.specs.declared.State.{State}
 use Rattle.engine_states.proofs.Holding.{numbers-differ, frame}
 use Rattle.engine_states.proofs.Heads.{kind-ambient}
-use Rattle.engine_state_arrays.specs.Lent.{kindsIn, standing}
+use Rattle.engine_state_arrays.specs.Lent.{kindsIn, ownState}
 use Rattle.base_arrays.proofs.Copying.{getD-stretch}
 use Rattle.engine_state_arrays.proofs.Standing.{below-64, body-in}
 use Rattle.engine_settling.proofs.Settling.{settled-times}
 
 -- the state after its parts are settled from the top
-pub settled-is : (script kinds starts : List ℕ) (weight spent : ℕ) (sets numbers : List ℕ) (b : Closure) (after : List ℕ) (m : ℕ) → kindsIn numbers ≡ kinds → Ready script kinds starts (standing sets numbers)
-    → spent < 4294967295 → Represents script kinds starts weight spent (standing sets numbers) b → length after ≡ 131
+pub settled-is : (script kinds starts : List ℕ) (weight spent : ℕ) (sets numbers : List ℕ) (b : Closure) (after : List ℕ) (m : ℕ) → kindsIn numbers ≡ kinds → Ready script kinds starts (ownState sets numbers)
+    → spent < 4294967295 → Represents script kinds starts weight spent (ownState sets numbers) b → length after ≡ 131
     → SettlesBy (members (getD sets 130 0)) numbers (bodyIn sets) (bodyIn after) (bodyIn sets 64) (members m) 64
-    → Represents script kinds starts weight spent (standing (set after 64 m) numbers) (settleUnder (boundIn script (standing sets numbers)) b)
+    → Represents script kinds starts weight spent (ownState (set after 64 m) numbers) (settleUnder (boundIn script (ownState sets numbers)) b)
 settled-is script kinds starts weight spent sets numbers b after m ek ready few R l S =
-    let s = standing sets numbers in
+    let s = ownState sets numbers in
     let τ = boundIn script s in
     let w = heads script kinds starts (s .offsets) in
     let seen = ready .seen (λ i. omega (arith, R .spends i)) in
@@ -51,7 +51,7 @@ settled-is script kinds starts weight spent sets numbers b after m ek ready few 
     record {
       top = body-in (set after 64 m) 64 (omega arith) ∙ ap members (getD-set-same after 64 m 0 (omega arith)) ∙ q .0;
       held =
-          frame (bodyIn after) (bodyIn (standing (set after 64 m) numbers .kids)) w w (settleUnder τ b) (q .1)
+          frame (bodyIn after) (bodyIn (ownState (set after 64 m) numbers .kids)) w w (settleUnder τ b) (q .1)
           (λ i c. let low : i < 64 = below-64 (settleUnder τ b) inside i c in (sym (body-in (set after 64 m) i (omega arith) ∙ ap members (getD-set-other after 64 i m 0 (numbers-differ i 64 (settleUnder τ b) c (inside 64 (omega arith))))), refl));
       once = λ i. omega (arith, settled-times τ i b, R .once i);
       inside = inside;
@@ -99,12 +99,12 @@ begun script kinds starts kids n s b T ek eo ef =
       spends = λ i. omega (arith, zero i);
     }
 
--- a state with the same offsets, looks and bindings is as ready
-pub ready-same : (script kinds starts : List ℕ) (s r : State) → s .offsets ≡ r .offsets → s .looks ≡ r .looks → s .bindings ≡ r .bindings → Ready script kinds starts s → Ready script kinds starts r
+-- a state with the same offsets, notes and bindings is as ready
+pub ready-same : (script kinds starts : List ℕ) (s r : State) → s .offsets ≡ r .offsets → s .notes ≡ r .notes → s .bindings ≡ r .bindings → Ready script kinds starts s → Ready script kinds starts r
 ready-same script kinds starts s r eo el eb R = record {
   bound = subst (λ (b : arrays.Bindings). Counted script b) eb (R .bound);
   seen =
-      subst (λ (b : arrays.Bindings). ((i : ℕ) → getD (r .offsets) i 0 < 4294967295) → Seen (bindingsOf script b) (heads script kinds starts (r .offsets)) (r .looks)) eb
-      (subst (λ (l : Looks). ((i : ℕ) → getD (r .offsets) i 0 < 4294967295) → Seen (boundIn script s) (heads script kinds starts (r .offsets)) l) el
-      (subst (λ (o : List ℕ). ((i : ℕ) → getD o i 0 < 4294967295) → Seen (boundIn script s) (heads script kinds starts o) (s .looks)) eo (R .seen)));
+      subst (λ (b : arrays.Bindings). ((i : ℕ) → getD (r .offsets) i 0 < 4294967295) → Seen (bindingsOf script b) (heads script kinds starts (r .offsets)) (r .notes)) eb
+      (subst (λ (l : PartNotes). ((i : ℕ) → getD (r .offsets) i 0 < 4294967295) → Seen (boundIn script s) (heads script kinds starts (r .offsets)) l) el
+      (subst (λ (o : List ℕ). ((i : ℕ) → getD o i 0 < 4294967295) → Seen (boundIn script s) (heads script kinds starts o) (s .notes)) eo (R .seen)));
 }

@@ -1,18 +1,17 @@
 // What a move leaves of a state: an item is spent or a message received, and what has no items left is gone; the first
-// state of a script, and the state inside a new ambient (PLACED). It rests on the promises of lent_states, closures,
-// held_bindings, messages, arrays, sets and slices.
+// state of a script, and the state inside a new ambient (PLACED).
 use base_arrays::numbers_32;
 use base_arrays::numbers_64;
 use base_slices::tail;
 use base_slices::wide;
 use engine_held_bindings::bind;
 use engine_held_bindings::none;
-use engine_state_arrays::Placed;
-use engine_state_arrays::borrowed;
-use engine_state_arrays::lend;
+use engine_state_arrays::TabledState;
+use engine_state_arrays::from_arrays;
+use engine_state_arrays::to_arrays;
 use engine_states::State;
 use engine_states::item_deed;
-use engine_states::looked;
+use engine_states::noted;
 use engine_states::part_item;
 use read_messages::First;
 ghost use mathlib.Core.Path.{_≡_};
@@ -30,7 +29,7 @@ ghost use Rattle.theory_closures.specs.Closure.{Closure, viewUnder, settleUnder
 ghost use Rattle.engine_states.specs.Searches.{SettlesBy};
 ghost use Rattle.engine_states.specs.Represents.{headOf, boundIn, Counted, Ready, Represents};
 ghost use Rattle.engine_targets.specs.Makes.{Received};
-ghost use Rattle.engine_state_arrays.specs.Lent.{kindsIn, startsIn, bindingsAt, standing, Lends};
+ghost use Rattle.engine_state_arrays.specs.Lent.{kindsIn, startsIn, bindingsAt, ownState, LentReady};
 
 // What becomes of the parts of left when they are settled: an action with no items left goes, and its body comes in its
 // place; in the bodies of ambients too, which sets then holds. Where none of them is busy, nothing changes.
@@ -73,7 +72,7 @@ pub fn settle<'a, 'b>(sets: &'b mut [u64; 131], numbers: &'a [u32; 481])
     requires { ⌜ length (now sets) ≡ 131 ⌝ }
     ensures kept { λ r. ⌜ length (now (sets .exit)) ≡ 131 ⌝ }
     ensures same { λ r. ⌜ ((i : ℕ) → 65 ≤ i → getD (now (sets .exit)) i 0 ≡ getD (now (sets .entry)) i 0) ⌝ }
-    ensures settled { λ r. ⌜ ((script kinds starts : List ℕ) (weight spent : ℕ) (b : Closure) → kindsIn (now (numbers .entry)) ≡ kinds → Ready script kinds starts (standing (now (sets .entry)) (now (numbers .entry))) → spent < 4294967295 → Represents script kinds starts weight spent (standing (now (sets .entry)) (now (numbers .entry))) b → Represents script kinds starts weight spent (standing (now (sets .exit)) (now (numbers .entry))) (settleUnder (boundIn script (standing (now (sets .entry)) (now (numbers .entry)))) b)) ⌝ }
+    ensures settled { λ r. ⌜ ((script kinds starts : List ℕ) (weight spent : ℕ) (b : Closure) → kindsIn (now (numbers .entry)) ≡ kinds → Ready script kinds starts (ownState (now (sets .entry)) (now (numbers .entry))) → spent < 4294967295 → Represents script kinds starts weight spent (ownState (now (sets .entry)) (now (numbers .entry))) b → Represents script kinds starts weight spent (ownState (now (sets .exit)) (now (numbers .entry))) (settleUnder (boundIn script (ownState (now (sets .entry)) (now (numbers .entry)))) b)) ⌝ }
 {
     let top = sets[64];
     let busy = sets[130];
@@ -87,7 +86,7 @@ fn item_under(script: &[u32], start: u32, offset: u32, numbers: &[u32; 481]) -> 
     ensures { λ r. ⌜ (offset < 4294967295 → r ≡ firstOf (viewUnder (bindingsOf (now (script .entry)) (bindingsAt (now (numbers .entry))))) (headOf (now (script .entry)) 2 start offset)) ⌝ }
 {
     let variables = numbers_32(numbers, 320);
-    let places = numbers_32(numbers, 352);
+    let sources = numbers_32(numbers, 352);
     let counts = numbers_32(numbers, 384);
     let first = wide(numbers[480]);
     part_item(
@@ -96,7 +95,7 @@ fn item_under(script: &[u32], start: u32, offset: u32, numbers: &[u32; 481]) -> 
         start,
         offset,
         tail(&variables, first),
-        tail(&places, first),
+        tail(&sources, first),
         tail(&counts, first),
     )
 }
@@ -108,11 +107,11 @@ pub fn spend<'a, 'b>(
     numbers: &'b mut [u32; 481],
     a: usize,
 )
-    requires { ⌜ (a < 64) × Lends (now script) (now sets) (now numbers) ⌝ }
-    ensures lends { λ r. ⌜ Lends (now (script .entry)) (now (sets .exit)) (now (numbers .exit)) ⌝ }
+    requires { ⌜ (a < 64) × LentReady (now script) (now sets) (now numbers) ⌝ }
+    ensures lends { λ r. ⌜ LentReady (now (script .entry)) (now (sets .exit)) (now (numbers .exit)) ⌝ }
     ensures table { λ r. ⌜ (kindsIn (now (numbers .exit)) ≡ kindsIn (now (numbers .entry))) × (startsIn (now (numbers .exit)) ≡ startsIn (now (numbers .entry))) ⌝ }
-    ensures same { λ r. ⌜ (standing (now (sets .exit)) (now (numbers .exit)) .kids ≡ standing (now (sets .entry)) (now (numbers .entry)) .kids) × (standing (now (sets .exit)) (now (numbers .exit)) .bindings ≡ standing (now (sets .entry)) (now (numbers .entry)) .bindings) ⌝ }
-    ensures raised { λ r. ⌜ (getD (kindsIn (now (numbers .entry))) a 0 ≡ 2 → getD (standing (now (sets .entry)) (now (numbers .entry)) .offsets) a 0 < 4294967295 → standing (now (sets .exit)) (now (numbers .exit)) .offsets ≡ set (standing (now (sets .entry)) (now (numbers .entry)) .offsets) a (getD (standing (now (sets .entry)) (now (numbers .entry)) .offsets) a 0 + 1)) ⌝ }
+    ensures same { λ r. ⌜ (ownState (now (sets .exit)) (now (numbers .exit)) .kids ≡ ownState (now (sets .entry)) (now (numbers .entry)) .kids) × (ownState (now (sets .exit)) (now (numbers .exit)) .bindings ≡ ownState (now (sets .entry)) (now (numbers .entry)) .bindings) ⌝ }
+    ensures raised { λ r. ⌜ (getD (kindsIn (now (numbers .entry))) a 0 ≡ 2 → getD (ownState (now (sets .entry)) (now (numbers .entry)) .offsets) a 0 < 4294967295 → ownState (now (sets .exit)) (now (numbers .exit)) .offsets ≡ set (ownState (now (sets .entry)) (now (numbers .entry)) .offsets) a (getD (ownState (now (sets .entry)) (now (numbers .entry)) .offsets) a 0 + 1)) ⌝ }
 {
     let kind = numbers[a];
     let start = numbers[64 + a];
@@ -161,7 +160,7 @@ pub fn received<'a>(
     let offsets = state.offsets;
     let mut kids = state.kids;
     kids[p] = base_sets::union(inside, base_sets::without(base_sets::without(here, a), t));
-    looked(script, kinds, starts, kids, offsets, bound)
+    noted(script, kinds, starts, kids, offsets, bound)
 }
 
 // The state before the first move, from the script's part table, whose sets are kids.
@@ -174,17 +173,17 @@ pub fn first_state<'a>(
     ensures ready { λ r. ⌜ Ready (now (script .entry)) (now (kinds .entry)) (now (starts .entry)) r × (boundIn (now (script .entry)) r ≡ []) ⌝ }
     ensures begun { λ r. ⌜ ((count : ℕ) (b : Script) → Tabled (now (script .entry)) (record { kinds = now (kinds .entry); starts = now (starts .entry); kids = kids; count = count }) b → Represents (now (script .entry)) (now (kinds .entry)) (now (starts .entry)) (parts b) 0 r (settleUnder [] (closureOf b))) ⌝ }
 {
-    let begun = looked(script, kinds, starts, kids, [0; 64], none());
-    let l = lend(*kinds, *starts, begun);
+    let begun = noted(script, kinds, starts, kids, [0; 64], none());
+    let l = to_arrays(*kinds, *starts, begun);
     let mut sets = l.sets;
     let numbers = l.numbers;
     settle(&mut sets, &numbers);
     let top = sets[64];
-    let b = borrowed(&sets, &numbers, top);
+    let b = from_arrays(&sets, &numbers, top);
     b.state
 }
 
-// PLACED: the top parts as the body of a new part i, an ambient of that name. Its start stands for the name itself.
+// PLACED: the top parts as the body of a new part i, an ambient of that name. Its start represents the name itself.
 pub fn place_part(
     script: &[u32],
     kinds: [u8; 64],
@@ -192,7 +191,7 @@ pub fn place_part(
     state: State,
     i: usize,
     name: u32,
-) -> Placed
+) -> TabledState
     requires { ⌜ (i < 64) × (name < 536870912) × Ready (now script) kinds starts state ⌝ }
     ensures ready { λ r. ⌜ Ready (now (script .entry)) (r .kinds) (r .starts) (r .state) × (boundIn (now (script .entry)) (r .state) ≡ boundIn (now (script .entry)) state) ⌝ }
     ensures placed { λ r. ⌜ ((weight spent : ℕ) (b : Closure) → Represents (now (script .entry)) kinds starts weight spent state b → timesIn i b ≡ 0 → weight < 64 → Represents (now (script .entry)) (r .kinds) (r .starts) (weight + 1) spent (r .state) (part i (ambient (named name)) b close)) ⌝ }
@@ -205,7 +204,7 @@ pub fn place_part(
     kids[i] = kids[64];
     kids[64] = base_sets::single(i);
     let offsets = state.offsets;
-    let next = looked(
+    let next = noted(
         script,
         &with_kind,
         &with_start,
@@ -213,7 +212,7 @@ pub fn place_part(
         offsets,
         state.bindings,
     );
-    Placed {
+    TabledState {
         kinds: with_kind,
         starts: with_start,
         state: next,

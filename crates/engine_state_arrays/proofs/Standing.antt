@@ -20,7 +20,7 @@ use Rattle.engine_states.specs.Seen.{nameIn, actOf, aimOf, busyOf, Seen}
 use Rattle.engine_states.specs.Represents.{headOf, heads, boundIn, Counted}
 use Rattle.engine_targets.specs.Targets.{TargetsOf}
 use Rattle.base_arrays.specs.Stretches.{stretch}
-use Rattle.engine_state_arrays.specs.Lent.{kindsIn, startsIn, bindingsAt, stateIn, standing, Small, Lends}
+use Rattle.engine_state_arrays.specs.Lent.{kindsIn, startsIn, bindingsAt, stateIn, ownState, Small, LentReady}
 use Rattle.engine_states.specs.declared.State.{State}
 use Rattle.engine_states.specs.declared.Deed.{Deed}
 use Rattle.base_arrays.proofs.Copying.{length-stretch, getD-stretch, stretch-same, stretch-set}
@@ -48,18 +48,18 @@ kids-set sets i v low long =
 
 -- ---- arrays that hold the same but for the bodies
 
-pub looks-same : (sets sets′ numbers : List ℕ) → ((i : ℕ) → 65 ≤ i → getD sets′ i 0 ≡ getD sets i 0) → standing sets′ numbers .looks ≡ standing sets numbers .looks
+pub looks-same : (sets sets′ numbers : List ℕ) → ((i : ℕ) → 65 ≤ i → getD sets′ i 0 ≡ getD sets i 0) → ownState sets′ numbers .notes ≡ ownState sets numbers .notes
 looks-same sets sets′ numbers same =
     let ea = stretch-same 65 64 sets′ sets (λ j a b. same j a) in
     λ q. record { named = same 129 (omega arith) q; names = stretch 192 64 numbers; acts = stretch 256 64 numbers; aims = ea q; busy = same 130 (omega arith) q }
 
 -- the state with `top` as its top parts is the one whose entry 64 is set to it
-pub standing-top : (sets numbers : List ℕ) (top : ℕ) → length sets ≡ 131 → standing (set sets 64 top) numbers ≡ stateIn sets numbers top
+pub standing-top : (sets numbers : List ℕ) (top : ℕ) → length sets ≡ 131 → ownState (set sets 64 top) numbers ≡ stateIn sets numbers top
 standing-top sets numbers top long =
     let others : (i : ℕ) → 65 ≤ i → getD (set sets 64 top) i 0 ≡ getD sets i 0 = λ i l. getD-set-other sets 64 i top 0 (λ e. let z : ⊥ = omega arith in z) in
     let el = looks-same sets (set sets 64 top) numbers others in
     let ek = standing-kids (set sets 64 top) ∙ stretch-set 0 65 64 64 top sets refl (omega arith) (omega arith) in
-    λ q. record { kids = ek q; offsets = stretch 128 64 numbers; looks = el q; bindings = bindingsAt numbers }
+    λ q. record { kids = ek q; offsets = stretch 128 64 numbers; notes = el q; bindings = bindingsAt numbers }
 
 -- a closure's parts are numbered below 64
 pub below-64 : (b : Closure) → ((i : ℕ) → 64 ≤ i → timesIn i b ≡ 0) → (i : ℕ) → 1 ≤ timesIn i b → i < 64
@@ -80,7 +80,7 @@ module _ (sets numbers : List ℕ) (a o act aim busy : ℕ) (low : a < 64) (long
   number-kept : (i : ℕ) → (i ≡ 128 + a → ⊥) → (i ≡ 256 + a → ⊥) → getD numbers₂ i 0 ≡ getD numbers i 0
   number-kept i x y = getD-set-other (set numbers (128 + a) o) (256 + a) i act 0 y ∙ getD-set-other numbers (128 + a) i o 0 x
 
-  pub spent-kids : standing sets₂ numbers₂ .kids ≡ standing sets numbers .kids
+  pub spent-kids : ownState sets₂ numbers₂ .kids ≡ ownState sets numbers .kids
   spent-kids = kids-same sets sets₂ (λ i l. set-kept i (λ e. let z : ⊥ = omega arith in z) (λ e. let z : ⊥ = omega arith in z))
 
   -- neither the table nor the bindings are changed
@@ -104,7 +104,7 @@ module _ (sets numbers : List ℕ) (a o act aim busy : ℕ) (low : a < 64) (long
       let es = late 416 32 (omega arith) in
       let eb = late 448 32 (omega arith) in
       let ef = number-kept 480 (λ e. let z : ⊥ = omega arith in z) (λ e. let z : ⊥ = omega arith in z) in
-      λ q. record { variables = ev q; places = ep q; counts = ec q; sizes = es q; bulks = eb q; first = ef q }
+      λ q. record { variables = ev q; sources = ep q; counts = ec q; sizes = es q; bulks = eb q; first = ef q }
 
   pub spent-offsets : stretch 128 64 numbers₂ ≡ set (stretch 128 64 numbers) a o
   spent-offsets =
@@ -139,15 +139,15 @@ module _ (sets numbers : List ℕ) (a o act aim busy : ℕ) (low : a < 64) (long
   )
 
   -- the part a is read at its new offset
-  module _ (script : List ℕ) (L : Lends script sets numbers) (d : Deed) (item : First) (kind : getD numbers a 0 ≡ 2) (eo : o ≡ getD numbers (128 + a) 0 + 1) (ea : act ≡ d .act) (em : aim ≡ d .aim)
+  module _ (script : List ℕ) (L : LentReady script sets numbers) (d : Deed) (item : First) (kind : getD numbers a 0 ≡ 2) (eo : o ≡ getD numbers (128 + a) 0 + 1) (ea : act ≡ d .act) (em : aim ≡ d .aim)
       (eb : members busy ≡ cond (d .busy) (inserted a (removed a (members (getD sets 130 0)))) (removed a (members (getD sets 130 0)))) (fits : act < 256)
       (first : o < 4294967295 → item ≡ firstOf (viewUnder (bindingsOf script (bindingsAt numbers))) (headOf script 2 (getD numbers (64 + a) 0) o))
       (deed : (p : Bool) → (d .act ≡ actOf 2 item) × ((i : ℕ) → i < 64 → elem i (members (d .aim)) ≡ aimOf 2 item p (nameIn (getD sets 129 0) (stretch 192 64 numbers) i)) × (d .busy ≡ busyOf 2 item)) where
     abbrev s : State
-    s = standing sets numbers
+    s = ownState sets numbers
 
     abbrev r : State
-    r = standing sets₂ numbers₂
+    r = ownState sets₂ numbers₂
 
     within : a < length (s .offsets)
     within = omega (arith, length-stretch 128 64 numbers)
@@ -165,26 +165,26 @@ module _ (sets numbers : List ℕ) (a o act aim busy : ℕ) (low : a < 64) (long
     raised-is : o ≡ getD (s .offsets) a 0 + 1
     raised-is = eo ∙ ap (λ (n : ℕ). n + 1) (sym (getD-stretch 128 64 a numbers low))
 
-    seen-next : ((i : ℕ) → getD raised i 0 < 4294967295) → Seen (boundIn script s) (heads script (kindsIn numbers) (startsIn numbers) raised) (r .looks)
-    seen-next small = seen-spent script (kindsIn numbers) (startsIn numbers) (s .offsets) (boundIn script s) a (s .looks) (r .looks) d item within kind-is
+    seen-next : ((i : ℕ) → getD raised i 0 < 4294967295) → Seen (boundIn script s) (heads script (kindsIn numbers) (startsIn numbers) raised) (r .notes)
+    seen-next small = seen-spent script (kindsIn numbers) (startsIn numbers) (s .offsets) (boundIn script s) a (s .notes) (r .notes) d item within kind-is
         (L .ready .seen (λ i. lower (s .offsets) a i within small))
         (first (omega (arith, raised-is, raised-low (s .offsets) a within small))
         ∙ (λ q. firstOf (viewUnder (boundIn script s)) (headOf script (sym kind-is q) (sym (getD-stretch 64 64 a numbers low) q) (raised-is q))))
         deed
-        (kept-set (s .looks) (r .looks) a d (omega (arith, length-stretch 256 64 numbers)) (omega (arith, length-stretch 65 64 sets)) acts aims busies)
-        (kept-other (s .looks) (r .looks) a d acts aims busies)
+        (kept-set (s .notes) (r .notes) a d (omega (arith, length-stretch 256 64 numbers)) (omega (arith, length-stretch 65 64 sets)) acts aims busies)
+        (kept-other (s .notes) (r .notes) a d acts aims busies)
         spent-named spent-names
       where
-        acts : r .looks .acts ≡ set (s .looks .acts) a (d .act)
+        acts : r .notes .acts ≡ set (s .notes .acts) a (d .act)
         acts = spent-acts ∙ ap (set (stretch 256 64 numbers) a) ea
 
-        aims : r .looks .aims ≡ set (s .looks .aims) a (d .aim)
+        aims : r .notes .aims ≡ set (s .notes .aims) a (d .aim)
         aims = spent-aims ∙ ap (set (stretch 65 64 sets) a) em
 
-        busies : members (r .looks .busy) ≡ cond (d .busy) (inserted a (removed a (members (s .looks .busy)))) (removed a (members (s .looks .busy)))
+        busies : members (r .notes .busy) ≡ cond (d .busy) (inserted a (removed a (members (s .notes .busy)))) (removed a (members (s .notes .busy)))
         busies = ap members spent-busy ∙ eb
 
-    pub spent-lends : Lends script sets₂ numbers₂
+    pub spent-lends : LentReady script sets₂ numbers₂
     spent-lends = record {
       sets-long = length-set (set sets (65 + a) aim) 130 busy ∙ length-set sets (65 + a) aim ∙ long;
       numbers-long = length-set (set numbers (128 + a) o) (256 + a) act ∙ length-set numbers (128 + a) o ∙ wide;
@@ -193,7 +193,7 @@ module _ (sets numbers : List ℕ) (a o act aim busy : ℕ) (low : a < 64) (long
         bound = subst (Counted script) (sym spent-bindings) (L .ready .bound);
         seen =
             λ small. transport
-            (λ q. Seen (bindingsOf script (sym spent-bindings q)) (heads script (sym kinds-kept q) (sym starts-kept q) (sym offsets-raised q)) (r .looks))
+            (λ q. Seen (bindingsOf script (sym spent-bindings q)) (heads script (sym kinds-kept q) (sym starts-kept q) (sym offsets-raised q)) (r .notes))
             (seen-next (subst (λ (l : List ℕ). (i : ℕ) → getD l i 0 < 4294967295) offsets-raised small));
       };
     }
@@ -203,6 +203,6 @@ module _ (sets numbers : List ℕ) (a o act aim busy : ℕ) (low : a < 64) (long
 -- what is read of the lent arrays is what the state keeps
 pub targets-lent : (sets numbers : List ℕ) (top : ℕ) (kids : List ℕ) → kids ≡ set (stretch 0 65 sets) 64 top → (p : ℕ → ℕ) (a : ℕ) (r : List ℕ) → a < 64
     → TargetsOf (bodyIn kids) (getD numbers (256 + a) 0) (members (getD sets (65 + a) 0)) p a r
-    → TargetsOf (bodyIn (stateIn sets numbers top .kids)) (getD (stateIn sets numbers top .looks .acts) a 0) (members (getD (stateIn sets numbers top .looks .aims) a 0)) p a r
+    → TargetsOf (bodyIn (stateIn sets numbers top .kids)) (getD (stateIn sets numbers top .notes .acts) a 0) (members (getD (stateIn sets numbers top .notes .aims) a 0)) p a r
 targets-lent sets numbers top kids e p a r l T =
     transport (λ q. TargetsOf (bodyIn (e q)) (sym (getD-stretch 256 64 a numbers l) q) (members (sym (getD-stretch 65 64 a sets l) q)) p a r) T

@@ -1,2 +1,2 @@
--- What the contracts of `lent_states` cite. Assumes nothing: these are definitions.
+-- What the contracts of `engine_state_arrays` cite. Assumes nothing: these are definitions.
 pub mod Lent

@@ -1,5 +1,4 @@
-// A state as two arrays, for lending: written into them and read out again. It rests on the promises of closures,
-// held_bindings, arrays and slices.
+// A state as two arrays, for lending: written into them and read out again.
 use base_arrays::narrow;
 use base_arrays::numbers_32;
 use base_arrays::numbers_64;
@@ -10,16 +9,16 @@ use base_arrays::sets_65;
 use base_arrays::widen;
 use base_slices::wide;
 use engine_held_bindings::Bindings;
-use engine_states::Looks;
+use engine_states::PartNotes;
 use engine_states::State;
 ghost use mathlib.Core.Path.{_≡_};
 ghost use Prim.Native.Nat.{ℕ, _+_, _≤_};
 ghost use lib.ListN.{getD, set};
 ghost use Rattle.base_arrays.specs.Stretches.{stretch};
-ghost use Rattle.engine_state_arrays.specs.Lent.{kindsIn, startsIn, stateIn, standing, Small};
+ghost use Rattle.engine_state_arrays.specs.Lent.{kindsIn, startsIn, stateIn, ownState, Small};
 
 // A state beside the part table to which it belongs.
-pub struct Placed {
+pub struct TabledState {
     pub kinds: [u8; 64],
     pub starts: [u32; 64],
     pub state: State,
@@ -28,12 +27,12 @@ pub struct Placed {
 // A state and its part table as two arrays: in sets the bodies, the parts that are aimed at from 65 on, the named parts at
 // 129 and the busy ones at 130; in numbers the kinds, starts, offsets, names and acts, 64 of each, from 320 on the five
 // arrays of the bindings, 32 of each, and at 480 the first binding.
-pub struct Lent {
+pub struct StateArrays {
     pub sets: [u64; 131],
     pub numbers: [u32; 481],
 }
 
-// The numbers of the parts, in their places.
+// The numbers of the parts, where they belong.
 fn part_numbers(
     kinds: [u8; 64],
     starts: [u32; 64],
@@ -58,18 +57,18 @@ fn part_numbers(
 // The same, with those of the bindings.
 fn with_bindings(numbers: [u32; 481], bindings: Bindings) -> [u32; 481]
     requires { ⌜ bindings .first ≤ 32 ⌝ }
-    ensures arrays { λ r. ⌜ (stretch 320 32 r ≡ bindings .variables) × (stretch 352 32 r ≡ bindings .places) × (stretch 384 32 r ≡ bindings .counts) × (stretch 416 32 r ≡ bindings .sizes) × (stretch 448 32 r ≡ bindings .bulks) × (getD r 480 0 ≡ bindings .first) ⌝ }
+    ensures arrays { λ r. ⌜ (stretch 320 32 r ≡ bindings .variables) × (stretch 352 32 r ≡ bindings .sources) × (stretch 384 32 r ≡ bindings .counts) × (stretch 416 32 r ≡ bindings .sizes) × (stretch 448 32 r ≡ bindings .bulks) × (getD r 480 0 ≡ bindings .first) ⌝ }
     ensures others { λ r. ⌜ ((i n : ℕ) → i + n ≤ 320 → stretch i n r ≡ stretch i n numbers) ⌝ }
 {
     let variables = bindings.variables;
-    let places = bindings.places;
+    let sources = bindings.sources;
     let counts = bindings.counts;
     let sizes = bindings.sizes;
     let bulks = bindings.bulks;
     let first = bindings.first;
     let mut r = numbers;
     put_numbers(&mut r, 320, &variables);
-    put_numbers(&mut r, 352, &places);
+    put_numbers(&mut r, 352, &sources);
     put_numbers(&mut r, 384, &counts);
     put_numbers(&mut r, 416, &sizes);
     put_numbers(&mut r, 448, &bulks);
@@ -77,7 +76,7 @@ fn with_bindings(numbers: [u32; 481], bindings: Bindings) -> [u32; 481]
     r
 }
 
-// The sets, in their places.
+// The sets, where they belong.
 fn all_sets(kids: [u64; 65], aims: [u64; 64], named: u64, busy: u64) -> [u64; 131]
     ensures { λ r. ⌜ (stretch 0 65 r ≡ kids) × (stretch 65 64 r ≡ aims) × (getD r 129 0 ≡ named) × (getD r 130 0 ≡ busy) ⌝ }
 {
@@ -90,21 +89,21 @@ fn all_sets(kids: [u64; 65], aims: [u64; 64], named: u64, busy: u64) -> [u64; 13
 }
 
 // A state and its part table, for lending.
-pub fn lend(kinds: [u8; 64], starts: [u32; 64], state: State) -> Lent
+pub fn to_arrays(kinds: [u8; 64], starts: [u32; 64], state: State) -> StateArrays
     requires { ⌜ state .bindings .first ≤ 32 ⌝ }
     ensures tables { λ r. ⌜ (kindsIn (r .numbers) ≡ kinds) × (startsIn (r .numbers) ≡ starts) × Small (r .numbers) ⌝ }
-    ensures state { λ r. ⌜ standing (r .sets) (r .numbers) ≡ state ⌝ }
+    ensures state { λ r. ⌜ ownState (r .sets) (r .numbers) ≡ state ⌝ }
 {
     let kids = state.kids;
     let offsets = state.offsets;
-    let looks = state.looks;
-    let names = looks.names;
-    let acts = looks.acts;
-    let aims = looks.aims;
+    let notes = state.notes;
+    let names = notes.names;
+    let acts = notes.acts;
+    let aims = notes.aims;
     let parts = part_numbers(kinds, starts, offsets, names, acts);
     let numbers = with_bindings(parts, state.bindings);
-    let sets = all_sets(kids, aims, looks.named, looks.busy);
-    Lent { sets, numbers }
+    let sets = all_sets(kids, aims, notes.named, notes.busy);
+    StateArrays { sets, numbers }
 }
 
 // The bodies that were lent, with top as the set of the top parts.
@@ -117,11 +116,11 @@ pub fn bodies(sets: &[u64; 131], top: u64) -> [u64; 65]
 }
 
 // What was lent, with top as the set of the top parts.
-pub fn borrowed<'a>(sets: &'a [u64; 131], numbers: &'a [u32; 481], top: u64) -> Placed
+pub fn from_arrays<'a>(sets: &'a [u64; 131], numbers: &'a [u32; 481], top: u64) -> TabledState
     ensures { λ r. ⌜ (Small (now (numbers .entry)) → (r .kinds ≡ kindsIn (now (numbers .entry))) × (r .starts ≡ startsIn (now (numbers .entry))) × (r .state ≡ stateIn (now (sets .entry)) (now (numbers .entry)) top)) ⌝ }
 {
     let kids = bodies(sets, top);
-    let looks = Looks {
+    let notes = PartNotes {
         named: sets[129],
         names: numbers_64(numbers, 192),
         acts: narrow(numbers_64(numbers, 256)),
@@ -130,20 +129,20 @@ pub fn borrowed<'a>(sets: &'a [u64; 131], numbers: &'a [u32; 481], top: u64) -> 
     };
     let bindings = Bindings {
         variables: numbers_32(numbers, 320),
-        places: numbers_32(numbers, 352),
+        sources: numbers_32(numbers, 352),
         counts: numbers_32(numbers, 384),
         sizes: numbers_32(numbers, 416),
         bulks: numbers_32(numbers, 448),
         first: wide(numbers[480]),
     };
     let offsets = numbers_64(numbers, 128);
-    Placed {
+    TabledState {
         kinds: narrow(numbers_64(numbers, 0)),
         starts: numbers_64(numbers, 64),
         state: State {
             kids,
             offsets,
-            looks,
+            notes,
             bindings,
         },
     }

@@ -21,7 +21,7 @@ use Rattle.base_slices.proofs.Tests.{byTest}
 use Rattle.theory_closures.specs.Closure.{Action, ClosureHead, Bindings, itemsLeft, viewUnder, allSpent}
 use Rattle.engine_states.specs.Represents.{headOf, heads}
 use Rattle.engine_states.specs.Seen.{nameIn, isNothing, itemAct, itemName, actOf, aimOf, busyOf, isOutput, actUnder, aimUnder, busyUnder, Does, deedIn, Seen}
-use Rattle.engine_states.specs.declared.Looks.{Looks}
+use Rattle.engine_states.specs.declared.PartNotes.{PartNotes}
 use Rattle.engine_states.specs.declared.Deed.{Deed}
 use Rattle.engine_states.proofs.Heads.{by-kind}
 
@@ -117,14 +117,14 @@ module _ (so : Bool) (i : ℕ) (l k : List ℕ) (x : k ≡ cond so (inserted i (
       (λ t. rw t gone)
 
 -- what is kept of part j by the arrays
-pub kept-set : (l r : Looks) (i : ℕ) (d : Deed) → i < length (l .acts) → i < length (l .aims) → r .acts ≡ set (l .acts) i (d .act) → r .aims ≡ set (l .aims) i (d .aim)
+pub kept-set : (l r : PartNotes) (i : ℕ) (d : Deed) → i < length (l .acts) → i < length (l .aims) → r .acts ≡ set (l .acts) i (d .act) → r .aims ≡ set (l .aims) i (d .aim)
     → members (r .busy) ≡ cond (d .busy) (inserted i (removed i (members (l .busy)))) (removed i (members (l .busy))) → deedIn r i ≡ d
 kept-set l r i d m n a b c = deed-same (deedIn r i) d
     (ap (λ (x : List ℕ). getD x i 0) a ∙ getD-set-same (l .acts) i (d .act) 0 m)
     (ap (λ (x : List ℕ). getD x i 0) b ∙ getD-set-same (l .aims) i (d .aim) 0 n)
     (put-here (d .busy) i (members (l .busy)) (members (r .busy)) c)
 
-pub kept-other : (l r : Looks) (i : ℕ) (d : Deed) → r .acts ≡ set (l .acts) i (d .act) → r .aims ≡ set (l .aims) i (d .aim)
+pub kept-other : (l r : PartNotes) (i : ℕ) (d : Deed) → r .acts ≡ set (l .acts) i (d .act) → r .aims ≡ set (l .aims) i (d .aim)
     → members (r .busy) ≡ cond (d .busy) (inserted i (removed i (members (l .busy)))) (removed i (members (l .busy))) → (j : ℕ) → (j ≡ i → ⊥) → deedIn r j ≡ deedIn l j
 kept-other l r i d a b c j n = deed-same (deedIn r j) (deedIn l j)
     (ap (λ (x : List ℕ). getD x j 0) a ∙ getD-set-other (l .acts) i j (d .act) 0 n)
@@ -134,10 +134,10 @@ kept-other l r i d a b c j n = deed-same (deedIn r j) (deedIn l j)
 -- ---- all parts' deeds
 
 -- those below i are right
-abbrev pub Done : Bindings → (ℕ → ClosureHead) → ℕ → Looks → Type 0
+abbrev pub Done : Bindings → (ℕ → ClosureHead) → ℕ → PartNotes → Type 0
 Done σ w i l = (j : ℕ) → j < i → Does σ w (w j) (deedIn l j)
 
-pub done-next : (σ : Bindings) (w : ℕ → ClosureHead) (i : ℕ) (l r : Looks) (d : Deed) → Done σ w i l → Does σ w (w i) d → deedIn r i ≡ d
+pub done-next : (σ : Bindings) (w : ℕ → ClosureHead) (i : ℕ) (l r : PartNotes) (d : Deed) → Done σ w i l → Does σ w (w i) d → deedIn r i ≡ d
     → ((j : ℕ) → (j ≡ i → ⊥) → deedIn r j ≡ deedIn l j) → Done σ w (i + 1) r
 done-next σ w i l r d D e here others j m = byTest (eqb j i)
     (λ t. rw (eqb-true j i t) (subst (Does σ w (w i)) (sym here) e))
@@ -171,7 +171,7 @@ does-alike : (σ : Bindings) (w w′ : ℕ → ClosureHead) (h : ClosureHead) (d
     → Does σ w h d → Does σ w′ h d
 does-alike σ w w′ h d o n D = record { acts = D .acts; aims = λ j m. D .aims j m ∙ aim-alike σ h (w j) (w′ j) (o j) (n j); settles = D .settles }
 
-module _ (script kinds starts offsets : List ℕ) (σ : Bindings) (a : ℕ) (l r : Looks) (d : Deed) (item : First) (within : a < length offsets) (action-kind : getD kinds a 0 ≡ 2) where
+module _ (script kinds starts offsets : List ℕ) (σ : Bindings) (a : ℕ) (l r : PartNotes) (d : Deed) (item : First) (within : a < length offsets) (action-kind : getD kinds a 0 ≡ 2) where
   abbrev next : List ℕ
   next = set offsets a (getD offsets a 0 + 1)
 

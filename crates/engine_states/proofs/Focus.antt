@@ -16,7 +16,7 @@ use Rattle.theory_machine.specs.Moves.{MoveMade, isNamed, headName, onward, ins
 use Rattle.base_slices.proofs.Tests.{byTest}
 use Rattle.read_scripts.proofs.Numbers.{own-times}
 use Rattle.theory_closures.specs.Closure.{Action, ClosureHead, Closure, Bindings, viewUnder}
-use Rattle.engine_states.specs.Searches.{firstPlace, placeBelow, place}
+use Rattle.engine_states.specs.Searches.{firstHome, homeBelow, home}
 use Rattle.engine_states.proofs.Holding.{numbersTotal, in-times, not-in, numbers-differ, frame}
 
 -- the search in one part of a body and in those beside it: u says whether the part has a name
@@ -211,15 +211,15 @@ module _ (σ : Bindings) (k : ℕ → List ℕ) (w : ℕ → ClosureHead) (t : �
   abbrev Seen : Closure → ℕ → Option (MoveMade Action) → Type 0
   Seen f p look = ((p ≡ 65) × (look ≡ none)) ⊎ ((p < 64) × Focus f p look)
 
-  past : (p q : ℕ) → p ≡ 65 → firstPlace p q ≡ q
+  past : (p q : ℕ) → p ≡ 65 → firstHome p q ≡ q
   past p q e = ap (λ (u : Bool). cond u p q) (le-ltb p 65 (omega arith))
 
-  first : (p q : ℕ) → p < 64 → firstPlace p q ≡ p
+  first : (p q : ℕ) → p < 64 → firstHome p q ≡ p
   first p q l = ap (λ (u : Bool). cond u p q) (lt-ltb p 65 (omega arith))
 
   -- the search finds the body, or there is nothing to change
-  focus : (f : Closure) → ((j : ℕ) → timesIn j f ≤ 1) → ((j : ℕ) → 64 ≤ j → timesIn j f ≡ 0) → Held k w f → Seen f (placeBelow σ t f) (inside (viewUnder σ) g f)
-  unfolding totalOver inside placeBelow
+  focus : (f : Closure) → ((j : ℕ) → timesIn j f ≤ 1) → ((j : ℕ) → 64 ≤ j → timesIn j f ≡ 0) → Held k w f → Seen f (homeBelow σ t f) (inside (viewUnder σ) g f)
+  unfolding totalOver inside homeBelow
   focus close once low held = inl (refl, refl)
   focus (part i h s r) once low held =
       go (isNamed (headName (viewUnder σ) h)) (elem t (tops s)) refl
@@ -232,22 +232,22 @@ module _ (σ : Bindings) (k : ℕ → List ℕ) (w : ℕ → ClosureHead) (t : �
       look : Bool → Option (MoveMade Action) → Option (MoveMade Action)
       look u x = around i h s r u x (inside (viewUnder σ) g r)
 
-      next : (p : ℕ) (u : Bool) (x : Option (MoveMade Action)) → p ≡ 65 → x ≡ none → Seen r (placeBelow σ t r) (inside (viewUnder σ) g r)
-          → Seen (part i h s r) (firstPlace p (placeBelow σ t r)) (look u x)
-      next p u x e d (inl z) = inl (past p (placeBelow σ t r) e ∙ z .0, around-none i h s r u x _ d (z .1))
+      next : (p : ℕ) (u : Bool) (x : Option (MoveMade Action)) → p ≡ 65 → x ≡ none → Seen r (homeBelow σ t r) (inside (viewUnder σ) g r)
+          → Seen (part i h s r) (firstHome p (homeBelow σ t r)) (look u x)
+      next p u x e d (inl z) = inl (past p (homeBelow σ t r) e ∙ z .0, around-none i h s r u x _ d (z .1))
       next p u x e d (inr z) =
-          subst (λ (n : ℕ). Seen (part i h s r) n (look u x)) (sym (past p (placeBelow σ t r) e))
-          (inr (z .0, beside i h s r once held (placeBelow σ t r) u x _ d (z .1)))
+          subst (λ (n : ℕ). Seen (part i h s r) n (look u x)) (sym (past p (homeBelow σ t r) e))
+          (inr (z .0, beside i h s r once held (homeBelow σ t r) u x _ d (z .1)))
 
-      go : (u e : Bool) → elem t (tops s) ≡ e → Seen s (placeBelow σ t s) (inside (viewUnder σ) g s) → Seen r (placeBelow σ t r) (inside (viewUnder σ) g r)
-          → Seen (part i h s r) (firstPlace (cond u (cond e i (placeBelow σ t s)) 65) (placeBelow σ t r)) (look u (orElse (g s) (inside (viewUnder σ) g s)))
+      go : (u e : Bool) → elem t (tops s) ≡ e → Seen s (homeBelow σ t s) (inside (viewUnder σ) g s) → Seen r (homeBelow σ t r) (inside (viewUnder σ) g r)
+          → Seen (part i h s r) (firstHome (cond u (cond e i (homeBelow σ t s)) 65) (homeBelow σ t r)) (look u (orElse (g s) (inside (viewUnder σ) g s)))
       go true true e a b =
-          subst (λ (n : ℕ). Seen (part i h s r) n (look true (orElse (g s) (inside (viewUnder σ) g s)))) (sym (first i (placeBelow σ t r) small))
+          subst (λ (n : ℕ). Seen (part i h s r) n (look true (orElse (g s) (inside (viewUnder σ) g s)))) (sym (first i (homeBelow σ t r) small))
           (inr (small, right-here i h s r once held _ (at-top s (inside-top s (omega (arith, once t)) e)) e))
-      go true false e (inl a) b = next (placeBelow σ t s) true _ (a .0) (not-top s e ∙ a .1) b
+      go true false e (inl a) b = next (homeBelow σ t s) true _ (a .0) (not-top s e ∙ a .1) b
       go true false e (inr a) b =
-          subst (λ (n : ℕ). Seen (part i h s r) n (look true (orElse (g s) (inside (viewUnder σ) g s)))) (sym (first (placeBelow σ t s) (placeBelow σ t r) (a .0)))
-          (inr (a .0, into i h s r once held (placeBelow σ t s) _ (subst (Focus s (placeBelow σ t s)) (sym (not-top s e)) (a .1))))
+          subst (λ (n : ℕ). Seen (part i h s r) n (look true (orElse (g s) (inside (viewUnder σ) g s)))) (sym (first (homeBelow σ t s) (homeBelow σ t r) (a .0)))
+          (inr (a .0, into i h s r once held (homeBelow σ t s) _ (subst (Focus s (homeBelow σ t s)) (sym (not-top s e)) (a .1))))
       go false e q a b = next 65 false none refl refl b
 
   -- the same from the top: b is the part in whose body, `here`, t stands, 64 for the top
@@ -265,8 +265,8 @@ module _ (σ : Bindings) (k : ℕ → List ℕ) (w : ℕ → ClosureHead) (t : �
 
   -- THEOREM: a rewriting that needs t is made nowhere but in the body in which t stands.
   pub site : (f : Closure) → k 64 ≡ tops f → ((j : ℕ) → timesIn j f ≤ 1) → ((j : ℕ) → 64 ≤ j → timesIn j f ≡ 0) → Held k w f
-      → ((place σ t f ≡ 65) × (anywhere (viewUnder σ) g f ≡ none)) ⊎ ((place σ t f < 65) × Site f (place σ t f))
-  unfolding place
+      → ((home σ t f ≡ 65) × (anywhere (viewUnder σ) g f ≡ none)) ⊎ ((home σ t f < 65) × Site f (home σ t f))
+  unfolding home
   site f top once low held = byTest (elem t (tops f))
       (λ e.
       let same = at-top f (inside-top f (once t) e) in
@@ -286,8 +286,8 @@ module _ (σ : Bindings) (k : ℕ → List ℕ) (w : ℕ → ClosureHead) (t : �
       )))
       (λ e. rw e (deep (not-top f e) (focus f once low held)))
     where
-      deep : anywhere (viewUnder σ) g f ≡ inside (viewUnder σ) g f → Seen f (placeBelow σ t f) (inside (viewUnder σ) g f)
-          → ((placeBelow σ t f ≡ 65) × (anywhere (viewUnder σ) g f ≡ none)) ⊎ ((placeBelow σ t f < 65) × Site f (placeBelow σ t f))
+      deep : anywhere (viewUnder σ) g f ≡ inside (viewUnder σ) g f → Seen f (homeBelow σ t f) (inside (viewUnder σ) g f)
+          → ((homeBelow σ t f ≡ 65) × (anywhere (viewUnder σ) g f ≡ none)) ⊎ ((homeBelow σ t f < 65) × Site f (homeBelow σ t f))
       deep same (inl z) = inl (z .0, same ∙ z .1)
       deep same (inr z) =
           let F = z .1 in

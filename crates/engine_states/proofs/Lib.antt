@@ -5,7 +5,7 @@ pub mod Focus
 pub mod Looking
 pub mod Deeds
 pub mod Moving
-pub mod Places
+pub mod Homes
 pub mod Spending
 pub mod Arrays
 pub mod Weighing

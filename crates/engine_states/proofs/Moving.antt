@@ -16,7 +16,7 @@ use Rattle.theory_machine.proofs.Inversion.{Here}
 use Rattle.theory_machine.proofs.Sums.{here-total, by-numbers}
 use Rattle.theory_closures.specs.Closure.{Action, ClosureHead, Closure, Bindings, viewUnder}
 use Rattle.engine_states.specs.Represents.{heads, boundIn, Represents}
-use Rattle.engine_states.specs.Searches.{place}
+use Rattle.engine_states.specs.Searches.{home}
 use Rattle.engine_states.specs.declared.State.{State}
 use Rattle.engine_states.proofs.Holding.{numbersTotal}
 use Rattle.engine_states.proofs.Focus.{Change, Site, site}
@@ -46,19 +46,19 @@ module _ (script kinds starts : List ℕ) (weight spent : ℕ) (s : State) (f : 
   At b = Site σ k w t g needs f b
 
   abbrev Sited : Type 0
-  Sited = ((place σ t f ≡ 65) × (anywhere (viewUnder σ) g f ≡ none)) ⊎ ((place σ t f < 65) × At (place σ t f))
+  Sited = ((home σ t f ≡ 65) × (anywhere (viewUnder σ) g f ≡ none)) ⊎ ((home σ t f < 65) × At (home σ t f))
 
   sited : Sited
   sited = site σ k w t g needs f (R .top) (R .once) (R .inside) (R .held)
 
-  pub at : (b : ℕ) → b ≡ place σ t f → b < 65 → At b
+  pub at : (b : ℕ) → b ≡ home σ t f → b < 65 → At b
   at b e l = pick sited
     where
       pick : Sited → At b
       pick (inl z) = absurd (let o : ⊥ = omega (arith, z .0) in o)
       pick (inr z) = subst At (sym e) (z .1)
 
-  -- s′ stands for what the move makes of the closure, before it is settled
+  -- s′ represents what the move makes of the closure, before it is settled
   pub record After (spent′ : ℕ) (s′ : State) (news : Bindings) : Type 0 where
     pub moved : MoveMade Action
     pub is : anywhere (viewUnder σ) g f ≡ some moved

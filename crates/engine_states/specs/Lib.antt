@@ -1,4 +1,4 @@
--- What the contracts of `closures` cite. Assumes nothing: these are definitions.
+-- What the contracts of `engine_states` cite. Assumes nothing: these are definitions.
 pub mod Represents
 pub mod Searches
 pub mod Seen

@@ -1,4 +1,4 @@
--- How the engine's arrays stand for a closure: the part table says what a part is, the state which parts stand where, how
+-- How the engine's arrays represent a closure: the part table says what a part is, the state which parts stand where, how
 -- many items of each action are spent, and which messages were received. Assumes nothing: these are definitions.
 use Prim.Native.Nat.{ℕ, _+_, _*_, _-_, _≤_, _<_}
 use mathlib.Core.Bool.{cond}
@@ -38,9 +38,9 @@ Counted script b = bindings.Held script b
 -- the same of the state's, and what is kept of the parts is right, as long as no offset is 2^32 - 1
 pub record Ready (script kinds starts : List ℕ) (s : State) : Type 0 where
   pub bound : Counted script (s .bindings)
-  pub seen : ((i : ℕ) → getD (s .offsets) i 0 < 4294967295) → Seen (boundIn script s) (heads script kinds starts (s .offsets)) (s .looks)
+  pub seen : ((i : ℕ) → getD (s .offsets) i 0 < 4294967295) → Seen (boundIn script s) (heads script kinds starts (s .offsets)) (s .notes)
 
--- The state stands for the closure: its top parts are those of number 64's body. The parts and twice the bindings are at
+-- The state represents the closure: its top parts are those of number 64's body. The parts and twice the bindings are at
 -- most `weight`, which is at most 64, and no action has more than `spent` items spent.
 pub record Represents (script kinds starts : List ℕ) (weight spent : ℕ) (s : State) (b : Closure) : Type 0 where
   pub top : bodyIn (s .kids) 64 ≡ tops b

@@ -12,48 +12,48 @@ use Rattle.theory_machine.specs.Moves.{isNamed, headName}
 use Rattle.theory_closures.specs.Closure.{ClosureHead, Closure, Bindings, viewUnder, settleUnder}
 use Rattle.engine_states.specs.Seen.{Busy, Ambients, Names}
 
--- the first place, or where it is 65 the second
-abbrev pub firstPlace : ℕ → ℕ → ℕ
-firstPlace x y = cond (ltb x 65) x y
+-- the first home, or where it is 65 the second
+abbrev pub firstHome : ℕ → ℕ → ℕ
+firstHome x y = cond (ltb x 65) x y
 
 -- the part in whose body the part t stands, among the named ambients of a body and those inside them; 65 where there is none
-unfoldable pub placeBelow : Bindings → (t : ℕ) → Closure → ℕ
-placeBelow σ t close = 65
-placeBelow σ t (part i h b r) =
-    firstPlace (cond (isNamed (headName (viewUnder σ) h)) (cond (elem t (tops b)) i (placeBelow σ t b)) 65) (placeBelow σ t r)
+unfoldable pub homeBelow : Bindings → (t : ℕ) → Closure → ℕ
+homeBelow σ t close = 65
+homeBelow σ t (part i h b r) =
+    firstHome (cond (isNamed (headName (viewUnder σ) h)) (cond (elem t (tops b)) i (homeBelow σ t b)) 65) (homeBelow σ t r)
 
 -- the same where the body's own parts stand in that of number `at`
-abbrev pub placeFrom : Bindings → (at t : ℕ) → Closure → ℕ
-placeFrom σ at t b = cond (elem t (tops b)) at (placeBelow σ t b)
+abbrev pub homeFrom : Bindings → (at t : ℕ) → Closure → ℕ
+homeFrom σ at t b = cond (elem t (tops b)) at (homeBelow σ t b)
 
 -- the same from the top, whose parts stand in the body of number 64
-unfoldable pub place : Bindings → (t : ℕ) → Closure → ℕ
-place σ t b = placeFrom σ 64 t b
+unfoldable pub home : Bindings → (t : ℕ) → Closure → ℕ
+home σ t b = homeFrom σ 64 t b
 
 -- the sets and heads hold the closure, its own parts being those of number 64's body, and no number stands in it twice
-pub record Stands (bodies : ℕ → List ℕ) (heads : ℕ → ClosureHead) (b : Closure) : Type 0 where
+pub record HeldOnce (bodies : ℕ → List ℕ) (heads : ℕ → ClosureHead) (b : Closure) : Type 0 where
   pub top : bodies 64 ≡ tops b
   pub held : Held bodies heads b
   pub once : (i : ℕ) → timesIn i b ≤ 1
   pub low : (i : ℕ) → 64 ≤ i → timesIn i b ≡ 0
 
--- `after` are the places, which were `before`, when those of all parts are written of every closure whose top parts are
+-- `after` are the homes, which were `before`, when those of all parts are written of every closure whose top parts are
 -- `left` and stand in the body of `at`, if it has at most `fuel` parts
 abbrev pub Locates : Bindings → (bodies : ℕ → List ℕ) (heads : ℕ → ClosureHead) (left : List ℕ) (at fuel : ℕ) (before after : ℕ → ℕ) → Type 0
 Locates σ bodies heads left at fuel before after =
     (b : Closure) → left ≡ tops b → Held bodies heads b → ((j : ℕ) → timesIn j b ≤ 1) → parts b ≤ fuel
-    → (i : ℕ) → after i ≡ firstPlace (placeFrom σ at i b) (before i)
+    → (i : ℕ) → after i ≡ firstHome (homeFrom σ at i b) (before i)
 
 -- the same for all heads and bindings of which `named` has the parts that have a name
 abbrev pub LocatesBy : (named : List ℕ) (bodies : ℕ → List ℕ) (left : List ℕ) (at fuel : ℕ) (before after : ℕ → ℕ) → Type 0
 LocatesBy named bodies left at fuel before after =
     (σ : Bindings) (heads : ℕ → ClosureHead) → Names σ heads named → Locates σ bodies heads left at fuel before after
 
--- the places are those of all parts, in every closure that stands in the bodies, if it has at most 64 parts
-abbrev pub Located : (named : List ℕ) (bodies : ℕ → List ℕ) (places : ℕ → ℕ) → Type 0
-Located named bodies places =
-    (σ : Bindings) (heads : ℕ → ClosureHead) (b : Closure) → Names σ heads named → Stands bodies heads b → parts b ≤ 64
-    → (i : ℕ) → i < 64 → places i ≡ place σ i b
+-- the homes are those of all parts, in every closure that stands in the bodies, if it has at most 64 parts
+abbrev pub Located : (named : List ℕ) (bodies : ℕ → List ℕ) (sources : ℕ → ℕ) → Type 0
+Located named bodies sources =
+    (σ : Bindings) (heads : ℕ → ClosureHead) (b : Closure) → Names σ heads named → HeldOnce bodies heads b → parts b ≤ 64
+    → (i : ℕ) → i < 64 → sources i ≡ home σ i b
 
 -- `after` and the top parts r hold what every closure becomes whose top parts are `left`, when it is settled, if it has at
 -- most `fuel` parts; the bodies of all other parts are as they were

@@ -14,7 +14,7 @@ use Rattle.base_sets.specs.Sets.{members, elem}
 use Rattle.read_scripts.specs.Tree.{ambient, action, receipt, output, isAmbient}
 use Rattle.theory_machine.specs.Moves.{isNamed, sameName, headName, firstOf}
 use Rattle.theory_closures.specs.Closure.{ClosureHead, Bindings, viewUnder, allSpent}
-use Rattle.engine_states.specs.declared.Looks.{Looks}
+use Rattle.engine_states.specs.declared.PartNotes.{PartNotes}
 use Rattle.engine_states.specs.declared.Deed.{Deed}
 
 -- the name of part i in a table of names, `named` being the set of the parts that have one
@@ -89,11 +89,11 @@ pub record Does (σ : Bindings) (w : ℕ → ClosureHead) (h : ClosureHead) (d :
   pub settles : d .busy ≡ busyUnder σ h
 
 -- what is kept of part i
-abbrev pub deedIn : Looks → (i : ℕ) → Deed
+abbrev pub deedIn : PartNotes → (i : ℕ) → Deed
 deedIn l i = record { act = getD (l .acts) i 0; aim = getD (l .aims) i 0; busy = elem i (members (l .busy)) }
 
 -- what is kept is right
-pub record Seen (σ : Bindings) (w : ℕ → ClosureHead) (l : Looks) : Type 0 where
+pub record Seen (σ : Bindings) (w : ℕ → ClosureHead) (l : PartNotes) : Type 0 where
   pub names : (i : ℕ) → i < 64 → nameIn (l .named) (l .names) i ≡ headName (viewUnder σ) (w i)
   pub deeds : (i : ℕ) → i < 64 → Does σ w (w i) (deedIn l i)
 

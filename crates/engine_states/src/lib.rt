@@ -1,5 +1,4 @@
-// What the engine keeps of a closure: its state, what is asked of the parts again and again, and the weight. It rests on the
-// promises of held_bindings, first_items, bindings, messages, sets and slices.
+// What the engine keeps of a closure: its state, what is asked of the parts again and again, and the weight.
 use base_slices::tail;
 use base_slices::wide;
 use engine_bindings::name_at;
@@ -25,9 +24,9 @@ ghost use Rattle.engine_states.specs.Represents.{headOf, heads, Counted,
 ghost use Rattle.engine_states.specs.Seen.{nameIn, actOf, aimOf, busyOf, isOutput, Does, deedIn, Seen};
 
 // What is kept of the parts: the set of those that have a name, and their names; what each does first (1 OPEN, 2 IN,
-// 3 EXIT, 4 it receives, 0 nothing) and the set of the parts to which that can be done; the set of those at which settling
-// looks.
-pub struct Looks {
+// 3 EXIT, 4 it receives, 0 nothing) and the set of the parts to which that can be done; the set of those that settling
+// has to do with.
+pub struct PartNotes {
     pub named: u64,
     pub names: [u32; 64],
     pub acts: [u8; 64],
@@ -53,19 +52,19 @@ pub struct NameTable {
 pub struct State {
     pub kids: [u64; 65],
     pub offsets: [u32; 64],
-    pub looks: Looks,
+    pub notes: PartNotes,
     pub bindings: Bindings,
 }
 
 // The name of a part of that kind and start, under the bindings.
-fn part_name(script: &[u32], kind: u8, start: u32, variables: &[u32], places: &[u32]) -> Named
-    requires { ⌜ length (now places) ≡ length (now variables) ⌝ }
-    ensures { λ r. ⌜ ((offset : ℕ) → r ≡ headName (viewUnder (bindingsIn (now (script .entry)) (now (variables .entry)) (now (places .entry)))) (headOf (now (script .entry)) kind start offset)) ⌝ }
+fn part_name(script: &[u32], kind: u8, start: u32, variables: &[u32], sources: &[u32]) -> Named
+    requires { ⌜ length (now sources) ≡ length (now variables) ⌝ }
+    ensures { λ r. ⌜ ((offset : ℕ) → r ≡ headName (viewUnder (bindingsIn (now (script .entry)) (now (variables .entry)) (now (sources .entry)))) (headOf (now (script .entry)) kind start offset)) ⌝ }
 {
     if kind != 1 {
         return Named::Nameless;
     }
-    name_at(script, start, variables, places)
+    name_at(script, start, variables, sources)
 }
 
 // The first item that is not spent of a part of that kind, start and offset, under the bindings.
@@ -75,11 +74,11 @@ pub fn part_item(
     start: u32,
     offset: u32,
     variables: &[u32],
-    places: &[u32],
+    sources: &[u32],
     counts: &[u32],
 ) -> First
-    requires { ⌜ Kept itemCount (now script) (now variables) (now places) (now counts) ⌝ }
-    ensures { λ r. ⌜ (offset < 4294967295 → r ≡ firstOf (viewUnder (bindingsIn (now (script .entry)) (now (variables .entry)) (now (places .entry)))) (headOf (now (script .entry)) kind start offset)) ⌝ }
+    requires { ⌜ Kept itemCount (now script) (now variables) (now sources) (now counts) ⌝ }
+    ensures { λ r. ⌜ (offset < 4294967295 → r ≡ firstOf (viewUnder (bindingsIn (now (script .entry)) (now (variables .entry)) (now (sources .entry)))) (headOf (now (script .entry)) kind start offset)) ⌝ }
 {
     if kind != 2 {
         return First::Nothing;
@@ -87,7 +86,7 @@ pub fn part_item(
     if offset >= 4294967295 {
         return First::Nothing;
     }
-    first_item(script, wide(start), offset, variables, places, counts)
+    first_item(script, wide(start), offset, variables, sources, counts)
 }
 
 // The table with the name of part i, which had none.
@@ -113,10 +112,10 @@ fn name_parts<'a>(
     kinds: &'a [u8; 64],
     starts: &'a [u32; 64],
     variables: &'a [u32],
-    places: &'a [u32],
+    sources: &'a [u32],
 ) -> NameTable
-    requires { ⌜ length (now places) ≡ length (now variables) ⌝ }
-    ensures { λ r. ⌜ ((offsets : List ℕ) (i : ℕ) → i < 64 → nameIn (r .named) (r .names) i ≡ headName (viewUnder (bindingsIn (now (script .entry)) (now (variables .entry)) (now (places .entry)))) (heads (now (script .entry)) (now (kinds .entry)) (now (starts .entry)) offsets i)) ⌝ }
+    requires { ⌜ length (now sources) ≡ length (now variables) ⌝ }
+    ensures { λ r. ⌜ ((offsets : List ℕ) (i : ℕ) → i < 64 → nameIn (r .named) (r .names) i ≡ headName (viewUnder (bindingsIn (now (script .entry)) (now (variables .entry)) (now (sources .entry)))) (heads (now (script .entry)) (now (kinds .entry)) (now (starts .entry)) offsets i)) ⌝ }
 {
     let mut t = NameTable {
         named: 0,
@@ -126,7 +125,7 @@ fn name_parts<'a>(
     while i < 64 {
         let kind = kinds[i];
         let start = starts[i];
-        let name = part_name(script, kind, start, variables, places);
+        let name = part_name(script, kind, start, variables, sources);
         t = with_name(t, i, name);
         i += 1;
     }
@@ -236,27 +235,27 @@ fn kind_deed(kind: u8, item: First, outs: u64, named: u64, names: &[u32; 64]) ->
 }
 
 // What a part of that kind, start and offset does under the bindings.
-fn look_at<'a>(
+fn deed_at<'a>(
     script: &'a [u32],
     kind: u8,
     start: u32,
     offset: u32,
     variables: &'a [u32],
-    places: &'a [u32],
+    sources: &'a [u32],
     counts: &'a [u32],
     outs: u64,
     named: u64,
     names: &'a [u32; 64],
 ) -> Deed
-    requires { ⌜ Kept itemCount (now script) (now variables) (now places) (now counts) ⌝ }
-    ensures { λ r. ⌜ ((w : ℕ → ClosureHead) → offset < 4294967295 → ((j : ℕ) → j < 64 → elem j (members outs) ≡ isOutput (w j)) → ((j : ℕ) → j < 64 → nameIn named (now (names .entry)) j ≡ headName (viewUnder (bindingsIn (now (script .entry)) (now (variables .entry)) (now (places .entry)))) (w j)) → Does (bindingsIn (now (script .entry)) (now (variables .entry)) (now (places .entry))) w (headOf (now (script .entry)) kind start offset) r) ⌝ }
+    requires { ⌜ Kept itemCount (now script) (now variables) (now sources) (now counts) ⌝ }
+    ensures { λ r. ⌜ ((w : ℕ → ClosureHead) → offset < 4294967295 → ((j : ℕ) → j < 64 → elem j (members outs) ≡ isOutput (w j)) → ((j : ℕ) → j < 64 → nameIn named (now (names .entry)) j ≡ headName (viewUnder (bindingsIn (now (script .entry)) (now (variables .entry)) (now (sources .entry)))) (w j)) → Does (bindingsIn (now (script .entry)) (now (variables .entry)) (now (sources .entry))) w (headOf (now (script .entry)) kind start offset) r) ⌝ }
 {
-    let item = part_item(script, kind, start, offset, variables, places, counts);
+    let item = part_item(script, kind, start, offset, variables, sources, counts);
     kind_deed(kind, item, outs, named, names)
 }
 
 // What is kept, with what part i does.
-fn with_deed(l: Looks, i: usize, d: Deed) -> Looks
+fn with_deed(l: PartNotes, i: usize, d: Deed) -> PartNotes
     requires { ⌜ i < 64 ⌝ }
     ensures here { λ r. ⌜ deedIn r i ≡ d ⌝ }
     ensures others { λ r. ⌜ ((j : ℕ) → (j ≡ i → ⊥) → deedIn r j ≡ deedIn l j) ⌝ }
@@ -272,21 +271,21 @@ fn with_deed(l: Looks, i: usize, d: Deed) -> Looks
 }
 
 // What is kept of all parts, under the bindings.
-fn look<'a>(
+fn note_deeds<'a>(
     script: &'a [u32],
     kinds: &'a [u8; 64],
     starts: &'a [u32; 64],
     offsets: &'a [u32; 64],
     variables: &'a [u32],
-    places: &'a [u32],
+    sources: &'a [u32],
     counts: &'a [u32],
-) -> Looks
-    requires { ⌜ Kept itemCount (now script) (now variables) (now places) (now counts) ⌝ }
-    ensures { λ r. ⌜ (((i : ℕ) → getD (now (offsets .entry)) i 0 < 4294967295) → Seen (bindingsIn (now (script .entry)) (now (variables .entry)) (now (places .entry))) (heads (now (script .entry)) (now (kinds .entry)) (now (starts .entry)) (now (offsets .entry))) r) ⌝ }
+) -> PartNotes
+    requires { ⌜ Kept itemCount (now script) (now variables) (now sources) (now counts) ⌝ }
+    ensures { λ r. ⌜ (((i : ℕ) → getD (now (offsets .entry)) i 0 < 4294967295) → Seen (bindingsIn (now (script .entry)) (now (variables .entry)) (now (sources .entry))) (heads (now (script .entry)) (now (kinds .entry)) (now (starts .entry)) (now (offsets .entry))) r) ⌝ }
 {
-    let t = name_parts(script, kinds, starts, variables, places);
+    let t = name_parts(script, kinds, starts, variables, sources);
     let outs = outputs(kinds);
-    let mut l = Looks {
+    let mut l = PartNotes {
         named: t.named,
         names: t.names,
         acts: [0; 64],
@@ -298,13 +297,13 @@ fn look<'a>(
         let kind = kinds[i];
         let start = starts[i];
         let offset = offsets[i];
-        let d = look_at(
+        let d = deed_at(
             script,
             kind,
             start,
             offset,
             variables,
-            places,
+            sources,
             counts,
             outs,
             t.named,
@@ -317,7 +316,7 @@ fn look<'a>(
 }
 
 // The state of those bodies, offsets and bindings.
-pub fn looked<'a>(
+pub fn noted<'a>(
     script: &'a [u32],
     kinds: &'a [u8; 64],
     starts: &'a [u32; 64],
@@ -330,22 +329,22 @@ pub fn looked<'a>(
     ensures same { λ r. ⌜ (r .kids ≡ kids) × (r .offsets ≡ offsets) × (r .bindings ≡ bindings) ⌝ }
 {
     let variables = bindings.variables;
-    let places = bindings.places;
+    let sources = bindings.sources;
     let counts = bindings.counts;
     let first = bindings.first;
-    let looks = look(
+    let notes = note_deeds(
         script,
         kinds,
         starts,
         &offsets,
         tail(&variables, first),
-        tail(&places, first),
+        tail(&sources, first),
         tail(&counts, first),
     );
     State {
         kids,
         offsets,
-        looks,
+        notes,
         bindings,
     }
 }

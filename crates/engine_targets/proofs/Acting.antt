@@ -17,9 +17,9 @@ use Rattle.read_scripts.specs.Tree.{receipt, output, oneIf, tops, timesIn}
 use Rattle.theory_machine.specs.Moves.{MoveMade, isNamed, toEnter, toExit, toOpen, headName, firstOf, openMove, receiveMove, enterMove, exitMove, moveHere, anywhere}
 use Rattle.theory_machine.proofs.Inversion.{sameName-inv, toEnter-inv, toExit-inv}
 use Rattle.theory_closures.specs.Closure.{Action, ClosureHead, Closure, Bindings, viewUnder}
-use Rattle.engine_states.specs.Searches.{place, Stands}
+use Rattle.engine_states.specs.Searches.{home, HeldOnce}
 use Rattle.engine_states.proofs.Focus.{Site, site}
-use Rattle.engine_states.proofs.Places.{Active, place-of, place-active}
+use Rattle.engine_states.proofs.Homes.{Active, home-of, home-active}
 use Rattle.engine_targets.specs.Targets.{mayExit, mayOpen, canOpen, canReceive, canEnter, canExit}
 use Rattle.engine_targets.proofs.Actors.{no-receipt, no-item, not-itself}
 use Rattle.engine_targets.proofs.Opening.{open-needs, receive-needs, opened, open-is, open-never, received, receive-is, receive-never}
@@ -59,17 +59,17 @@ module _ (σ : Bindings) (a t : ℕ) (b : Closure) where
 abbrev pub Spot : Bindings → (k : ℕ → List ℕ) (w : ℕ → ClosureHead) (f : Closure) (a t b : ℕ) → Type 0
 Spot σ k w f a t b = Site σ k w t (moveHere (viewUnder σ) a t) (here-needs σ a t) f b
 
-module _ (σ : Bindings) (k : ℕ → List ℕ) (w : ℕ → ClosureHead) (f : Closure) (Q : Stands k w f) where
+module _ (σ : Bindings) (k : ℕ → List ℕ) (w : ℕ → ClosureHead) (f : Closure) (Q : HeldOnce k w f) where
   abbrev at : ℕ → ℕ
-  at i = place σ i f
+  at i = home σ i f
 
   pub stands : (x : ℕ) → at x < 65 → elem x (k (at x)) ≡ true
-  stands x l = place-active σ k w f Q x (at x) refl l .0
+  stands x l = home-active σ k w f Q x (at x) refl l .0
 
   pub active : (x : ℕ) → at x < 65 → Active σ w at (at x)
-  active x l = place-active σ k w f Q x (at x) refl l .1
+  active x l = home-active σ k w f Q x (at x) refl l .1
 
-  -- an ambient around a part that has a place
+  -- an ambient around a part that has a home
   ambient-at : (x : ℕ) → at x < 64 → (at (at x) < 65) × (isNamed (headName (viewUnder σ) (w (at x))) ≡ true)
   ambient-at x l = pick (active x (omega arith))
     where
@@ -95,7 +95,7 @@ module _ (σ : Bindings) (k : ℕ → List ℕ) (w : ℕ → ClosureHead) (f : C
     together : ltb (at a) 65 ≡ true → elem t (k (at a)) ≡ true → (S : In (at a)) × (elem a (tops (S .here)) ≡ true)
     together u m =
         let l : at a < 65 = ltb-true (at a) 65 u in
-        let S = sited (at a) (place-of σ k w f Q (at a) t (active a l) m) l in
+        let S = sited (at a) (home-of σ k w f Q (at a) t (active a l) m) l in
         (S, ap (elem a) (sym (S .body)) ∙ stands a l)
 
     pub open-at : canOpen σ k w (at a) a t ≡ true → (S : In (at a)) × (i : elem a (tops (S .here)) ≡ true) × (a ≡ t → ⊥)
@@ -133,7 +133,7 @@ module _ (σ : Bindings) (k : ℕ → List ℕ) (w : ℕ → ClosureHead) (f : C
         let l : at a < 64 = ltb-true (at a) 64 u in
         let h : at (at a) < 65 = ltb-true (at (at a)) 65 x in
         let two : at a ≡ t → ⊥ = λ z. eqb-false t (at a) (not-true (eqb t (at a)) y) (sym z) in
-        let S = sited (at (at a)) (place-of σ k w f Q (at (at a)) t (active (at a) h) c) h in
+        let S = sited (at (at a)) (home-of σ k w f Q (at (at a)) t (active (at a) h) c) h in
         let i : elem (at a) (tops (S .here)) ≡ true = ap (elem (at a)) (sym (S .body)) ∙ stands (at a) h in
         let j : elem a (k (at a)) ≡ true = stands a (omega arith) in
         let (o, q, z) = sameName-inv (toEnter (firstOf (viewUnder σ) (w a))) (headName (viewUnder σ) (w t)) n in

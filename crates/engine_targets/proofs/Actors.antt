@@ -116,10 +116,10 @@ module _ (σ : Bindings) (k : ℕ → List ℕ) (w : ℕ → ClosureHead) where
     unfolding canMoveFrom canEnter canExit
     by-outsider b e = rw e
 
-  -- the tests ask for the places of parts alone
-  pub by-places : (x y : ℕ → ℕ) → ((i : ℕ) → i < 64 → x i ≡ y i) → (a t : ℕ) → a < 64 → canMove σ k w x a t ≡ canMove σ k w y a t
+  -- the tests ask for the homes of parts alone
+  pub by-homes : (x y : ℕ → ℕ) → ((i : ℕ) → i < 64 → x i ≡ y i) → (a t : ℕ) → a < 64 → canMove σ k w x a t ≡ canMove σ k w y a t
   unfolding canMove
-  by-places x y same a t l =
+  by-homes x y same a t l =
       let e : x a ≡ y a = same a l in
       byTest (ltb (x a) 64)
       (λ u. let d : x (x a) ≡ y (y a) = same (x a) (ltb-true (x a) 64 u) ∙ ap y e in λ j. canMoveFrom σ k w (e j) (d j) a t)

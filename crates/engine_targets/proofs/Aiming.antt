@@ -1,4 +1,4 @@
--- What is kept of an actor and the places say which parts are the targets of its moves. Assumes nothing.
+-- What is kept of an actor and the homes say which parts are the targets of its moves. Assumes nothing.
 use Prim.Native.Nat.{ℕ, _≤_, _<_}
 use mathlib.Core.Bool.{Bool, true, false, not, _&&_, and-false}
 use mathlib.Core.List.{List, [], _∷_}
@@ -20,11 +20,11 @@ use Rattle.theory_machine.specs.Moves.{sameName, toEnter, toExit, toOpen, varia
 use Rattle.base_slices.proofs.Tests.{byTest}
 use Rattle.theory_closures.specs.Closure.{ClosureHead, Closure, Bindings, itemsLeft, viewUnder, closureMove}
 use Rattle.engine_states.specs.Represents.{heads, boundIn, Ready, Represents}
-use Rattle.engine_states.specs.Searches.{place, Stands, Located}
+use Rattle.engine_states.specs.Searches.{home, HeldOnce, Located}
 use Rattle.engine_states.specs.Seen.{itemAct, itemName, isOutput, actUnder, aimUnder, Seen}
 use Rattle.engine_states.specs.declared.State.{State}
 use Rattle.engine_targets.specs.Targets.{isSome, canOpen, canReceive, canEnter, canExit, canMoveFrom, canMove, isWithin, isBeside, isAround, isTarget, TargetsOf}
-use Rattle.engine_targets.proofs.Actors.{by-opener, by-receiver, by-enterer, by-leaver, by-idler, by-places}
+use Rattle.engine_targets.proofs.Actors.{by-opener, by-receiver, by-enterer, by-leaver, by-idler, by-homes}
 use Rattle.engine_targets.proofs.Possible.{possible}
 use Rattle.engine_targets.proofs.Locating.{seen-names}
 use Rattle.engine_targets.proofs.Making.{represented}
@@ -75,13 +75,13 @@ module _ (σ : Bindings) (k : ℕ → List ℕ) (w : ℕ → ClosureHead) (p q a
   by-head (output m) e = by-idler σ k w p q a t Nothing (ap (firstOf (viewUnder σ)) e) (ap variableOf e) refl refl refl
 
 -- THEOREM: the closure allows the moves of an actor to its targets, and no others.
-targets-are : (σ : Bindings) (k : ℕ → List ℕ) (w : ℕ → ClosureHead) (b : Closure) → Stands k w b → (P : ℕ → ℕ) → ((i : ℕ) → i < 64 → P i ≡ place σ i b) → (act : ℕ) (aim : List ℕ) (a t : ℕ)
+targets-are : (σ : Bindings) (k : ℕ → List ℕ) (w : ℕ → ClosureHead) (b : Closure) → HeldOnce k w b → (P : ℕ → ℕ) → ((i : ℕ) → i < 64 → P i ≡ home σ i b) → (act : ℕ) (aim : List ℕ) (a t : ℕ)
     → a < 64 → t < 64 → act ≡ actUnder σ (w a) → ((j : ℕ) → j < 64 → elem j aim ≡ aimUnder σ (w a) (w j)) → isTarget k act (P a) (P (P a)) t (elem t aim) ≡ isSome (closureMove σ a t b)
 unfolding canMove
 targets-are σ k w b Q P right act aim a t la lt ea ei =
     (λ i. isTarget k (ea i) (P a) (P (P a)) t (ei t lt i))
     ∙ sym (by-head σ k w (P a) (P (P a)) a t (w a) refl)
-    ∙ by-places σ k w P (λ i. place σ i b) right a t la
+    ∙ by-homes σ k w P (λ i. home σ i b) right a t la
     ∙ sym (possible σ k w b Q a t)
 
 -- a set of those that pass the test of the actor's act
@@ -136,14 +136,14 @@ module _ (p q t : ℕ) where
 -- ---- the same of a state that represents a closure
 
 module _ (script kinds starts : List ℕ) (weight spent : ℕ) (s : State) (b : Closure) (ready : Ready script kinds starts s) (few : spent < 4294967295) (R : Represents script kinds starts weight spent s b) where
-  seen : Seen (boundIn script s) (heads script kinds starts (s .offsets)) (s .looks)
+  seen : Seen (boundIn script s) (heads script kinds starts (s .offsets)) (s .notes)
   seen = ready .seen (λ i. omega (arith, R .spends i))
 
-  module _ (P : ℕ → ℕ) (L : Located (members (s .looks .named)) (bodyIn (s .kids)) P) where
-    pub state-places : (i : ℕ) → i < 64 → P i ≡ place (boundIn script s) i b
-    state-places = L (boundIn script s) (heads script kinds starts (s .offsets)) b (seen-names (boundIn script s) (heads script kinds starts (s .offsets)) (s .looks) seen) (represented script kinds starts weight spent s b R) (omega (arith, R .light, R .weighs))
+  module _ (P : ℕ → ℕ) (L : Located (members (s .notes .named)) (bodyIn (s .kids)) P) where
+    pub state-homes : (i : ℕ) → i < 64 → P i ≡ home (boundIn script s) i b
+    state-homes = L (boundIn script s) (heads script kinds starts (s .offsets)) b (seen-names (boundIn script s) (heads script kinds starts (s .offsets)) (s .notes) seen) (represented script kinds starts weight spent s b R) (omega (arith, R .light, R .weighs))
 
-    -- THEOREM: of what is kept and the places that are found, the targets are those of the moves that the closure allows.
-    pub state-targets : (a : ℕ) → a < 64 → (l : List ℕ) → TargetsOf (bodyIn (s .kids)) (getD (s .looks .acts) a 0) (members (getD (s .looks .aims) a 0)) P a l
+    -- THEOREM: of what is kept and the homes that are found, the targets are those of the moves that the closure allows.
+    pub state-targets : (a : ℕ) → a < 64 → (l : List ℕ) → TargetsOf (bodyIn (s .kids)) (getD (s .notes .acts) a 0) (members (getD (s .notes .aims) a 0)) P a l
         → (t : ℕ) → t < 64 → elem t l ≡ isSome (closureMove (boundIn script s) a t b)
-    state-targets a m l T = T (boundIn script s) (heads script kinds starts (s .offsets)) b (represented script kinds starts weight spent s b R) (seen .deeds a m .acts) (seen .deeds a m .aims) state-places
+    state-targets a m l T = T (boundIn script s) (heads script kinds starts (s .offsets)) b (represented script kinds starts weight spent s b R) (seen .deeds a m .acts) (seen .deeds a m .aims) state-homes

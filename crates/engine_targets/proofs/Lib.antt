@@ -1,4 +1,4 @@
--- Laws of the places of the parts, of the moves that a closure allows and of what they make of a state. Assumes nothing.
+-- Laws of the homes of the parts, of the moves that a closure allows and of what they make of a state. Assumes nothing.
 pub mod Locating
 pub mod Opening
 pub mod Entering

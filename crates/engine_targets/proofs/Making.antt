@@ -18,7 +18,7 @@ use Rattle.theory_machine.proofs.Inversion.{here-inv}
 use Rattle.base_slices.proofs.Tests.{byTest}
 use Rattle.theory_closures.specs.Closure.{Action, ClosureHead, Closure, Bindings, viewUnder, settleUnder, settledUnder, closureMove}
 use Rattle.engine_states.specs.Represents.{headOf, heads, boundIn, Represents}
-use Rattle.engine_states.specs.Searches.{place, Stands}
+use Rattle.engine_states.specs.Searches.{home, HeldOnce}
 use Rattle.engine_states.specs.declared.State.{State}
 use Rattle.engine_states.proofs.Arrays.{Replaced, Carried, Raised}
 use Rattle.engine_states.proofs.Heads.{head-spent}
@@ -31,7 +31,7 @@ use Rattle.engine_targets.proofs.Entering.{enter-change}
 use Rattle.engine_targets.proofs.Leaving.{exit-change}
 use Rattle.engine_targets.proofs.Acting.{here-needs, Spot, once-here, open-at, receive-at, enter-at, exit-at}
 
-pub represented : (script kinds starts : List ℕ) (weight spent : ℕ) (s : State) (f : Closure) → Represents script kinds starts weight spent s f → Stands (bodyIn (s .kids)) (heads script kinds starts (s .offsets)) f
+pub represented : (script kinds starts : List ℕ) (weight spent : ℕ) (s : State) (f : Closure) → Represents script kinds starts weight spent s f → HeldOnce (bodyIn (s .kids)) (heads script kinds starts (s .offsets)) f
 represented script kinds starts weight spent s f R = record { top = R .top; held = R .held; once = R .once; low = R .inside }
 
 raised-spent : (σ : Bindings) (script kinds starts offsets offsets′ : List ℕ) (a : ℕ) → Raised offsets offsets′ a → Spent σ (heads script kinds starts offsets) (heads script kinds starts offsets′) a
@@ -59,15 +59,15 @@ module _ (script kinds starts : List ℕ) (weight spent : ℕ) (s : State) (f : 
   w = heads script kinds starts (s .offsets)
 
   abbrev at : ℕ → ℕ
-  at i = place σ i f
+  at i = home σ i f
 
   abbrev w′ : ℕ → ClosureHead
   w′ = heads script kinds starts (s′ .offsets)
 
-  abbrev holds : Stands k w f
+  abbrev holds : HeldOnce k w f
   holds = represented script kinds starts weight spent s f R
 
-  -- s′ stands for what the move (a, t) makes of the closure, before it is settled
+  -- s′ represents what the move (a, t) makes of the closure, before it is settled
   abbrev pub Made : ℕ → Bindings → Type 0
   Made spent′ news = After script kinds starts weight spent s f R t (moveHere (viewUnder σ) a t) (here-needs σ a t) spent′ s′ news
 
@@ -87,7 +87,7 @@ module _ (script kinds starts : List ℕ) (weight spent : ℕ) (s : State) (f : 
     most = raised-most (s .offsets) (s′ .offsets) a spent raised (R .spends)
 
     -- THEOREM: OPEN. The target goes, its body stays where the actor stands.
-    pub open-made : (p : ℕ) → place σ a f ≡ p → canOpen σ k w p a t ≡ true → Replaced k k′ p (joined (k t) (removed t (k p))) → Made (spent + 1) []
+    pub open-made : (p : ℕ) → home σ a f ≡ p → canOpen σ k w p a t ≡ true → Replaced k k′ p (joined (k t) (removed t (k p))) → Made (spent + 1) []
     open-made p ep = subst (λ (x : ℕ). canOpen σ k w x a t ≡ true → Replaced k k′ x (joined (k t) (removed t (k x))) → Made (spent + 1) []) ep here
       where
         here : canOpen σ k w (at a) a t ≡ true → Replaced k k′ (at a) (joined (k t) (removed t (k (at a)))) → Made (spent + 1) []
@@ -99,7 +99,7 @@ module _ (script kinds starts : List ℕ) (weight spent : ℕ) (s : State) (f : 
             (spent + 1) (omega arith) most
 
     -- THEOREM: IN. The part around the actor goes into the target.
-    pub enter-made : (p q : ℕ) → place σ a f ≡ p → place σ p f ≡ q → canEnter σ k w p q a t ≡ true → Carried k k′ p q t → Made (spent + 1) []
+    pub enter-made : (p q : ℕ) → home σ a f ≡ p → home σ p f ≡ q → canEnter σ k w p q a t ≡ true → Carried k k′ p q t → Made (spent + 1) []
     enter-made p q ep eq =
         subst (λ (y : ℕ). canEnter σ k w p y a t ≡ true → Carried k k′ p y t → Made (spent + 1) []) eq
         (subst (λ (x : ℕ). canEnter σ k w x (at x) a t ≡ true → Carried k k′ x (at x) t → Made (spent + 1) []) ep here)
@@ -113,7 +113,7 @@ module _ (script kinds starts : List ℕ) (weight spent : ℕ) (s : State) (f : 
             (spent + 1) (omega arith) most
 
     -- THEOREM: EXIT. The part around the actor comes out of the target, which is around it, and stands beside it.
-    pub exit-made : (p q b : ℕ) → place σ a f ≡ p → place σ p f ≡ q → place σ t f ≡ b → canExit σ k w p q a t ≡ true → Carried k k′ p t b → Made (spent + 1) []
+    pub exit-made : (p q b : ℕ) → home σ a f ≡ p → home σ p f ≡ q → home σ t f ≡ b → canExit σ k w p q a t ≡ true → Carried k k′ p t b → Made (spent + 1) []
     exit-made p q b ep eq eb e C =
         subst (λ (y : ℕ). canExit σ k w p y a t ≡ true → Carried k k′ p t b → Made (spent + 1) []) eq
         (subst (λ (x : ℕ). canExit σ k w x (at x) a t ≡ true → Carried k k′ x t b → Made (spent + 1) []) ep
@@ -129,7 +129,7 @@ module _ (script kinds starts : List ℕ) (weight spent : ℕ) (s : State) (f : 
 
   -- THEOREM: the receipt. Both go, the receipt's body stands there, and its variable is bound to the message.
   pub receive-made : ((i : ℕ) → getD (s .offsets) i 0 ≡ getD (s′ .offsets) i 0) → s′ .bindings .first + 1 ≡ s .bindings .first
-      → (v : ℕ) (m : Message) → w a ≡ receipt v → w t ≡ output m → (p : ℕ) → place σ a f ≡ p → canReceive σ k w p a t ≡ true
+      → (v : ℕ) (m : Message) → w a ≡ receipt v → w t ≡ output m → (p : ℕ) → home σ a f ≡ p → canReceive σ k w p a t ≡ true
       → Replaced k k′ p (joined (k a) (removed t (removed a (k p)))) → (spent′ : ℕ) → spent ≤ spent′ → Made spent′ ((v, m) ∷ [])
   receive-made alike bound v m ea et p ep e C spent′ l =
       subst (λ (x : ℕ). canReceive σ k w x a t ≡ true → Replaced k k′ x (joined (k a) (removed t (removed a (k x)))) → Made spent′ ((v, m) ∷ [])) ep here e C

@@ -11,12 +11,12 @@ use Rattle.read_scripts.specs.Represents.{bodyIn}
 use Rattle.theory_machine.specs.Moves.{MoveMade}
 use Rattle.theory_closures.specs.Closure.{Action, ClosureHead, Closure, Bindings, closureMove}
 use Rattle.engine_states.specs.Represents.{heads, boundIn, Represents}
-use Rattle.engine_states.specs.Searches.{place}
+use Rattle.engine_states.specs.Searches.{home}
 use Rattle.engine_states.specs.declared.State.{State}
 use Rattle.engine_targets.specs.Targets.{isSome, canOpen, canReceive, canEnter, canExit}
 
 module _ (script kinds starts : List ℕ) (s r : State) where
-  -- r stands for what the move (a, t) makes of the closure b for which s stands
+  -- r represents what the move (a, t) makes of the closure b for which s stands
   abbrev pub Makes : (weight spent a t : ℕ) (b : Closure) → Type 0
   Makes weight spent a t b =
       (m : MoveMade Action) × (closureMove (boundIn script s) a t b ≡ some m) × Represents script kinds starts weight spent r (m .body) × (boundIn script r ≡ m .news ++ boundIn script s)
@@ -45,25 +45,25 @@ module _ (script kinds starts : List ℕ) (s r : State) where
 
   -- the four moves, p being the part in whose body the actor stands, and q the one in whose body that part stands
   abbrev pub Opens : (p a t : ℕ) → Type 0
-  Opens p a t = MakesIf (λ b. (place (boundIn script s) a b ≡ p) × Passes (λ σ k w. canOpen σ k w p a t)) a t
+  Opens p a t = MakesIf (λ b. (home (boundIn script s) a b ≡ p) × Passes (λ σ k w. canOpen σ k w p a t)) a t
 
   abbrev pub Receives : (p a t : ℕ) → Type 0
-  Receives p a t = MakesIf (λ b. (place (boundIn script s) a b ≡ p) × Passes (λ σ k w. canReceive σ k w p a t)) a t
+  Receives p a t = MakesIf (λ b. (home (boundIn script s) a b ≡ p) × Passes (λ σ k w. canReceive σ k w p a t)) a t
 
   abbrev pub Enters : (p q a t : ℕ) → Type 0
-  Enters p q a t = MakesIf (λ b. (place (boundIn script s) a b ≡ p) × (place (boundIn script s) p b ≡ q) × Passes (λ σ k w. canEnter σ k w p q a t)) a t
+  Enters p q a t = MakesIf (λ b. (home (boundIn script s) a b ≡ p) × (home (boundIn script s) p b ≡ q) × Passes (λ σ k w. canEnter σ k w p q a t)) a t
 
   -- the target is q, and c the part in whose body it stands
   abbrev pub Exits : (p q c a : ℕ) → Type 0
   Exits p q c a =
-      MakesIf (λ b. (place (boundIn script s) a b ≡ p) × (place (boundIn script s) p b ≡ q) × (place (boundIn script s) q b ≡ c) × Passes (λ σ k w. canExit σ k w p q a q)) a q
+      MakesIf (λ b. (home (boundIn script s) a b ≡ p) × (home (boundIn script s) p b ≡ q) × (home (boundIn script s) q b ≡ c) × Passes (λ σ k w. canExit σ k w p q a q)) a q
 
-  -- every move that can be made, at being the places of the parts
+  -- every move that can be made, at being the homes of the parts
   abbrev pub Moves : (at : ℕ → ℕ) (a t : ℕ) → Type 0
-  Moves at a t = MakesIf (λ b. ((i : ℕ) → i < 64 → at i ≡ place (boundIn script s) i b) × (isSome (closureMove (boundIn script s) a t b) ≡ true)) a t
+  Moves at a t = MakesIf (λ b. ((i : ℕ) → i < 64 → at i ≡ home (boundIn script s) i b) × (isSome (closureMove (boundIn script s) a t b) ≡ true)) a t
 
   -- r is that state if the move can be made, which `made` says, and s itself if not
-  abbrev pub Tries : (made : Bool) (a t : ℕ) → Type 0
-  Tries made a t =
+  abbrev pub MakesOrLeaves : (made : Bool) (a t : ℕ) → Type 0
+  MakesOrLeaves made a t =
       (made ≡ false → r ≡ s) × ((weight spent : ℕ) (b : Closure) → spent + 1 < 4294967295 → Represents script kinds starts weight spent s b
       → (made ≡ isSome (closureMove (boundIn script s) a t b)) × (made ≡ true → Makes weight (spent + 1) a t b))

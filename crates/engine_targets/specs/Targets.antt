@@ -10,7 +10,7 @@ use lib.Dec.{eqb, ltb}
 use Rattle.base_sets.specs.Sets.{elem}
 use Rattle.theory_machine.specs.Moves.{sameName, toEnter, toExit, toOpen, variableOf, messageOf, headName, firstOf}
 use Rattle.theory_closures.specs.Closure.{ClosureHead, Closure, Bindings, viewUnder, closureMove}
-use Rattle.engine_states.specs.Searches.{place, Stands}
+use Rattle.engine_states.specs.Searches.{home, HeldOnce}
 use Rattle.engine_states.specs.Seen.{actUnder, aimUnder}
 
 -- whether there is one
@@ -29,7 +29,7 @@ abbrev pub mayOpen : Bindings → (h g : ClosureHead) → Bool
 mayOpen σ h g = sameName (toOpen (firstOf (viewUnder σ) h)) (headName (viewUnder σ) g)
 
 -- `around` is the part in whose body the actor stands, `beyond` the one in whose body that part stands: below 64 they are
--- named ambients, for only there a part has a place.
+-- named ambients, for only there a part has a home.
 module _ (σ : Bindings) (bodies : ℕ → List ℕ) (heads : ℕ → ClosureHead) where
   -- "OPEN: the target is an AMB named m in the actor's own body"
   unfoldable pub canOpen : (around actor target : ℕ) → Bool
@@ -51,11 +51,11 @@ module _ (σ : Bindings) (bodies : ℕ → List ℕ) (heads : ℕ → ClosureHea
   unfoldable pub canMoveFrom : (around beyond actor target : ℕ) → Bool
   canMoveFrom p q a t = canOpen p a t || (canReceive p a t || (canEnter p q a t || canExit p q a t))
 
-  unfoldable pub canMove : (places : ℕ → ℕ) (actor target : ℕ) → Bool
-  canMove places a t = canMoveFrom (places a) (places (places a)) a t
+  unfoldable pub canMove : (homes : ℕ → ℕ) (actor target : ℕ) → Bool
+  canMove homes a t = canMoveFrom (homes a) (homes (homes a)) a t
 
--- The same asked of sets, by what is kept of the actor: p is its place and q that of p, and `aimed` says whether what it does
--- first can be done to t. A place below 64 is a named ambient, so that nothing more is asked of it.
+-- The same asked of sets, by what is kept of the actor: p is its home and q that of p, and `aimed` says whether what it does
+-- first can be done to t. A home below 64 is a named ambient, so that nothing more is asked of it.
 -- "the AMB named m directly around p"
 unfoldable pub isAround : (p q t : ℕ) (aimed : Bool) → Bool
 isAround p q t u = ltb p 64 && (ltb q 64 && (eqb t q && u))
@@ -75,8 +75,8 @@ module _ (bodies : ℕ → List ℕ) where
       cond (eqb act 1) (isWithin p t u) (cond (eqb act 2) (isBeside p q t u) (cond (eqb act 3) (isAround p q t u) (cond (eqb act 4) (isWithin p t u) false)))
 
 -- l has the targets of the actor's moves, in every closure that stands in the bodies, of which act and aim are what the actor
--- does first, and `places` the places of all parts
-abbrev pub TargetsOf : (bodies : ℕ → List ℕ) (act : ℕ) (aim : List ℕ) (places : ℕ → ℕ) (actor : ℕ) → List ℕ → Type 0
-TargetsOf bodies act aim places a l =
-    (σ : Bindings) (heads : ℕ → ClosureHead) (b : Closure) → Stands bodies heads b → act ≡ actUnder σ (heads a) → ((j : ℕ) → j < 64 → elem j aim ≡ aimUnder σ (heads a) (heads j))
-    → ((i : ℕ) → i < 64 → places i ≡ place σ i b) → (t : ℕ) → t < 64 → elem t l ≡ isSome (closureMove σ a t b)
+-- does first, and `homes` the homes of all parts
+abbrev pub TargetsOf : (bodies : ℕ → List ℕ) (act : ℕ) (aim : List ℕ) (homes : ℕ → ℕ) (actor : ℕ) → List ℕ → Type 0
+TargetsOf bodies act aim homes a l =
+    (σ : Bindings) (heads : ℕ → ClosureHead) (b : Closure) → HeldOnce bodies heads b → act ≡ actUnder σ (heads a) → ((j : ℕ) → j < 64 → elem j aim ≡ aimUnder σ (heads a) (heads j))
+    → ((i : ℕ) → i < 64 → homes i ≡ home σ i b) → (t : ℕ) → t < 64 → elem t l ≡ isSome (closureMove σ a t b)

@@ -1,5 +1,5 @@
-// Where the parts of a closure stand, and the targets of an actor's moves, by the part sets and what is kept of the actor. It
-// rests on the promises of sets, and on what closures says of its state.
+// Where the parts of a closure stand, and the targets of an actor's moves, by the part sets and what is kept of the
+// actor.
 ghost use mathlib.Core.Path.{_≡_};
 ghost use Prim.Native.Nat.{ℕ, _<_};
 ghost use lib.ListN.{length, getD};
@@ -8,7 +8,7 @@ ghost use Rattle.read_scripts.specs.Represents.{bodyIn};
 ghost use Rattle.engine_states.specs.Searches.{LocatesBy, Located};
 ghost use Rattle.engine_targets.specs.Targets.{isWithin, isBeside, isAround, TargetsOf};
 
-// Writes the places of the parts of left, which stand in the body of the part at, and of those in the bodies of the named
+// Writes the homes of the parts of left, which stand in the body of the part at, and of those in the bodies of the named
 // ambients among them, at any depth.
 fn locate_below<'a, 'b>(
     found: &'b mut [usize; 64],
@@ -61,24 +61,24 @@ fn aimed_within(kids: &[u64; 65], aim: u64, p: usize) -> u64
 }
 
 // Those of aim in the body in which the part p stands, but for p.
-fn aimed_beside<'a>(kids: &'a [u64; 65], aim: u64, places: &'a [usize; 64], p: usize) -> u64
-    ensures { λ r. ⌜ ((t : ℕ) → elem t (members r) ≡ isBeside (bodyIn (now (kids .entry))) p (getD (now (places .entry)) p 0) t (elem t (members aim))) ⌝ }
+fn aimed_beside<'a>(kids: &'a [u64; 65], aim: u64, homes: &'a [usize; 64], p: usize) -> u64
+    ensures { λ r. ⌜ ((t : ℕ) → elem t (members r) ≡ isBeside (bodyIn (now (kids .entry))) p (getD (now (homes .entry)) p 0) t (elem t (members aim))) ⌝ }
 {
     if p >= 64 {
         return 0;
     }
-    let q = places[p];
+    let q = homes[p];
     base_sets::without(aimed_within(kids, aim, q), p)
 }
 
 // The part in whose body the part p stands, if it is in aim.
-fn aimed_around(aim: u64, places: &[usize; 64], p: usize) -> u64
-    ensures { λ r. ⌜ ((t : ℕ) → elem t (members r) ≡ isAround p (getD (now (places .entry)) p 0) t (elem t (members aim))) ⌝ }
+fn aimed_around(aim: u64, homes: &[usize; 64], p: usize) -> u64
+    ensures { λ r. ⌜ ((t : ℕ) → elem t (members r) ≡ isAround p (getD (now (homes .entry)) p 0) t (elem t (members aim))) ⌝ }
 {
     if p >= 64 {
         return 0;
     }
-    let q = places[p];
+    let q = homes[p];
     if q >= 64 {
         return 0;
     }
@@ -86,21 +86,15 @@ fn aimed_around(aim: u64, places: &[usize; 64], p: usize) -> u64
 }
 
 // The targets of the actor a's moves, by what it does first and where it stands.
-pub fn targets<'a>(
-    kids: &'a [u64; 65],
-    act: u32,
-    aim: u64,
-    places: &'a [usize; 64],
-    a: usize,
-) -> u64
+pub fn targets<'a>(kids: &'a [u64; 65], act: u32, aim: u64, homes: &'a [usize; 64], a: usize) -> u64
     requires { ⌜ a < 64 ⌝ }
-    ensures { λ r. ⌜ TargetsOf (bodyIn (now (kids .entry))) act (members aim) (λ i. getD (now (places .entry)) i 0) a (members r) ⌝ }
+    ensures { λ r. ⌜ TargetsOf (bodyIn (now (kids .entry))) act (members aim) (λ i. getD (now (homes .entry)) i 0) a (members r) ⌝ }
 {
-    let p = places[a];
+    let p = homes[a];
     match act {
         1 => aimed_within(kids, aim, p),
-        2 => aimed_beside(kids, aim, places, p),
-        3 => aimed_around(aim, places, p),
+        2 => aimed_beside(kids, aim, homes, p),
+        3 => aimed_around(aim, homes, p),
         4 => aimed_within(kids, aim, p),
         _ => 0,
     }

@@ -1,2 +1,2 @@
--- What the contracts of `answer_words` cite. Assumes nothing: these are definitions.
+-- What the contracts of `host_answer_words` cite. Assumes nothing: these are definitions.
 pub mod Told

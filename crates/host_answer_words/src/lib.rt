@@ -1,4 +1,4 @@
-// An answer as eight words. It rests on nothing but what checker says of its answers.
+// An answer as eight words.
 use checker::Answer;
 use checker::Verdict;
 ghost use mathlib.Core.Path.{_≡_};

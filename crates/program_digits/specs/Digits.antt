@@ -33,7 +33,7 @@ decimalBy (suc k) n = cond (ltb n 10) ((48 + n) ∷ []) (decimalBy k (n / 10) ++
 abbrev pub decimal : ℕ → List ℕ
 decimal n = decimalBy 20 n
 
--- A piece is put into a text at a place, and the next place is behind it. Where the text has no room for it, nothing is
+-- A piece is put into a text at an index, and the next index is behind it. Where the text has no room for it, nothing is
 -- said but that the text is as long as before.
 pub record Puts (old new : List ℕ) (at next : ℕ) (piece : List ℕ) : Type 0 where
   pub kept : length new ≡ length old

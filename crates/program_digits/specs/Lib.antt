@@ -1,2 +1,2 @@
--- What the contracts of `digits` cite: numbers and words as text. Assumes nothing: these are definitions.
+-- What the contracts of `program_digits` cite: numbers and words as text. Assumes nothing: these are definitions.
 pub mod Digits

@@ -1,5 +1,5 @@
-// Bytes, numbers and words as text, put into a lent buffer piece by piece. Each function is given the place behind the text
-// so far and answers the place behind its own piece; a piece that does not fit is cut short. It rests on no other crate.
+// Bytes, numbers and words as text, put into a lent buffer piece by piece. Each function is given the index behind the
+// text so far and answers the index behind its own piece; a piece that does not fit is cut short.
 ghost use mathlib.Core.Path.{_≡_};
 ghost use mathlib.Core.List.{[], _∷_};
 ghost use Prim.Native.Nat.{ℕ, suc, _<_, _^_};

@@ -1,2 +1,2 @@
--- What the contracts of `replies` cite: the reply to the words of an input. Assumes nothing: these are definitions.
+-- What the contracts of `program_replies` cite: the reply to the words of an input. Assumes nothing: these are definitions.
 pub mod Reply

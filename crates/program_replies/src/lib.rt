@@ -1,5 +1,5 @@
-// From the words of an input to the text of the reply: the lists that it counts, lent to the call, and the call's answer, or
-// that the input does not fit. It rests on the promises of the call and on those of its answer as text.
+// From the words of an input to the text of the reply: the lists that it counts, lent to the call, and the call's
+// answer, or that the input does not fit.
 use base_slices::head;
 use base_slices::tail;
 use checker::call;

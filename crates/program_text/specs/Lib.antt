@@ -1,2 +1,2 @@
--- What the contracts of `text` cite: an answer as text. Assumes nothing: these are definitions.
+-- What the contracts of `program_text` cite: an answer as text. Assumes nothing: these are definitions.
 pub mod Text

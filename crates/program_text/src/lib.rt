@@ -1,5 +1,4 @@
-// Answers as text, put into a lent buffer piece by piece, as the functions of digits put them. It rests on the promises of
-// digits and slices, and on what an answer of the call is.
+// Answers as text, put into a lent buffer piece by piece, as the functions of program_digits put them.
 use base_slices::head;
 use checker::Answer;
 use checker::Verdict;

@@ -1,4 +1,4 @@
--- The laws of `messages` that its own proofs and the crates above cite.
+-- The laws of `read_messages` that its own proofs and the crates above cite.
 pub mod Readings
 pub mod Laws
 pub mod Cases

@@ -78,10 +78,10 @@ advances-on c d e a b = record {
 }
 
 -- the cursor stands in these words
-abbrev pub Stands : (words : List ℕ) → Cursor → Type 0
-Stands ws c = c .left ≡ drop (c .index) ws
+abbrev pub CursorAt : (words : List ℕ) → Cursor → Type 0
+CursorAt ws c = c .left ≡ drop (c .index) ws
 
-pub stands-on : (ws : List ℕ) (c d : Cursor) → Advances c d → Stands ws c → Stands ws d
+pub stands-on : (ws : List ℕ) (c d : Cursor) → Advances c d → CursorAt ws c → CursorAt ws d
 stands-on ws c d a s =
     let e : c .index + (d .index - c .index) ≡ d .index = omega (arith, a .ahead) in
     a .tail ∙ ap (λ (l : List ℕ). drop (d .index - c .index) l) s ∙ drop-drop (d .index - c .index) (c .index) ws ∙ rw e

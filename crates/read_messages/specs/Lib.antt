@@ -1,4 +1,4 @@
--- What the contracts of `messages` cite. Assumes nothing: these are definitions.
+-- What the contracts of `read_messages` cite. Assumes nothing: these are definitions.
 pub mod Words
 pub mod Reading
 pub mod Message

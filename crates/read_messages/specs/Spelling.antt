@@ -1,4 +1,4 @@
--- What words spell, from the right: a total function, so that a message can be named by the place of its first word.
+-- What words spell, from the right: a total function, so that a message can be named by the index of its first word.
 -- That a message which was read is the one that its words spell is a law (proofs/Spells.antt). Assumes nothing.
 use Prim.Native.Nat.{ℕ}
 use mathlib.Core.List.{List, [], _∷_}
@@ -24,7 +24,7 @@ push Empty s = emptyMessage ∷ s
 push Path s = path (topMessage s) (topMessage (drop 1 s)) ∷ drop 2 s
 push Unfit s = emptyMessage ∷ s
 
--- The messages that the words spell, one behind another; a word of no message stands for an empty one.
+-- The messages that the words spell, one behind another; a word of no message represents an empty one.
 unfoldable pub spelled : List ℕ → List Message
 spelled [] = []
 spelled (w ∷ ws) = push (messageWord w) (spelled ws)

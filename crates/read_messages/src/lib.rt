@@ -1,5 +1,4 @@
-// The reader of one message of a script: questions 2, 3, 4 and 5 of document 01. It rests on slices, for the laws of
-// tails.
+// The reader of one message of a script: questions 2, 3, 4 and 5 of document 01.
 ghost use mathlib.Core.Path.{_≡_};
 ghost use Prim.Native.Nat.{ℕ, _+_, _≤_};
 ghost use lib.ListN.{length};

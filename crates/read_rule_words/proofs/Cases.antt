@@ -32,7 +32,7 @@ pub record Cases (C : List ℕ → Cursor → Rule × Cursor → Type 0) : Type 
       → C somes c (at (c .index) (termOf (operand (q .0))) (p .0), p .1)
   pub chooses : (somes : List ℕ) (c : Cursor) (q : ℕ × Cursor) (p : Rule × Cursor) → Next c q → kind (q .0) ≡ 6 → suc (length somes) ≤ 8 → C (c .index ∷ somes) (q .1) p
       → C somes c (some-name (c .index) (p .0), p .1)
-  pub places : (somes : List ℕ) (c : Cursor) (q : ℕ × Cursor) (p : Rule × Cursor) → Next c q → kind (q .0) ≡ 9 → Operand somes (q .0) → C somes (nextPart (q .1)) p
+  pub placings : (somes : List ℕ) (c : Cursor) (q : ℕ × Cursor) (p : Rule × Cursor) → Next c q → kind (q .0) ≡ 9 → Operand somes (q .0) → C somes (nextPart (q .1)) p
       → C somes c (placed (c .index) (q .1 .number) (termOf (operand (q .0))) (p .0), p .1)
 
 module _ (C : List ℕ → Cursor → Rule × Cursor → Type 0) (cases : Cases C) where
@@ -60,7 +60,7 @@ module _ (C : List ℕ → Cursor → Rule × Cursor → Type 0) (cases : Cases 
     from-case SOME e x y z = one-case (some-name (c .index)) (c .index ∷ somes) (q .1) (λ p h. cases .chooses somes c q p n (kind-told (q .0) SOME e) z h)
     from-case SOMETIME e x y z = one-case (sometime (c .index)) somes (q .1) (λ p h. cases .ones somes c q p n h .1 (kind-told (q .0) SOMETIME e))
     from-case SOMEWHERE e x y z = one-case (somewhere (c .index)) somes (q .1) (λ p h. cases .ones somes c q p n h .2 (kind-told (q .0) SOMEWHERE e))
-    from-case PLACED e x y z = one-case (placed (c .index) (q .1 .number) (termOf (operand (q .0)))) somes (nextPart (q .1)) (λ p h. cases .places somes c q p n (kind-told (q .0) PLACED e) (record { fits = x; bound = y }) h)
+    from-case PLACED e x y z = one-case (placed (c .index) (q .1 .number) (termOf (operand (q .0)))) somes (nextPart (q .1)) (λ p h. cases .placings somes c q p n (kind-told (q .0) PLACED e) (record { fits = x; bound = y }) h)
     from-case OTHER e x y z = λ p d. refuse≢got d
 
   -- THEOREM: the cases are all.

@@ -1,4 +1,4 @@
--- The laws of `rules` that its own proofs and the crates above cite.
+-- The laws of `read_rule_words` that its own proofs and the crates above cite.
 pub mod Words
 pub mod Cases
 pub mod Order

@@ -44,7 +44,7 @@ ordered-cases = record {
   twos = λ s c q p r n h g. (λ k. two-ordered c q n p r h g, λ k. two-ordered c q n p r h g);
   ats = λ s c q p n k o h. one-ordered c q n p h;
   chooses = λ s c q p n k l h. one-ordered c q n p h;
-  places = λ s c q p n k o h. ((omega (arith, n .number), h .0), omega (arith, n .number, h .1));
+  placings = λ s c q p n k o h. ((omega (arith, n .number), h .0), omega (arith, n .number, h .1));
 }
 
 -- THEOREM: in a rule that is read, the PLACED words inside a PLACED word have later numbers.

@@ -1,4 +1,4 @@
--- What the contracts of `rules` cite. Assumes nothing: these are definitions.
+-- What the contracts of `read_rule_words` cite. Assumes nothing: these are definitions.
 pub mod Rule
 pub mod ReadRule
 pub mod RuleWords

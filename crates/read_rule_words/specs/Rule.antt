@@ -11,7 +11,7 @@ pub data Term : Type 0 where
   chosen : ℕ → Term
 
 -- "0 TRUE, 1 NOT, 2 OR, 3 VOID, 4 AT, 5 BESIDE, 6 SOME, 7 SOMETIME, 8 SOMEWHERE, 9 PLACED; 2 and 5 take two rules, 1, 4, 6
--- to 9 one." Each has its word's index first; PLACED has then its place among the PLACED words, from 0.
+-- to 9 one." Each has its word's index first; PLACED has then its rank among the PLACED words, from 0.
 pub data Rule : Type 0 where
   truth : ℕ → Rule
   negation : ℕ → Rule → Rule

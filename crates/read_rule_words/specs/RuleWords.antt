@@ -1,4 +1,4 @@
--- What the code of `rules` answers for one word of a rule. Assumes nothing: these are definitions.
+-- What the code of `read_rule_words` answers for one word of a rule. Assumes nothing: these are definitions.
 use Prim.Native.Nat.{ℕ}
 use mathlib.Core.Bool.{_&&_, _||_, cond}
 use mathlib.Core.List.{List}

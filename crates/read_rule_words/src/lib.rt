@@ -1,5 +1,5 @@
-// The words of a rule: the questions that one word is asked, the term that it says and the greatest name. Questions 8, 9 and
-// 10 of document 01. It rests on the promises of messages.
+// The words of a rule: the questions that one word is asked, the term that it says and the greatest name. Questions 8,
+// 9 and 10 of document 01.
 ghost use mathlib.Core.Path.{_≡_};
 ghost use Prim.Native.Nat.{_+_, _≤_, _<_};
 ghost use lib.ListN.{length};

@@ -40,7 +40,7 @@ module _ (words : List ℕ) (t : RuleTable) (somes : List ℕ) where
   Told (suc (suc (suc (suc (suc (suc (suc zero))))))) i r = Single i (sometime i) r
   Told (suc (suc (suc (suc (suc (suc (suc (suc zero)))))))) i r = Single i (somewhere i) r
   Told (suc (suc (suc (suc (suc (suc (suc (suc (suc zero))))))))) i r =
-      (q : Rule) × (r ≡ placed i (getD (t .places) i 0) (termAt i) q) × (ruleIndex q ≡ i + 1) × Ruled words t somes q × Said words somes i (termAt i) × (getD (t .places) i 0 < t .count)
+      (q : Rule) × (r ≡ placed i (getD (t .placings) i 0) (termAt i) q) × (ruleIndex q ≡ i + 1) × Ruled words t somes q × Said words somes i (termAt i) × (getD (t .placings) i 0 < t .count)
   Told (suc (suc (suc (suc (suc (suc (suc (suc (suc (suc k)))))))))) i r = ⊥
 
   -- of a rule of the kind k

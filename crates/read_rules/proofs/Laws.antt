@@ -94,7 +94,7 @@ read-cases = record {
   );
   ats = λ s c q p n _ _ x. one-read s c q n s p x (at (c .index) (termOf (operand (q .0))) (p .0)) refl (λ t. refl);
   chooses = λ s c q p n _ _ x. one-read s c q n (c .index ∷ s) p x (some-name (c .index) (p .0)) refl (λ t. refl);
-  places = λ s c q p n _ _ x. place-read s c q n p x (termOf (operand (q .0)));
+  placings = λ s c q p n _ _ x. place-read s c q n p x (termOf (operand (q .0)));
 }
 
 pub rule-read : (f around : ℕ) (somes : List ℕ) (c : Cursor) (p : Rule × Cursor) → readRule f around somes c ≡ got p → RuleRead somes c p

@@ -1,4 +1,4 @@
--- The laws of `rule_reader` that its own proofs and the crates above cite.
+-- The laws of `read_rules` that its own proofs and the crates above cite.
 pub mod Laws
 pub mod Steps
 pub mod Tabled

@@ -12,7 +12,7 @@ use lib.Seq.{getD-set-same, getD-set-other, getD-drop}
 use borrow.Author.Tests.{leb-true}
 use Rattle.read_messages.specs.Words.{kind, operand}
 use Rattle.read_messages.specs.Reading.{Cursor, cursor, got, ask, nextPart, isEmpty}
-use Rattle.read_messages.proofs.Readings.{bind-all, got-all, ask-inv, Stands, stands-on, Next, next-advances}
+use Rattle.read_messages.proofs.Readings.{bind-all, got-all, ask-inv, CursorAt, stands-on, Next, next-advances}
 use Rattle.read_rule_words.specs.Rule.{Rule, truth, negation, either, void, at, beside, some-name, sometime, somewhere, placed, ruleIndex}
 use Rattle.read_rule_words.specs.ReadRule.{termOf, readRule, readWholeRule}
 use Rattle.read_rules.specs.RuleTable.{vacant, turned, entered, tabulate, scanned}
@@ -24,28 +24,28 @@ use Rattle.read_rules.proofs.Laws.{RuleRead, read-cases}
 
 -- what the table has at an index
 abbrev entry : RuleTable → ℕ → ℕ × ℕ
-entry t j = (getD (t .rights) j 0, getD (t .places) j 0)
+entry t j = (getD (t .rights) j 0, getD (t .placings) j 0)
 
 -- the arrays have their lengths
 record Room (t : RuleTable) : Type 0 where
   rights : length (t .rights) ≡ 256
-  places : length (t .places) ≡ 256
+  placings : length (t .placings) ≡ 256
 
 turned-room : (i k : ℕ) (t : RuleTable) → Room t → Room (turned i k t)
-turned-room i k t r = record { rights = length-set (t .rights) i k ∙ r .rights; places = r .places }
+turned-room i k t r = record { rights = length-set (t .rights) i k ∙ r .rights; placings = r .placings }
 
 entered-room : (i j : ℕ) (t : RuleTable) → Room t → Room (entered i j t)
-entered-room i j t r = record { rights = r .rights; places = length-set (t .places) i j ∙ r .places }
+entered-room i j t r = record { rights = r .rights; placings = length-set (t .placings) i j ∙ r .placings }
 
 turned-other : (i k : ℕ) (t : RuleTable) (j : ℕ) → (j ≡ i → ⊥) → entry (turned i k t) j ≡ entry t j
-turned-other i k t j n = ap (λ (x : ℕ). (x, getD (t .places) j 0)) (getD-set-other (t .rights) i j k 0 n)
+turned-other i k t j n = ap (λ (x : ℕ). (x, getD (t .placings) j 0)) (getD-set-other (t .rights) i j k 0 n)
 
 entered-other : (i m : ℕ) (t : RuleTable) (j : ℕ) → (j ≡ i → ⊥) → entry (entered i m t) j ≡ entry t j
-entered-other i m t j n = ap (λ (x : ℕ). (getD (t .rights) j 0, x)) (getD-set-other (t .places) i j m 0 n)
+entered-other i m t j n = ap (λ (x : ℕ). (getD (t .rights) j 0, x)) (getD-set-other (t .placings) i j m 0 n)
 
 module _ (words : List ℕ) (few : length words ≤ 256) where
   -- the word at the cursor
-  module _ (c : Cursor) (q : ℕ × Cursor) (n : Next c q) (s : Stands words c) where
+  module _ (c : Cursor) (q : ℕ × Cursor) (n : Next c q) (s : CursorAt words c) where
     front : drop (c .index) words ≡ (q .0) ∷ (q .1 .left)
     front = sym s ∙ n .words
 
@@ -63,7 +63,7 @@ module _ (words : List ℕ) (few : length words ≤ 256) where
     said : (somes : List ℕ) → Operand somes (q .0) → Said words somes (c .index) (termOf (operand (q .0)))
     said somes o = record { term = ap (λ (w : ℕ). termOf (operand w)) (sym here); fits = rw here (o .fits); bound = o .bound }
 
-    stands : Stands words (q .1)
+    stands : CursorAt words (q .1)
     stands = stands-on words c (q .1) (next-advances c q n) s
 
   -- The rule p .0 was read from c on with the table t: `kept` is what stood before, and `ruled` says that any table which has what
@@ -75,10 +75,10 @@ module _ (words : List ℕ) (few : length words ≤ 256) where
 
   record Fills (somes : List ℕ) (c : Cursor) (p : Rule × Cursor) : Type 0 where
     read : RuleRead somes c p
-    filled : Stands words c → (t : RuleTable) → Room t → Filled somes c p t
+    filled : CursorAt words c → (t : RuleTable) → Room t → Filled somes c p t
 
   module _ (somes : List ℕ) (c : Cursor) (q : ℕ × Cursor) (n : Next c q) where
-    leaf-filled : (r : Rule) → ((t : RuleTable) → tabulate r t ≡ t) → RuleRead somes c (r, q .1) → (Stands words c → (u : RuleTable) → Ruled words u somes r) → Fills somes c (r, q .1)
+    leaf-filled : (r : Rule) → ((t : RuleTable) → tabulate r t ≡ t) → RuleRead somes c (r, q .1) → (CursorAt words c → (u : RuleTable) → Ruled words u somes r) → Fills somes c (r, q .1)
     leaf-filled r e x rl = record {
       read = x;
       filled = λ s t m. record { room = rw (e t) m; kept = λ j a. ap (λ (y : RuleTable). entry y j) (e t); ruled = λ u a b. rl s u };
@@ -88,12 +88,12 @@ module _ (words : List ℕ) (few : length words ≤ 256) where
     module _ (s : List ℕ) (d : Cursor) (ed : d .index ≡ suc (c .index)) (ld : d .left ≡ q .1 .left) (p : Rule × Cursor) (h : Fills s d p) (g : RuleTable → RuleTable)
         (gr : (t : RuleTable) → Room t → Room (g t)) (go : (t : RuleTable) (j : ℕ) → (j ≡ c .index → ⊥) → entry (g t) j ≡ entry t j) where
       one-filled : (r : Rule) → ((t : RuleTable) → tabulate r t ≡ tabulate (p .0) (g t)) → RuleRead somes c (r, p .1)
-          → (Stands words c → (u t : RuleTable) → Room t → ruleIndex (p .0) ≡ c .index + 1 → Ruled words u s (p .0) → p .1 .number ≤ u .count → entry u (c .index) ≡ entry (g t) (c .index) → Ruled words u somes r)
+          → (CursorAt words c → (u t : RuleTable) → Room t → ruleIndex (p .0) ≡ c .index + 1 → Ruled words u s (p .0) → p .1 .number ≤ u .count → entry u (c .index) ≡ entry (g t) (c .index) → Ruled words u somes r)
           → Fills somes c (r, p .1)
       one-filled r e x rl = record {
         read = x;
         filled = λ st t m.
-            let sd : Stands words d = ld ∙ stands c q n st ∙ ap (λ (i : ℕ). drop i words) (n .index ∙ sym ed) in
+            let sd : CursorAt words d = ld ∙ stands c q n st ∙ ap (λ (i : ℕ). drop i words) (n .index ∙ sym ed) in
             let F : Filled s d p (g t) = h .filled sd (g t) (gr t m) in
             record {
               room = rw (e t) (F .room);
@@ -108,12 +108,12 @@ module _ (words : List ℕ) (few : length words ≤ 256) where
     -- two rules inside
     module _ (p z : Rule × Cursor) (h : Fills somes (q .1) p) (k : Fills somes (p .1) z) where
       two-filled : (r : Rule) → ((t : RuleTable) → tabulate r t ≡ tabulate (z .0) (turned (c .index) (ruleIndex (z .0)) (tabulate (p .0) t))) → RuleRead somes c (r, z .1)
-          → (Stands words c → (u : RuleTable) → ruleIndex (p .0) ≡ c .index + 1 → Ruled words u somes (p .0) → ruleIndex (z .0) ≡ getD (u .rights) (c .index) 0 → Ruled words u somes (z .0) → Ruled words u somes r)
+          → (CursorAt words c → (u : RuleTable) → ruleIndex (p .0) ≡ c .index + 1 → Ruled words u somes (p .0) → ruleIndex (z .0) ≡ getD (u .rights) (c .index) 0 → Ruled words u somes (z .0) → Ruled words u somes r)
           → Fills somes c (r, z .1)
       two-filled r e x rl = record {
         read = x;
         filled = λ st t m.
-            let sq : Stands words (q .1) = stands c q n st in
+            let sq : CursorAt words (q .1) = stands c q n st in
             let F : Filled somes (q .1) p t = h .filled sq t m in
             let v : RuleTable = turned (c .index) (ruleIndex (z .0)) (tabulate (p .0) t) in
             let G : Filled somes (p .1) z v = k .filled (stands-on words (q .1) (p .1) (h .read .advances) sq) v (turned-room (c .index) (ruleIndex (z .0)) (tabulate (p .0) t) (F .room)) in
@@ -136,7 +136,7 @@ module _ (words : List ℕ) (few : length words ≤ 256) where
   -- nothing is written at the rule's own word
   module _ (somes : List ℕ) (c : Cursor) (q : ℕ × Cursor) (n : Next c q) (s : List ℕ) (p : Rule × Cursor) (h : Fills s (q .1) p) where
     plain-filled : (r : Rule) → ((t : RuleTable) → tabulate r t ≡ tabulate (p .0) t) → RuleRead somes c (r, p .1)
-        → (Stands words c → (u : RuleTable) → ruleIndex (p .0) ≡ c .index + 1 → Ruled words u s (p .0) → Ruled words u somes r) → Fills somes c (r, p .1)
+        → (CursorAt words c → (u : RuleTable) → ruleIndex (p .0) ≡ c .index + 1 → Ruled words u s (p .0) → Ruled words u somes r) → Fills somes c (r, p .1)
     plain-filled r e x rl =
         one-filled somes c q n s (q .1) (n .index) refl p h (λ t. t) (λ t m. m) (λ t j w. refl) r e x (λ st u t m i y b w. rl st u i y)
 
@@ -158,15 +158,15 @@ module _ (words : List ℕ) (few : length words ≤ 256) where
     );
     ats = λ s c q p n k o h. plain-filled s c q n s p h (at (c .index) (termOf (operand (q .0))) (p .0)) (λ t. refl) (read-cases .ats s c q p n k o (h .read)) (λ st u i y. (worded c q n st 4 k, i, y, said c q n st s o));
     chooses = λ s c q p n k l h. plain-filled s c q n (c .index ∷ s) p h (some-name (c .index) (p .0)) (λ t. refl) (read-cases .chooses s c q p n k l (h .read)) (λ st u i y. (worded c q n st 6 k, i, y, l));
-    places = λ s c q p n k o h.
+    placings = λ s c q p n k o h.
         one-filled s c q n s (nextPart (q .1)) (n .index) refl p h (entered (c .index) (q .1 .number)) (entered-room (c .index) (q .1 .number)) (entered-other (c .index) (q .1 .number))
-        (placed (c .index) (q .1 .number) (termOf (operand (q .0))) (p .0)) (λ t. refl) (read-cases .places s c q p n k o (h .read))
+        (placed (c .index) (q .1 .number) (termOf (operand (q .0))) (p .0)) (λ t. refl) (read-cases .placings s c q p n k o (h .read))
         (λ st u t m i y b e. (
           worded c q n st 9 k,
           i,
           y,
           said c q n st s o,
-          sym (ap (λ (x : ℕ × ℕ). x .1) e ∙ getD-set-same (t .places) (c .index) (q .1 .number) 0 (omega (arith, m .places, inside c q n st, few))),
+          sym (ap (λ (x : ℕ × ℕ). x .1) e ∙ getD-set-same (t .placings) (c .index) (q .1 .number) 0 (omega (arith, m .placings, inside c q n st, few))),
           omega (arith, h .read .rises, b),
         ));
   }
@@ -176,7 +176,7 @@ module _ (words : List ℕ) (few : length words ≤ 256) where
   whole-tabled n p e l =
       let F : Fills [] (cursor 0 0 words) p = rule-case Fills fill-cases (length words) 0 [] (cursor 0 0 words) p e in
       let counted : tabulate (p .0) vacant .count ≡ p .1 .number = F .read .counted vacant refl in
-      let room : Room vacant = record { rights = length-replicate {A = ℕ} 256 0; places = length-replicate {A = ℕ} 256 0 } in
+      let room : Room vacant = record { rights = length-replicate {A = ℕ} 256 0; placings = length-replicate {A = ℕ} 256 0 } in
       record {
         few = few;
         room = omega (arith, counted, l);

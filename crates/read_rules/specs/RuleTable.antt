@@ -11,15 +11,15 @@ use Rattle.read_rules.specs.declared.RuleScan.{RuleScan}
 
 -- no rule
 abbrev pub vacant : RuleTable
-vacant = record { rights = replicate 256 0; places = replicate 256 0; count = 0 }
+vacant = record { rights = replicate 256 0; placings = replicate 256 0; count = 0 }
 
 -- the right rule of the OR or BESIDE at the index i starts at the index k
 abbrev pub turned : (i k : ℕ) → RuleTable → RuleTable
-turned i k t = record { rights = set (t .rights) i k; places = t .places; count = t .count }
+turned i k t = record { rights = set (t .rights) i k; placings = t .placings; count = t .count }
 
 -- "The j-th PLACED word (from 0)" is the one at the index i
 abbrev pub entered : (i j : ℕ) → RuleTable → RuleTable
-entered i j t = record { rights = t .rights; places = set (t .places) i j; count = t .count + 1 }
+entered i j t = record { rights = t .rights; placings = set (t .placings) i j; count = t .count + 1 }
 
 -- the table after a rule was read
 unfoldable pub tabulate : Rule → RuleTable → RuleTable

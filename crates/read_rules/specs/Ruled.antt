@@ -1,4 +1,4 @@
--- How the rule's words and the rule table stand for the rule that was read: what a walk that stands at a word's index may
+-- How the rule's words and the rule table represent the rule that was read: what a walk that stands at a word's index may
 -- know of the rule there. The law that they do is in proofs/Tabled.antt. Assumes nothing: these are definitions.
 use Prim.Native.Nat.{ℕ, suc, _+_, _≤_, _<_}
 use mathlib.Core.Bool.{true, _||_}
@@ -38,7 +38,7 @@ module _ (words : List ℕ) where
   Ruled t somes (some-name i r) = Worded 6 i × (ruleIndex r ≡ i + 1) × Ruled t (i ∷ somes) r × (suc (length somes) ≤ 8)
   Ruled t somes (sometime i r) = Worded 7 i × (ruleIndex r ≡ i + 1) × Ruled t somes r
   Ruled t somes (somewhere i r) = Worded 8 i × (ruleIndex r ≡ i + 1) × Ruled t somes r
-  Ruled t somes (placed i j n r) = Worded 9 i × (ruleIndex r ≡ i + 1) × Ruled t somes r × Said somes i n × (j ≡ getD (t .places) i 0) × (j < t .count)
+  Ruled t somes (placed i j n r) = Worded 9 i × (ruleIndex r ≡ i + 1) × Ruled t somes r × Said somes i n × (j ≡ getD (t .placings) i 0) × (j < t .count)
 
 -- the table and the words hold the whole rule p .0, beside a script of n parts
 pub record Tabled (n : ℕ) (words : List ℕ) (t : RuleTable) (p : Rule × Cursor) : Type 0 where

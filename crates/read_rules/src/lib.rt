@@ -1,5 +1,4 @@
-// The reader of a rule and the table that it fills: questions 7 to 12 of document 01. It rests on the promises of rules and
-// messages.
+// The reader of a rule and the table that it fills: questions 7 to 12 of document 01.
 use read_messages::Outcome;
 use read_rule_words::Asked;
 use read_rule_words::ask_rule;
@@ -16,7 +15,7 @@ ghost use Rattle.read_rules.specs.Ruled.{Answers};
 // count is the number of PLACED words.
 pub struct RuleTable {
     pub rights: [u16; 256],
-    pub places: [u8; 256],
+    pub placings: [u8; 256],
     pub count: usize,
 }
 
@@ -38,7 +37,7 @@ fn vacant() -> RuleTable
 {
     RuleTable {
         rights: [0; 256],
-        places: [0; 256],
+        placings: [0; 256],
         count: 0,
     }
 }
@@ -71,7 +70,7 @@ fn enter(table: RuleTable, at: usize) -> RuleTable
 {
     let n = table.count;
     let mut t = table;
-    t.places[at] = n as u8;
+    t.placings[at] = n as u8;
     t.count = n + 1;
     t
 }

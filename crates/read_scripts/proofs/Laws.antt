@@ -11,14 +11,14 @@ use borrow.Author.Tests.{leb-true}
 use Rattle.read_messages.specs.Reading.{Cursor, Reading, got, _>>=_, ask, nextWord, nextPart}
 use Rattle.read_messages.specs.Message.{Message}
 use Rattle.read_messages.specs.ReadMessage.{readMessage}
-use Rattle.read_messages.proofs.Readings.{refuse≢got, bind-all, got-all, bind-cong, bind-refuse, ask-inv, Advances, advances-on, Stands, stands-on, Next, next, next-advances, next-shorter, advances-shorter, next-end}
+use Rattle.read_messages.proofs.Readings.{refuse≢got, bind-all, got-all, bind-cong, bind-refuse, ask-inv, Advances, advances-on, CursorAt, stands-on, Next, next, next-advances, next-shorter, advances-shorter, next-end}
 use Rattle.read_messages.specs.Spelling.{messageAt}
 use Rattle.read_messages.proofs.Laws.{MessageRead, message-advances, message-fuel}
 use Rattle.read_messages.proofs.Spells.{read-message}
 use Rattle.read_scripts.specs.Tree.{Head, ambient, action, receipt, output, close, part, kindNumber, totalOver, parts}
 use Rattle.read_scripts.specs.Script.{Written, Script, partWord, partFits, guardedFrom, partFrom, orClose, readBody}
 use Rattle.read_scripts.specs.Table.{startBy, startOf}
-use Rattle.read_scripts.specs.Represents.{Numbered, Placed, Low, headAt}
+use Rattle.read_scripts.specs.Represents.{Numbered, PartsAt, Low, headAt}
 use Rattle.read_scripts.specs.declared.PartWord.{PartWord}
 use Rattle.read_scripts.specs.declared.PartWord.the-variants.{Close, Ambient, Action, Receipt, Output, No}
 
@@ -31,7 +31,7 @@ pub record BodyRead (nest : ℕ) (around : List ℕ) (c : Cursor) (p : Script ×
   pub numbers : p .1 .number ≡ c .number + parts (p .0)
   pub fewer : p .1 .number + c .index ≤ c .number + p .1 .index
   pub numbered : Numbered (c .number) (p .0)
-  pub placed : (ws : List ℕ) → Stands ws c → Placed ws (p .0)
+  pub placed : (ws : List ℕ) → CursorAt ws c → PartsAt ws (p .0)
   pub low : (n : ℕ) → p .1 .index ≤ n → Low n (p .0)
 
 pub record PartRead (nest : ℕ) (around : List ℕ) (c : Cursor) (p : (Written × Script) × Cursor) : Type 0 where
@@ -40,9 +40,9 @@ pub record PartRead (nest : ℕ) (around : List ℕ) (c : Cursor) (p : (Written 
   pub numbers : p .1 .number ≡ c .number + parts (p .0 .1)
   pub fewer : p .1 .number + c .index ≤ c .number + p .1 .index
   pub numbered : Numbered (c .number) (p .0 .1)
-  pub placed : (ws : List ℕ) → Stands ws c → Placed ws (p .0 .1)
+  pub placed : (ws : List ℕ) → CursorAt ws c → PartsAt ws (p .0 .1)
   pub low : (n : ℕ) → p .1 .index ≤ n → Low n (p .0 .1)
-  pub says : (ws : List ℕ) → Stands ws c → c .index ≡ p .0 .0 .index + 1 → headAt ws (kindNumber (p .0 .0 .head)) (startOf (p .0 .0)) ≡ p .0 .0 .head
+  pub says : (ws : List ℕ) → CursorAt ws c → c .index ≡ p .0 .0 .index + 1 → headAt ws (kindNumber (p .0 .0 .head)) (startOf (p .0 .0)) ≡ p .0 .0 .head
 
 -- a message that was read is the one that the words spell
 abbrev Spelt : Cursor → Message × Cursor → Type 0
@@ -68,7 +68,7 @@ receipt-says : (ws : List ℕ) (i : ℕ) → headAt ws (kindNumber {A = Message}
 unfolding headAt kindNumber
 receipt-says ws i = refl
 
-spelt-at : (ws : List ℕ) (c : Cursor) (i : ℕ) (q : Message × Cursor) → Spelt c q → Stands ws c → c .index ≡ i + 1 → messageAt (drop (i + 1) ws) ≡ q .0
+spelt-at : (ws : List ℕ) (c : Cursor) (i : ℕ) (q : Message × Cursor) → Spelt c q → CursorAt ws c → c .index ≡ i + 1 → messageAt (drop (i + 1) ws) ≡ q .0
 spelt-at ws c i q m s e = ap (λ (j : ℕ). messageAt (drop j ws)) (sym e) ∙ ap messageAt (sym s) ∙ m
 
 -- what reads the messages and the bodies inside a part
@@ -126,7 +126,7 @@ module _ (nest : ℕ) (around : List ℕ) (c : Cursor) where
       subst (λ (k : ℕ). Numbered k (r .0)) (let e : p .1 .number ≡ c .number + 1 + parts (p .0 .1) = omega (arith, n .number, a .numbers) in e) (b .numbered),
     );
     placed = λ ws s.
-        let s₁ : Stands ws (nextPart (q .1)) = stands-on ws c (q .1) (next-advances c q n) s in (
+        let s₁ : CursorAt ws (nextPart (q .1)) = stands-on ws c (q .1) (next-advances c q n) s in (
           a .says ws s₁ (let e : q .1 .index ≡ p .0 .0 .index + 1 = omega (arith, n .index, i .0) in e),
           a .placed ws s₁,
           b .placed ws (stands-on ws (nextPart (q .1)) (p .1) (a .advances) s₁),

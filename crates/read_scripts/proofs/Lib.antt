@@ -1,4 +1,4 @@
--- The laws of `scripts` that its own proofs and the crates above cite.
+-- The laws of `read_scripts` that its own proofs and the crates above cite.
 pub mod Words
 pub mod Laws
 pub mod Steps

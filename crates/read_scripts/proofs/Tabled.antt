@@ -21,7 +21,7 @@ use Rattle.read_messages.proofs.Readings.{bind-all, got-all, ask-inv}
 use Rattle.read_scripts.specs.Tree.{Body, close, part, tops, totalOver, parts, mapHeads, kindNumber}
 use Rattle.read_scripts.specs.Script.{Written, Script, readBody, readScript}
 use Rattle.read_scripts.specs.Table.{vacant, entered, startOf, tabulate, scanned}
-use Rattle.read_scripts.specs.Represents.{Numbered, Held, bodyIn, headAt, headIn, written, Placed, Low, Tabled, Answers}
+use Rattle.read_scripts.specs.Represents.{Numbered, Held, bodyIn, headAt, headIn, written, PartsAt, Low, Tabled, Answers}
 use Rattle.read_scripts.specs.declared.Table.{Table}
 use Rattle.read_scripts.specs.declared.Scan.{Scan}
 use Rattle.read_scripts.proofs.Laws.{body-advances, short}
@@ -165,7 +165,7 @@ record Filled (ws : List ℕ) (o : ℕ) (b : Script) (t u : Table) : Type 0 wher
 -- what is shown of a body's parts, for every table that they are written to
 abbrev Fills : List ℕ → (o : ℕ) → Script → Type 0
 Fills ws o b =
-    (t : Table) → Numbered (t .count) b → Placed ws b → t .count + parts b ≤ 64 → Room t → Owner o (t .count) → AllUnder (t .count) (bodyIn (t .kids) o) → Filled ws o b t (tabulate o b t)
+    (t : Table) → Numbered (t .count) b → PartsAt ws b → t .count + parts b ≤ 64 → Room t → Owner o (t .count) → AllUnder (t .count) (bodyIn (t .kids) o) → Filled ws o b t (tabulate o b t)
 
 -- A part and what stands in it are written: i is the part's number, t₁ the table with the part, t₂ with what stands in it too.
 module _ (ws : List ℕ) (o i : ℕ) (w : Written) (b r : Script) (t t₁ t₂ : Table) (e : i ≡ t .count) (l : t .count + (1 + (parts b + parts r)) ≤ 64) (W : Owner o (t .count))
@@ -188,7 +188,7 @@ module _ (ws : List ℕ) (o i : ℕ) (w : Written) (b r : Script) (t t₁ t₂ :
   next-below h B = rw h (below-append (t₂ .count) (bodyIn (t .kids) o) (i ∷ []) (below-more (t .count) (t₂ .count) (bodyIn (t .kids) o) (omega (arith, inside-count)) B) (omega (arith, inside-count), tt))
 
   -- the parts behind it are written
-  rest-filled : Fills ws o r → Numbered (t .count + 1 + parts b) r → Placed ws r → bodyIn (t₂ .kids) o ≡ bodyIn (t .kids) o ++ (i ∷ []) → AllUnder (t .count) (bodyIn (t .kids) o) → Filled ws o r t₂ (tabulate o r t₂)
+  rest-filled : Fills ws o r → Numbered (t .count + 1 + parts b) r → PartsAt ws r → bodyIn (t₂ .kids) o ≡ bodyIn (t .kids) o ++ (i ∷ []) → AllUnder (t .count) (bodyIn (t .kids) o) → Filled ws o r t₂ (tabulate o r t₂)
   rest-filled f N P h B = f t₂ (rw inside-count N) P (omega (arith, inside-count)) (F .wrote .room) (owner-more o (t .count) (t₂ .count) (omega (arith, inside-count)) W) (next-below h B)
 
   module _ (u : Table) (G : Filled ws o r t₂ u) where
@@ -221,7 +221,7 @@ module _ (ws : List ℕ) (o i : ℕ) (w : Written) (b r : Script) (t t₁ t₂ :
         (F .held)
 
     part-filled : bodyIn (t₂ .kids) o ≡ bodyIn (t .kids) o ++ (i ∷ []) → bodyIn (t₁ .kids) i ≡ [] → getD (t₁ .kinds) i 0 ≡ kindNumber (w .head) → getD (t₁ .starts) i 0 ≡ startOf w
-        → Numbered (t .count + 1) b → Placed ws (part i w b r) → Filled ws o (part i w b r) t u
+        → Numbered (t .count + 1) b → PartsAt ws (part i w b r) → Filled ws o (part i w b r) t u
     unfolding totalOver tops mapHeads
     part-filled h n k s N P = record {
       wrote = all-wrote;
@@ -243,13 +243,13 @@ module _ (ws : List ℕ) (o i : ℕ) (w : Written) (b r : Script) (t : Table) (e
   no-body : bodyIn (with-part .kids) i ≡ []
   no-body = ap members (entered-kids o kindOf (startOf w) t R W room i (other o (t .count) i W (omega arith) (omega arith))) ∙ R .fresh i (omega arith) (omega arith)
 
-  inside-filled : Fills ws i b → Numbered (t .count + 1) b → Placed ws b → Filled ws i b with-part (tabulate i b with-part)
+  inside-filled : Fills ws i b → Numbered (t .count + 1) b → PartsAt ws b → Filled ws i b with-part (tabulate i b with-part)
   inside-filled f N P =
       let c : with-part .count ≡ t .count + 1 = entered-wrote o kindOf (startOf w) t R W room .counts in
       f with-part (rw c N) P (omega arith) (entered-wrote o kindOf (startOf w) t R W room .room) (record { inside = omega arith; smaller = inl (omega arith) }) (rw no-body tt)
 
   -- a part and the parts behind it
-  both-filled : Filled ws i b with-part (tabulate i b with-part) → Fills ws o r → Numbered (t .count) (part i w b r) → Placed ws (part i w b r) → AllUnder (t .count) (bodyIn (t .kids) o)
+  both-filled : Filled ws i b with-part (tabulate i b with-part) → Fills ws o r → Numbered (t .count) (part i w b r) → PartsAt ws (part i w b r) → AllUnder (t .count) (bodyIn (t .kids) o)
       → Filled ws o (part i w b r) t (tabulate o r (tabulate i b with-part))
   both-filled F f N P B =
       let E = entered-wrote o kindOf (startOf w) t R W room in
@@ -269,7 +269,7 @@ module _ (ws : List ℕ) where
   filled o (part i w b r) t N P l R W B = both-filled ws o i w b r t (N .0) l R W (inside-filled ws o i w b r t (N .0) l R W (filled i b) (N .1) (P .1)) (filled o r) N P B
 
   -- the table of a script whose parts are numbered from 0 and stand where the words say
-  pub tabled : (b : Script) → Numbered 0 b → Placed ws b → Low 1024 b → parts b ≤ 64 → Tabled ws (tabulate 64 b vacant) b
+  pub tabled : (b : Script) → Numbered 0 b → PartsAt ws b → Low 1024 b → parts b ≤ 64 → Tabled ws (tabulate 64 b vacant) b
   tabled b N P L l =
       let none : (j : ℕ) → j < 65 → bodyIn (vacant .kids) j ≡ [] = λ j a. ap members (getD-replicate 65 j 0 0 a) ∙ members-empty in
       let top : bodyIn (vacant .kids) 64 ≡ [] = none 64 (omega arith) in

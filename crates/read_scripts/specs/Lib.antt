@@ -1,4 +1,4 @@
--- What the contracts of `scripts` cite. Assumes nothing: these are definitions.
+-- What the contracts of `read_scripts` cite. Assumes nothing: these are definitions.
 pub mod Tree
 pub mod Script
 pub mod Table

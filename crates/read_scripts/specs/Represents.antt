@@ -1,4 +1,4 @@
--- How a part table and the script's words stand for the tree that was read. The law that they do is in
+-- How a part table and the script's words represent the tree that was read. The law that they do is in
 -- proofs/Tabled.antt. Assumes nothing: these are definitions.
 use Prim.Native.Nat.{ℕ, _+_, _≤_}
 use mathlib.Core.Bool.{cond}
@@ -40,17 +40,17 @@ headAt ws k s =
 abbrev pub headIn : (script kinds starts : List ℕ) → ℕ → Head Message
 headIn ws kinds starts i = headAt ws (getD kinds i 0) (getD starts i 0)
 
--- every part is what the words say at its place
-abbrev pub Placed : (script : List ℕ) → Script → Type 0
-Placed ws close = Unit {0}
-Placed ws (part i w b r) = (headAt ws (kindNumber (w .head)) (startOf w) ≡ w .head) × Placed ws b × Placed ws r
+-- every part is what the words say at its index
+abbrev pub PartsAt : (script : List ℕ) → Script → Type 0
+PartsAt ws close = Unit {0}
+PartsAt ws (part i w b r) = (headAt ws (kindNumber (w .head)) (startOf w) ≡ w .head) × PartsAt ws b × PartsAt ws r
 
 -- no part's message starts behind the n-th word
 abbrev pub Low : (n : ℕ) → Script → Type 0
 Low n close = Unit {0}
 Low n (part i w b r) = (startOf w ≤ n) × Low n b × Low n r
 
--- the tree, its parts being what they are without their places
+-- the tree, its parts being what they are without the indices of their words
 abbrev pub written : Script → Body (Head Message)
 written b = mapHeads (λ w. w .head) b
 

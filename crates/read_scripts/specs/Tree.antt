@@ -63,7 +63,7 @@ module _ {H : Type 0} where
   abbrev pub timesIn : ℕ → Body H → ℕ
   timesIn j b = totalOver (λ i h. oneIf (eqb j i)) b
 
-  -- the body with one part more, at the place of its number
+  -- the body with one part more, where its number belongs
   unfoldable pub put : ℕ → H → Body H → Body H → Body H
   put n g b close = part n g b close
   put n g b (part i h s r) = cond (ltb n i) (part n g b (part i h s r)) (cond (eqb n i) (part i h s r) (part i h s (put n g b r)))

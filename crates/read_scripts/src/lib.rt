@@ -1,5 +1,5 @@
 // The script: body reader and part reader above the message reader, and the part table they fill. Questions 1 to 6 of
-// document 01. It rests on the promises of messages and sets.
+// document 01.
 use read_messages::Outcome;
 ghost use mathlib.Core.Path.{_≡_};
 ghost use Prim.Native.Nat.{suc, _+_, _-_, _≤_, _<_};

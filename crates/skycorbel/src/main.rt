@@ -1,5 +1,5 @@
-// The program: the words that standard input spells, and the reply to them as text. Everything between the bytes read and
-// the bytes written is `reply`. It rests on the reply to words, and for reading and writing on io.
+// The program: the words that standard input spells, and the reply to them as text. Everything between the bytes read
+// and the bytes written is `reply`.
 use base_slices::head;
 use program_replies::put_unfit;
 use program_replies::reply_to_words;
@@ -19,7 +19,7 @@ fn wide(x: u8) -> u32
     x as u32
 }
 
-// The little-endian word at a place.
+// The little-endian word at an index.
 fn word_at(input: &[u8], at: usize) -> u32
     requires { ⌜ at + 4 ≤ length (now input) ⌝ }
     ensures { λ r. ⌜ r ≡ wordOf (drop at (now (input .entry))) ⌝ }

@@ -1,4 +1,4 @@
--- Satisfaction read on trees is the paper's satisfaction of the process that the tree stands for (000, section 2.2).
+-- Satisfaction read on trees is the paper's satisfaction of the process that the tree represents (000, section 2.2).
 -- Assumes nothing.
 use Prim.Native.Nat.{ℕ, suc, _+_}
 use mathlib.Core.List.{_∷_}
@@ -52,11 +52,11 @@ module _ (n : ℕ) where
       let y = reaches-reduction x (good-move n b a t m g e) in
       (step (move-reduces a t b m (g .distinct) (g .once) e) (y .0), y .1)
 
-  -- the tree c is good, and stands for a process congruent to q
-  abbrev Stands : Process → Plain → Type 0
-  Stands q c = (process c ≅ q) × Good n c
+  -- the tree c is good, and represents a process congruent to q
+  abbrev TreeOf : Process → Plain → Type 0
+  TreeOf q c = (process c ≅ q) × Good n c
 
-  reduction-reaches : {p q : Process} → p ⟶* q → (b : Plain) → Good n b → process b ≅ p → (c : Plain) × Reaches b c × Stands q c
+  reduction-reaches : {p q : Process} → p ⟶* q → (b : Plain) → Good n b → process b ≅ p → (c : Plain) × Reaches b c × TreeOf q c
   reduction-reaches stop b g h = (b, stay, (h, g))
   reduction-reaches (step x y) b g h =
       let u = reduction-step x b (g .settled) (g .once) (g .unbound) h in
@@ -82,7 +82,7 @@ module _ (n : ℕ) where
       let z = within-sublocation y (good-part n b (p .2) c (p .0) (name (p .1)) g (p .3)) in
       (step (Loc (part-process (p .3))) (z .0), z .1)
 
-  sublocation-within : {p q : Process} → p ↓* q → (b : Plain) → Good n b → process b ≅ p → (c : Plain) × Within b c × Stands q c
+  sublocation-within : {p q : Process} → p ↓* q → (b : Plain) → Good n b → process b ≅ p → (c : Plain) × Within b c × TreeOf q c
   sublocation-within stop b g h = (b, here, (h, g))
   sublocation-within (step (Loc {n = m} {q = q} {r = r} x) y) b g h =
       let u = has-ambient b (g .settled) (name m) q r (StructTrans h x) in
@@ -170,7 +170,7 @@ agree n (placed i j t r) q w e b g =
       λ x. a .1 (congruent-satisfies r e (ambient (name m) (process b)) (process c) (StructSymm (wrapped-process (n + j) m b)) x),
     )
 
--- THEOREM: trees that stand for congruent processes meet the same rules. They may differ in order, in numbers and in the names
+-- THEOREM: trees that represent congruent processes meet the same rules. They may differ in order, in numbers and in the names
 -- of variables.
 pub same-sat : (n : ℕ) (r : Rule) → Later 0 r → (e : Names) (b c : Plain) → Good (n + 0) b → Good (n + 0) c → process b ≅ process c → Sat n e r b ↔ Sat n e r c
 same-sat n r w e b c g h p =

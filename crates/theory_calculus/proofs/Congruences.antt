@@ -13,7 +13,7 @@ use Rattle.theory_calculus.specs.Calculus.{Process, 𝟎, _‖_, ambient
 use Rattle.theory_calculus.specs.TreeProcess.{prefix}
 use Rattle.read_messages.proofs.Mentioning.{mentions-none, mentions-other}
 use Rattle.theory_calculus.proofs.Variables.{eqb-flip, occurs-input, occurs-under, occurs-less}
-use Rattle.theory_calculus.proofs.Shapes.{Tag, place, can, hear, say, Shape, noCells, cell, _⧺_, chain, Pick, here, there, Same, done, match, same-refl, same-trans, same-sym, same-append, same-eq, shape-nil, shape-assoc, append-comm, chain-append, chain-same}
+use Rattle.theory_calculus.proofs.Shapes.{Tag, amb, can, hear, say, Shape, noCells, cell, _⧺_, chain, Pick, here, there, Same, done, match, same-refl, same-trans, same-sym, same-append, same-eq, shape-nil, shape-assoc, append-comm, chain-append, chain-same}
 
 -- the message with its variables renamed
 unfoldable pub renamed : (ℕ → ℕ) → Message → Message
@@ -33,7 +33,7 @@ bound σ x n z = cond (eqb z x) n (σ z)
 unfoldable pub processShape : ℕ → (ℕ → ℕ) → Process → Shape
 processShape n σ 𝟎 = noCells
 processShape n σ (p ‖ q) = processShape n σ p ⧺ processShape n σ q
-processShape n σ (ambient m p) = cell (place (renamed σ m)) (processShape n σ p) noCells
+processShape n σ (ambient m p) = cell (amb (renamed σ m)) (processShape n σ p) noCells
 processShape n σ (action m p) = chain (items (renamed σ m)) (processShape n σ p)
 processShape n σ (input x p) = cell (hear n) (processShape (suc n) (bound σ x n) p) noCells
 processShape n σ (output m) = cell (say (renamed σ m)) noCells noCells
@@ -64,7 +64,7 @@ shape-alike : (n : ℕ) (σ τ : ℕ → ℕ) (y : ℕ) (p : Process) → occurs
 unfolding processShape occurs
 shape-alike n σ τ y 𝟎 a h = refl
 shape-alike n σ τ y (p ‖ q) a h = ap₂ _⧺_ (shape-alike n σ τ y p (omega arith) h) (shape-alike n σ τ y q (omega arith) h)
-shape-alike n σ τ y (ambient m p) a h = ap₂ (λ (k : Message) (s : Shape). cell (place k) s noCells) (message-alike σ τ y m (omega arith) h) (shape-alike n σ τ y p (omega arith) h)
+shape-alike n σ τ y (ambient m p) a h = ap₂ (λ (k : Message) (s : Shape). cell (amb k) s noCells) (message-alike σ τ y m (omega arith) h) (shape-alike n σ τ y p (omega arith) h)
 shape-alike n σ τ y (action m p) a h = ap₂ (λ (k : Message) (s : Shape). chain (items k) s) (message-alike σ τ y m (omega arith) h) (shape-alike n σ τ y p (omega arith) h)
 shape-alike n σ τ y (input x p) a h = let w = occurs-input x y p a in ap (λ (s : Shape). cell (hear n) s noCells) (shape-alike (suc n) (bound σ x n) (bound τ x n) y p (w .1) (bound-alike σ τ x n y (λ z _ e. h z e)))
 shape-alike n σ τ y (output m) a h = ap (λ (k : Message). cell (say k) noCells noCells) (message-alike σ τ y m a h)
@@ -95,7 +95,7 @@ pub rename-shape : (n : ℕ) (σ τ : ℕ → ℕ) (x y : ℕ) (p : Process) →
 unfolding processShape occurs substitute
 rename-shape n σ τ x y 𝟎 a h = refl
 rename-shape n σ τ x y (p ‖ q) a h = ap₂ _⧺_ (rename-shape n σ τ x y p (omega arith) h) (rename-shape n σ τ x y q (omega arith) h)
-rename-shape n σ τ x y (ambient m p) a h = ap₂ (λ (k : Message) (s : Shape). cell (place k) s noCells) (rename-message σ τ x y m (omega arith) h) (rename-shape n σ τ x y p (omega arith) h)
+rename-shape n σ τ x y (ambient m p) a h = ap₂ (λ (k : Message) (s : Shape). cell (amb k) s noCells) (rename-message σ τ x y m (omega arith) h) (rename-shape n σ τ x y p (omega arith) h)
 rename-shape n σ τ x y (action m p) a h = ap₂ (λ (k : Message) (s : Shape). chain (items k) s) (rename-message σ τ x y m (omega arith) h) (rename-shape n σ τ x y p (omega arith) h)
 rename-shape n σ τ x y (input z p) a h = let w = occurs-input z y p a in byTest (eqb z x)
     (λ t. rw t (ap (λ (s : Shape). cell (hear n) s noCells) (shape-alike (suc n) (bound σ z n) (bound τ z n) y p (w .1) (bound-alike σ τ z n y (λ u c d. h .1 u (subst (λ k. eqb u k ≡ false) (eqb-true z x t) c) d)))))
@@ -124,7 +124,7 @@ sound (StructPath {m = m} {k = k} {p = p}) n σ = same-eq (chain-append (items (
 
 -- the process of a shape
 unfoldable prime : Tag → Process → Process
-prime (place m) p = ambient m p
+prime (amb m) p = ambient m p
 prime (can m) p = action m p
 prime (hear x) p = input x p
 prime (say m) p = output m
@@ -145,7 +145,7 @@ par-swap = StructTrans (StructSymm StructParAssoc) (StructTrans (StructPar Struc
 
 prime-cong : (g : Tag) {p q : Process} → p ≅ q → prime g p ≅ prime g q
 unfolding prime
-prime-cong (place m) h = StructAmb h
+prime-cong (amb m) h = StructAmb h
 prime-cong (can m) h = StructAction h
 prime-cong (hear x) h = StructInput h
 prime-cong (say m) h = StructRefl

@@ -10,7 +10,7 @@ use Rattle.read_scripts.specs.Tree.{Head, close, part, PlainHead, Plain}
 use Rattle.theory_calculus.specs.Satisfaction.{Divided, nothing, left, right}
 use Rattle.theory_calculus.specs.Calculus.{occurs, Process, 𝟎, _‖_, ambient, _≅_, StructRefl, StructSymm, StructTrans, StructParAssoc, StructZeroPar}
 use Rattle.theory_calculus.specs.TreeProcess.{prefix, piece, process}
-use Rattle.theory_calculus.proofs.Shapes.{Tag, place, can, hear, say, Shape, noCells, cell, _⧺_, chain, Same, done, match, same-sym, pick-sum}
+use Rattle.theory_calculus.proofs.Shapes.{Tag, amb, can, hear, say, Shape, noCells, cell, _⧺_, chain, Same, done, match, same-sym, pick-sum}
 use Rattle.theory_calculus.proofs.Congruences.{renamed-own, bound, own, processShape, sound, complete, BelowAll, highest, top-below, par-both, par-swap}
 
 -- a message that is one item
@@ -54,7 +54,7 @@ settled-inside (ambient-part x) = x
 
 -- the cell that a settled part is: its tag and the shape inside it
 unfoldable pub tag : ℕ → PlainHead → Tag
-tag n (Head.ambient m) = place m
+tag n (Head.ambient m) = amb m
 tag n (Head.action []) = can emptyMessage
 tag n (Head.action (i ∷ is)) = can i
 tag n (Head.receipt v) = hear n
@@ -126,13 +126,13 @@ module _ (n : ℕ) where
   only-nil close w h = refl
   only-nil (part k h b r) w e = absurd (same-nil (same-sym (subst (λ u. Same u noCells) (settled-flat n k h b r w) e)) tt)
 
-  pub tag-place : (h : PlainHead) (m : Message) → tag n h ≡ place m → h ≡ Head.ambient m
+  pub tag-amb : (h : PlainHead) (m : Message) → tag n h ≡ amb m → h ≡ Head.ambient m
   unfolding tag
-  tag-place (Head.ambient k) m e = cc
-  tag-place (Head.action []) m e = cc
-  tag-place (Head.action (i ∷ is)) m e = cc
-  tag-place (Head.receipt v) m e = cc
-  tag-place (Head.output k) m e = cc
+  tag-amb (Head.ambient k) m e = cc
+  tag-amb (Head.action []) m e = cc
+  tag-amb (Head.action (i ∷ is)) m e = cc
+  tag-amb (Head.receipt v) m e = cc
+  tag-amb (Head.output k) m e = cc
 
   pub tree-sound : (b : Plain) {p : Process} → process b ≅ p → Same (flattened n b) (processShape n own p)
   unfolding flattened

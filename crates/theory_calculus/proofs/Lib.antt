@@ -1,5 +1,5 @@
 -- That satisfaction as the checker reads it is the paper's, and the laws that lead there; that order, numbers and variables do
--- not matter to it; and that a script's first tree stands for what is written. Assumes nothing.
+-- not matter to it; and that a script's first tree represents what is written. Assumes nothing.
 pub mod Variables
 pub mod Shapes
 pub mod Congruences

@@ -1,4 +1,4 @@
--- Trees that differ only in order, numbers and variables stand for congruent processes and meet the same rules, and a move of
+-- Trees that differ only in order, numbers and variables represent congruent processes and meet the same rules, and a move of
 -- one is matched by a move of the other. Assumes nothing.
 use Prim.Native.Nat.{ℕ, _+_}
 use mathlib.Core.List.{List}
@@ -38,7 +38,7 @@ part-bindings : (v k : ℕ) (h : PlainHead) (i r : Plain) → bindings v (part k
 unfolding totalOver
 part-bindings v k h i r = refl
 
--- THEOREM: they stand for congruent processes.
+-- THEOREM: they represent congruent processes.
 pub reordered-congruent : {b c : Plain} → Reordered b c → Once b → process b ≅ process c
 reordered-congruent nothing o = StructRefl
 reordered-congruent (among {k = k} {h = h} {i = i} {r = r} p x y) o =
@@ -49,7 +49,7 @@ reordered-congruent (receipt {k = k} {u = u} {v = v} {i = i} {j = j} {r = r} p z
     let inner = reordered-congruent x (λ w. omega (arith, o w, once w, binds-shrinks w .delivers v (variable u) i)) in
     matched k (Head.receipt v) i r p (renamed-receipt i j u v z (StructTrans (StructSymm (substitute-process v (variable u) i clear)) inner)) (reordered-congruent y (λ w. omega (arith, o w, once w)))
 
--- THEOREM: where two trees stand for congruent processes, a move of one is matched by a move of the other.
+-- THEOREM: where two trees represent congruent processes, a move of one is matched by a move of the other.
 pub move-matched : (n : ℕ) (b c : Plain) → Good n b → Good n c → process b ≅ process c → (a t : ℕ) (m : MoveMade (List Message)) → move a t b ≡ some m →
     (a′ : ℕ) × (t′ : ℕ) × (m′ : MoveMade (List Message)) × (move a′ t′ c ≡ some m′) × (process (m .body) ≅ process (m′ .body))
 move-matched n b c g h p a t m e =

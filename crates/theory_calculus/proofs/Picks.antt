@@ -11,9 +11,9 @@ use Rattle.theory_calculus.specs.Satisfaction.{Divided, nothing, left, r
 use Rattle.theory_calculus.specs.Order.{HasPart, front, behind}
 use Rattle.theory_calculus.specs.Calculus.{occurs, Process, 𝟎, _‖_, ambient, action, input, output, _≅_, StructRefl, StructSymm, StructTrans, StructZeroPar}
 use Rattle.theory_calculus.specs.TreeProcess.{prefix, piece, process}
-use Rattle.theory_calculus.proofs.Shapes.{Tag, place, can, hear, say, Shape, noCells, cell, _⧺_, chain, Pick, here, there, Same, done, match, same-sym}
+use Rattle.theory_calculus.proofs.Shapes.{Tag, amb, can, hear, say, Shape, noCells, cell, _⧺_, chain, Pick, here, there, Same, done, match, same-sym}
 use Rattle.theory_calculus.proofs.Congruences.{renamed-own, bound, own, processShape, complete, BelowAll, highest, top-below, par-both, par-swap}
-use Rattle.theory_calculus.proofs.Divisions.{Item, Settled, SettledPart, action-part, settled-part, settled-rest, settled-inside, settled-join, tag, coreOf, flattened, settled-flat, flat-close, tag-place, tree-sound, tree-complete, as-nothing}
+use Rattle.theory_calculus.proofs.Divisions.{Item, Settled, SettledPart, action-part, settled-part, settled-rest, settled-inside, settled-join, tag, coreOf, flattened, settled-flat, flat-close, tag-amb, tree-sound, tree-complete, as-nothing}
 
 pub part-total : (f : ℕ → PlainHead → ℕ) {b i c : Plain} {k : ℕ} {h : PlainHead} → HasPart b k h i c → totalOver f b ≡ f k h + (totalOver f i + totalOver f c)
 unfolding totalOver
@@ -177,9 +177,9 @@ module _ (b : Plain) (w : Settled b) where
   unfolding processShape _⧺_ coreOf highest
   has-ambient m p q h =
       let n : ℕ = above (p ‖ q) in
-      let y = prime n b w (tree-low (p ‖ q)) (place m) (processShape n own p) q (top-below q n (omega arith))
-      (same-sym (subst (λ (u : Message). Same (flattened n b) (cell (place u) (processShape n own p) (processShape n own q))) (renamed-own m) (tree-sound n b h))) in
-      let z : Cored n b q (processShape n own p) (Head.ambient m) = subst (Cored n b q (processShape n own p)) (tag-place n (y .0) m (y .1)) (y .2) in (
+      let y = prime n b w (tree-low (p ‖ q)) (amb m) (processShape n own p) q (top-below q n (omega arith))
+      (same-sym (subst (λ (u : Message). Same (flattened n b) (cell (amb u) (processShape n own p) (processShape n own q))) (renamed-own m) (tree-sound n b h))) in
+      let z : Cored n b q (processShape n own p) (Head.ambient m) = subst (Cored n b q (processShape n own p)) (tag-amb n (y .0) m (y .1)) (y .2) in (
         z .0,
         complete n (λ v l. omega (arith, tree-low (p ‖ q) v l, part-occurs v (z .0 .at), occurs-ambient v m (process (z .0 .inside)))) (top-below p n (omega arith)) (z .1),
         settled-inside (z .2),

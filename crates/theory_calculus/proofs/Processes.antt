@@ -1,4 +1,4 @@
--- What the operations on a tree make of the process that it stands for, up to congruence: where no number stands twice, and
+-- What the operations on a tree make of the process that it represents, up to congruence: where no number stands twice, and
 -- for substitution where the variable is bound nowhere inside. Assumes nothing.
 use Prim.Native.Nat.{ℕ, _+_, _≤_}
 use mathlib.Core.Bool.{Bool, true, false, cond, false≢true}

@@ -59,14 +59,14 @@ action≢ambient e = let z : _≡_ {A = ℕ} 0 1 = cc in omega arith
 
 -- What stands before and after each move: the left and the right side of a reduction rule, beside what is not concerned.
 module _ {a t : ℕ} {b c : Plain} (d : Distinct b) where
-  module _ (x : Opened plain a t b c) (is : List Message) (f : x .doer ≡ Head.action (opens (name (x .place)) ∷ is)) where
+  module _ (x : Opened plain a t b c) (is : List Message) (f : x .doer ≡ Head.action (opens (name (x .sought)) ∷ is)) where
     -- the actor stands beside the target, not inside it
     opened-actor : findPart a (removePart t b) ≡ some (x .doer, x .after)
     opened-actor =
         find-removePart a t b (apart a t b (x .actor) (x .target) (λ z.
-        action≢ambient (sym f ∙ ap (λ (p : PlainHead × Plain). p .0) z ∙ plain-name (x .goal) (x .place) (x .named)))) ∙ x .actor
+        action≢ambient (sym f ∙ ap (λ (p : PlainHead × Plain). p .0) z ∙ plain-name (x .goal) (x .sought) (x .named)))) ∙ x .actor
 
-    opened-before : process b ≅ (action (opens (name (x .place))) (prefix is (process (x .after))) ‖ ambient (name (x .place)) (process (x .room))) ‖ process (removePart a (removePart t b))
+    opened-before : process b ≅ (action (opens (name (x .sought))) (prefix is (process (x .after))) ‖ ambient (name (x .sought)) (process (x .room))) ‖ process (removePart a (removePart t b))
     opened-before =
         StructTrans (find-named t b (d t) (x .target) (x .named))
         (StructTrans (par-both StructRefl (find-action a (removePart t b) (omega (arith, d a, dropped a t b)) opened-actor f)) pull)
@@ -97,7 +97,7 @@ module _ {a t : ℕ} {b c : Plain} (d : Distinct b) where
           times-shrinks j .delivers (x .bound) (x .sent) (x .after),
         )))
 
-  module _ (x : Entered plain a t b c) (is : List Message) (f : x .doer ≡ Head.action (enter (name (x .place)) ∷ is)) where
+  module _ (x : Entered plain a t b c) (is : List Message) (f : x .doer ≡ Head.action (enter (name (x .sought)) ∷ is)) where
     target-once : timesIn t (removePart (x .mover) b) ≤ 1
     target-once = omega (arith, d t, dropped t (x .mover) b)
 
@@ -105,13 +105,13 @@ module _ {a t : ℕ} {b c : Plain} (d : Distinct b) where
     actor-entering = omega (arith, d a, counted a (x .mover) b _ (x .around))
 
     entered-before : process b ≅
-        (ambient (name (x .own)) (action (enter (name (x .place))) (prefix is (process (x .after))) ‖ process (removePart a (x .inside))) ‖ ambient (name (x .place)) (process (x .room))) ‖ process (removePart t (removePart (x .mover) b))
+        (ambient (name (x .own)) (action (enter (name (x .sought))) (prefix is (process (x .after))) ‖ process (removePart a (x .inside))) ‖ ambient (name (x .sought)) (process (x .room))) ‖ process (removePart t (removePart (x .mover) b))
     entered-before =
         StructTrans (find-named (x .mover) b (d (x .mover)) (x .around) (x .shell-named))
         (StructTrans (par-both (StructAmb (find-action a (x .inside) actor-entering (x .actor) f)) (find-named t (removePart (x .mover) b) target-once (entered-target plain x) (x .named))) (StructSymm StructParAssoc))
 
     pub entered-after : process c ≅
-        ambient (name (x .place)) (ambient (name (x .own)) (prefix is (process (x .after)) ‖ process (removePart a (x .inside))) ‖ process (x .room)) ‖ process (removePart t (removePart (x .mover) b))
+        ambient (name (x .sought)) (ambient (name (x .own)) (prefix is (process (x .after)) ‖ process (removePart a (x .inside))) ‖ process (x .room)) ‖ process (removePart t (removePart (x .mover) b))
     unfolding piece
     entered-after =
         let k : ℕ = x .mover in
@@ -123,19 +123,19 @@ module _ {a t : ℕ} {b c : Plain} (d : Distinct b) where
         (StructTrans (alter-named t (removePart k b) target-once (entered-target plain x) (x .named) (put k (Head.ambient (name (x .own))) s))
         (StructPar (StructAmb (StructTrans (put-process k (Head.ambient (name (x .own))) s (x .room) clear) (StructPar (StructAmb (spend-action a (x .inside) actor-entering (x .actor) f)))))))
 
-  module _ (x : Exited plain a t b c) (is : List Message) (f : x .doer ≡ Head.action (exit (name (x .place)) ∷ is)) where
+  module _ (x : Exited plain a t b c) (is : List Message) (f : x .doer ≡ Head.action (exit (name (x .sought)) ∷ is)) where
     actor-leaving : timesIn a (x .inside) ≤ 1
     actor-leaving = omega (arith, d a, counted a t b _ (x .target), counted a (x .mover) (x .room) _ (x .around))
 
     exited-before : process b ≅
-        ambient (name (x .place)) (ambient (name (x .own)) (action (exit (name (x .place))) (prefix is (process (x .after))) ‖ process (removePart a (x .inside))) ‖ process (removePart (x .mover) (x .room))) ‖ process (removePart t b)
+        ambient (name (x .sought)) (ambient (name (x .own)) (action (exit (name (x .sought))) (prefix is (process (x .after))) ‖ process (removePart a (x .inside))) ‖ process (removePart (x .mover) (x .room))) ‖ process (removePart t b)
     exited-before =
         StructTrans (find-named t b (d t) (x .target) (x .named))
         (StructPar (StructAmb (StructTrans (find-named (x .mover) (x .room) (omega (arith, d (x .mover), counted (x .mover) t b _ (x .target))) (x .around) (x .shell-named))
         (StructPar (StructAmb (find-action a (x .inside) actor-leaving (x .actor) f))))))
 
     pub exited-after : process c ≅
-        (ambient (name (x .own)) (prefix is (process (x .after)) ‖ process (removePart a (x .inside))) ‖ ambient (name (x .place)) (process (removePart (x .mover) (x .room)))) ‖ process (removePart t b)
+        (ambient (name (x .own)) (prefix is (process (x .after)) ‖ process (removePart a (x .inside))) ‖ ambient (name (x .sought)) (process (removePart (x .mover) (x .room)))) ‖ process (removePart t b)
     unfolding piece
     exited-after =
         let k : ℕ = x .mover in
@@ -148,12 +148,12 @@ module _ {a t : ℕ} {b c : Plain} (d : Distinct b) where
         (StructTrans (par-both (StructAmb (spend-action a (x .inside) actor-leaving (x .actor) f)) (alter-named t b (d t) (x .target) (x .named) (removePart k))) (StructSymm StructParAssoc)))
 
   here-reduces : {news : List (ℕ × Message)} → Once b → Here plain a t b c news → process b ⟶ process c
-  here-reduces u (by-open x e) = let (is, f) = plain-open (x .doer) (x .place) (x .asked) in RedCong (opened-before x is f) (RedPar RedOpen) (StructSymm (opened-after x is f))
+  here-reduces u (by-open x e) = let (is, f) = plain-open (x .doer) (x .sought) (x .asked) in RedCong (opened-before x is f) (RedPar RedOpen) (StructSymm (opened-after x is f))
   here-reduces u (by-receive x) =
       let clear : bindings (x .bound) (x .after) ≡ 0 = omega (arith, u (x .bound), find-total (λ k h. binds (x .bound) h) a b _ (x .actor), own-binds (x .bound)) in
       RedCong (received-before x) (RedPar RedIO) (StructSymm (StructTrans (received-after x) (StructPar (substitute-process (x .bound) (x .sent) (x .after) clear))))
-  here-reduces u (by-enter x e) = let (is, f) = plain-enter (x .doer) (x .place) (x .asked) in RedCong (entered-before x is f) (RedPar RedIn) (StructSymm (entered-after x is f))
-  here-reduces u (by-exit x e) = let (is, f) = plain-exit (x .doer) (x .place) (x .asked) in RedCong (exited-before x is f) (RedPar RedOut) (StructSymm (exited-after x is f))
+  here-reduces u (by-enter x e) = let (is, f) = plain-enter (x .doer) (x .sought) (x .asked) in RedCong (entered-before x is f) (RedPar RedIn) (StructSymm (entered-after x is f))
+  here-reduces u (by-exit x e) = let (is, f) = plain-exit (x .doer) (x .sought) (x .asked) in RedCong (exited-before x is f) (RedPar RedOut) (StructSymm (exited-after x is f))
 
 makes-reduces : (a t : ℕ) {b c : Plain} {news : List (ℕ × Message)} → Distinct b → Once b → Makes plain (moveHere plain a t) b c news → process b ⟶ process c
 unfolding process piece totalOver

@@ -105,7 +105,7 @@ module _ {a t : ℕ} {b c : Plain} where
   unfolding openMove toOpen
   open-made x =
       bind-some _ (x .target) ∙ bind-some _ (x .actor)
-      ∙ bind-some _ (passes _ (rw (x .asked, x .named) (same-name (x .place)))) ∙ ap (λ (s : Plain). some (quiet s)) (sym (x .result))
+      ∙ bind-some _ (passes _ (rw (x .asked, x .named) (same-name (x .sought)))) ∙ ap (λ (s : Plain). some (quiet s)) (sym (x .result))
 
   receive-made : {news : List (ℕ × Message)} → Received plain a t b c news → receiveMove plain a t b ≡ some (record { body = c; news = news })
   unfolding receiveMove variableOf messageOf
@@ -117,13 +117,13 @@ module _ {a t : ℕ} {b c : Plain} where
   unfolding enterMove toEnter
   enter-made x w =
       bind-some _ (x .target) ∙ bind-some _ w ∙ bind-some _ (x .around) ∙ bind-some _ (x .actor)
-      ∙ bind-some _ (passes _ (rw (x .another, x .shell-named, named-is (x .own), x .asked, x .named) (same-name (x .place)))) ∙ ap (λ (s : Plain). some (quiet s)) (sym (x .result))
+      ∙ bind-some _ (passes _ (rw (x .another, x .shell-named, named-is (x .own), x .asked, x .named) (same-name (x .sought)))) ∙ ap (λ (s : Plain). some (quiet s)) (sym (x .result))
 
   exit-made : (x : Exited plain a t b c) → holder a (x .room) ≡ some (x .mover) → exitMove plain a t b ≡ some (quiet c)
   unfolding exitMove toExit
   exit-made x w =
       bind-some _ (x .target) ∙ bind-some _ w ∙ bind-some _ (x .around) ∙ bind-some _ (x .actor)
-      ∙ bind-some _ (passes _ (rw (x .shell-named, named-is (x .own), x .asked, x .named) (same-name (x .place)))) ∙ ap (λ (s : Plain). some (quiet s)) (sym (x .result))
+      ∙ bind-some _ (passes _ (rw (x .shell-named, named-is (x .own), x .asked, x .named) (same-name (x .sought)))) ∙ ap (λ (s : Plain). some (quiet s)) (sym (x .result))
 
 module _ (a t : ℕ) (b : Plain) where
   -- an action opens, a receipt does not
@@ -226,7 +226,7 @@ run-open : {b b₁ b₂ i j : Plain} {a t n : ℕ} {is : List Message} → Disti
 unfolding firstOf firstItem asks headName nameOf moveHere
 run-open {b} {b₁} {b₂} {i} {j} {a} {t} {n} {is} d q p =
     let x : Opened plain a t b (spend plain a (mergeParts i (removePart t b))) = record {
-      place = n;
+      sought = n;
       doer = Head.action (opens (name n) ∷ is);
       goal = Head.ambient (name n);
       after = j;
@@ -277,7 +277,7 @@ unfolding firstOf firstItem asks headName nameOf moveHere
 run-enter {b} {b₁} {b₂} {i} {i₁} {j} {room} {a} {t} {k} {n} {m} {is} d p o q =
     let c : Plain = alter t (λ e. e) (put k (Head.ambient (name n)) (spend plain a i)) (removePart k b) in
     let x : Entered plain a t b c = record {
-      place = m;
+      sought = m;
       own = n;
       mover = k;
       shell = Head.ambient (name n);
@@ -313,7 +313,7 @@ run-leave {b} {b₁} {i} {i₁} {j} {room} {room₁} {a} {t} {k} {n} {m} {is} d 
     let e : Distinct room = inside-distinct q d in
     let c : Plain = put k (Head.ambient (name n)) (spend plain a i) (alter t (λ g. g) (removePart k) b) in
     let x : Exited plain a t b c = record {
-      place = m;
+      sought = m;
       own = n;
       mover = k;
       shell = Head.ambient (name n);

@@ -8,7 +8,7 @@ use Rattle.read_messages.specs.Message.{Message}
 
 -- what a process is that is no product: an ambient, one item and what it guards, an input, an output
 pub data Tag : Type 0 where
-  place : Message → Tag  -- M[..]
+  amb : Message → Tag  -- M[..]
   can : Message → Tag  -- one item
   hear : ℕ → Tag  -- (x)
   say : Message → Tag  -- ⟨M⟩

@@ -35,7 +35,7 @@ message-twice x y r (opens m) z = ap opens (message-twice x y r m z)
 message-twice x y r emptyMessage z = refl
 message-twice x y r (path m k) z = ap₂ path (message-twice x y r m (omega arith)) (message-twice x y r k (omega arith))
 
--- a variable is gone when a message without it stands for it
+-- a variable is gone when a message without it represents it
 message-gone : (x : ℕ) (r m : Message) → mentions x r ≡ 0 → mentions x (message.substitute x r m) ≡ 0
 unfolding message.substitute mentions
 message-gone x r (name n) z = refl

@@ -11,7 +11,7 @@ use Rattle.theory_calculus.specs.Written.{writtenPart, written, Steps, s
 use Rattle.theory_calculus.proofs.Congruences.{par-both, action-items}
 use Rattle.theory_calculus.proofs.Processes.{Distinct, settle-process}
 
--- "An action is held as its items": a part as it is held stands for what is written
+-- "An action is held as its items": a part as it is held represents what is written
 held-part : (h : Head Message) {p q : Process} → p ≅ q → piece (headWithItems h) p ≅ writtenPart h q
 unfolding piece headWithItems writtenPart
 held-part (Head.ambient m) e = StructAmb e
@@ -19,13 +19,13 @@ held-part (Head.action m) e = StructTrans (StructSymm (action-items m)) (StructA
 held-part (Head.receipt v) e = StructInput e
 held-part (Head.output m) e = StructRefl
 
--- a script that is held stands for what is written
+-- a script that is held represents what is written
 pub held-written : (b : Script) → process (withItems b) ≅ written b
 unfolding withItems mapHeads process written
 held-written close = StructRefl
 held-written (part k w b r) = par-both (held-part (w .head) (held-written b)) (held-written r)
 
--- THEOREM: the first tree stands for what is written, up to congruence, where no number stands twice.
+-- THEOREM: the first tree represents what is written, up to congruence, where no number stands twice.
 pub started-written : (b : Script) → Distinct (withItems b) → process (started b) ≅ written b
 unfolding started
 started-written b d = StructTrans (settle-process (withItems b) d) (held-written b)

@@ -86,7 +86,7 @@ _⟶*_ = Star _⟶_
 abbrev pub _↓*_ : Process → Process → Type 0
 _↓*_ = Star _↓_
 
--- "Satisfaction": P ⊨ A, where e are the names that the variables of A stand for. Names are 1, 2, 3, ..; the paper's T is
+-- "Satisfaction": P ⊨ A, where e are the names that the variables of A represent. Names are 1, 2, 3, ..; the paper's T is
 -- `truth`, its A @ n is PLACED n A.
 unfoldable pub Satisfies : Names → Process → Rule → Type 0
 Satisfies e p (truth i) = Unit {0}

@@ -1,4 +1,4 @@
--- The process that a tree of the plain machine stands for: the composition of its parts, in their order and without their
+-- The process that a tree of the plain machine represents: the composition of its parts, in their order and without their
 -- numbers; an action is the chain of its items. This alone joins the tree of parts and the calculus. Assumes nothing: these are
 -- definitions.
 use mathlib.Core.List.{List, [], _∷_}

@@ -1,5 +1,5 @@
 -- The tree that a script begins with is good: settled, its parts numbered apart and below the number of parts, its receipts'
--- variables apart, and no variable free; and it stands for what is written. Assumes nothing.
+-- variables apart, and no variable free; and it represents what is written. Assumes nothing.
 use Prim.Native.Nat.{ℕ, _+_, _≤_}
 use mathlib.Core.Bool.{cond}
 use mathlib.Core.List.{List}

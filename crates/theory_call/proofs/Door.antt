@@ -242,7 +242,7 @@ module _ (G : ℕ) where
         let a = h (rule-next G c q x l .1) in
         record { low = a .low; rises = omega (arith, a .rises, x .number); fits = (term-fits G (q .0) (at-termed (kind (q .0)) e) (rule-next G c q x l .0), a .fits) };
     chooses = λ somes c q p x k s h. ruled-one c q p (some-name (c .index)) x h (λ J P z. z);
-    places = λ somes c q p x e o h l.
+    placings = λ somes c q p x e o h l.
         let a = h (rule-next G c q x l .1) in
         record { low = a .low; rises = omega (arith, a .rises, x .number); fits = (omega (arith, a .rises), term-fits G (q .0) (placed-termed (kind (q .0)) e) (rule-next G c q x l .0), a .fits) };
   }

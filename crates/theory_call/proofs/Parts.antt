@@ -19,7 +19,7 @@ use Rattle.theory_calculus.specs.Calculus.{Process}
 use Rattle.theory_calculus.specs.TreeProcess.{prefix, piece}
 use Rattle.theory_calculus.specs.Written.{writtenPart}
 use Rattle.theory_calculus.proofs.Variables.{free}
-use Rattle.theory_calculus.proofs.Shapes.{Shape, noCells, cell, place, chain, chain-append}
+use Rattle.theory_calculus.proofs.Shapes.{Shape, noCells, cell, amb, chain, chain-append}
 use Rattle.theory_calculus.proofs.Congruences.{renamed, processShape}
 use Rattle.theory_decision.proofs.Fits.{MessageAll, ItemsAll}
 use Rattle.theory_call.specs.Nesting.{messageNesting, partNesting}
@@ -136,7 +136,7 @@ ambient-guarded m = record {
   makes = Head.ambient;
   reads = λ read inside around i c. refl;
   writes = λ ix i b. refl;
-  shaped = λ n ρ σ τ p q a e. ap₂ (λ (z : Message) (t : Shape). cell (place z) t noCells) (renamed-twice τ ρ σ m a) e;
+  shaped = λ n ρ σ τ p q a e. ap₂ (λ (z : Message) (t : Shape). cell (amb z) t noCells) (renamed-twice τ ρ σ m a) e;
   frees = λ v p. refl;
   nests = λ n. refl;
 }

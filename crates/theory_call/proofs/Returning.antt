@@ -1,5 +1,5 @@
 -- What is read of the words of a tree that was written: a script whose process has the shape of the tree's. So the round trip:
--- a tree that is written and read again stands for the same process. Assumes nothing.
+-- a tree that is written and read again represents the same process. Assumes nothing.
 use Prim.Native.Nat.{ℕ, zero, suc, _+_, _≤_, _<_}
 use mathlib.Core.Bool.{true, false, _&&_}
 use mathlib.Core.List.{List, [], _∷_, _++_, append-nil}

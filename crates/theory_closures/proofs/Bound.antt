@@ -198,7 +198,7 @@ module _ (s r : ℕ) (σ : Bindings) (small : Small s σ) (few : length σ ≤ r
   here-costs : (a t : ℕ) (b c : Closure) (news : Bindings) → Here (viewUnder σ) a t b c news → tallyOf (excess s) b ≡ 0 → Distinct b → tallyOf (budget B) c + 1 ≤ tallyOf (budget B) b
   here-costs a t b c news (by-open x e) z d =
       let k = asks σ (x .doer) _ (x .asked) (λ w. let q : _≡_ {A = ℕ} 0 1 = cc in omega arith) in
-      let g = headName-inv (viewUnder σ) (x .goal) (x .place) (x .named) in
+      let g = headName-inv (viewUnder σ) (x .goal) (x .sought) (x .named) in
       let n : eqb a t ≡ false = apart a t b (x .actor) (x .target) (λ w. action≢ambient (sym (k .same) ∙ ap (λ (p : ClosureHead × Closure). p .0) w ∙ g .1)) in
       let f : findPart a (removePart t b) ≡ some (x .doer, x .after) = find-removePart a t b n ∙ x .actor in
       let l : timesIn a (x .room) ≡ 0 = omega (arith, ap oneIf (eq-eqb a a refl), find-total (λ i h. oneIf (eqb a i)) t b _ (x .target), find-total (λ i h. oneIf (eqb a i)) a (removePart t b) _ f, d a) in

@@ -155,7 +155,7 @@ module _ (σ : Bindings) where
     of-spend T σ a (mergeParts (x .room) (removePart t b)),
     of-merge T (x .room) (removePart t b),
     of-find T t b _ (x .target),
-    open-inside T (x .goal) (x .room) (named-open T σ (x .goal) (x .place) (x .named)),
+    open-inside T (x .goal) (x .room) (named-open T σ (x .goal) (x .sought) (x .named)),
   )))
   here-step a t b c news (by-receive x) = takes (record {
     taker = a;
@@ -174,7 +174,7 @@ module _ (σ : Bindings) where
   })
   here-step a t b c news (by-enter x e) = spends e (λ T. rw (x .result) (omega (
     arith,
-    of-alter T t (put (x .mover) (x .shell) (spend (viewUnder σ) a (x .inside))) (removePart (x .mover) b) _ (entered-target (viewUnder σ) x) (named-open T σ (x .goal) (x .place) (x .named)),
+    of-alter T t (put (x .mover) (x .shell) (spend (viewUnder σ) a (x .inside))) (removePart (x .mover) b) _ (entered-target (viewUnder σ) x) (named-open T σ (x .goal) (x .sought) (x .named)),
     of-put T (x .mover) (x .shell) (spend (viewUnder σ) a (x .inside)) (x .room),
     of-spend T σ a (x .inside),
     of-find T (x .mover) b _ (x .around),
@@ -184,7 +184,7 @@ module _ (σ : Bindings) where
   here-step a t b c news (by-exit x e) = spends e (λ T. rw (x .result) (omega (
     arith,
     of-put T (x .mover) (x .shell) (spend (viewUnder σ) a (x .inside)) (alter t (λ g. g) (removePart (x .mover)) b),
-    of-alter T t (removePart (x .mover)) b _ (x .target) (named-open T σ (x .goal) (x .place) (x .named)),
+    of-alter T t (removePart (x .mover)) b _ (x .target) (named-open T σ (x .goal) (x .sought) (x .named)),
     of-spend T σ a (x .inside),
     of-find T (x .mover) (x .room) _ (x .around),
     open-inside T (x .shell) (x .inside) (named-open T σ (x .shell) (x .own) (x .shell-named)),

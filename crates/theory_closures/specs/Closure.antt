@@ -1,6 +1,6 @@
 -- The closure machine (document 01, "The engine keeps closures (004): message once, newest binding first, an offset into each
 -- action"): the same moves as the plain machine's, on a tree whose messages are the script's, beside the bindings; the plain
--- tree that a closure stands for; and the closure that a script begins with. Assumes nothing: these are definitions.
+-- tree that a closure represents; and the closure that a script begins with. Assumes nothing: these are definitions.
 use Prim.Native.Nat.{ℕ, suc}
 use mathlib.Core.Bool.{Bool, false}
 use mathlib.Core.List.{List, [], _∷_, _++_}
@@ -60,7 +60,7 @@ settledUnder σ (some m) = some (record { body = settleUnder (m .news ++ σ) (m 
 unfoldable pub closureMove : Bindings → (actor target : ℕ) → Closure → Option (MoveMade Action)
 closureMove σ a t b = settledUnder σ (anywhere (viewUnder σ) (moveHere (viewUnder σ) a t) b)
 
--- The plain tree that a closure stands for.
+-- The plain tree that a closure represents.
 unfoldable pub unfoldHead : Bindings → ClosureHead → PlainHead
 unfoldHead σ (ambient m) = ambient (resolve σ m)
 unfoldHead σ (action a) = action (itemsLeft σ a)
@@ -79,7 +79,7 @@ plainNews σ (p ∷ l) = (p .0, resolve σ (p .1)) ∷ plainNews σ l
 unfoldable pub unfoldedMove : Bindings → MoveMade Action → MoveMade (List Message)
 unfoldedMove σ m = record { body = unfolded (m .news ++ σ) (m .body); news = plainNews σ (m .news) }
 
--- the closure machine, and the plain machine that it stands for: the receipts made are the bindings
+-- the closure machine, and the plain machine that it represents: the receipts made are the bindings
 pub record ClosureMachine : Type 0 where
   pub tree : Closure
   pub bindings : Bindings

@@ -34,7 +34,7 @@ closed-cases = record {
   twos = λ s c q p r n h g. (λ k. (h, g), λ k. (h, g));
   ats = λ s c q p n k o h. (bound-closed s (termOf (operand (q .0))) (o .bound), h);
   chooses = λ s c q p n k l h. h;
-  places = λ s c q p n k o h. (bound-closed s (termOf (operand (q .0))) (o .bound), h);
+  placings = λ s c q p n k o h. (bound-closed s (termOf (operand (q .0))) (o .bound), h);
 }
 
 -- THEOREM: a rule that is read mentions only SOMEs around it.

@@ -145,7 +145,7 @@ module _ (K P : ℕ → Type 0) where
   pub wrapped-fits : (k n : ℕ) (b : Plain) → K k → P n → Fits K P b → Fits K P (wrapped k n b)
   wrapped-fits k n b x y z = ((x, y), z, tt)
 
--- the name that a term says, where 0 stands for none
+-- the name that a term says, where 0 represents none
 pub chosenName-all : (P : ℕ → Type 0) → P 0 → (e : Names) (i : ℕ) → NamesAll P e → P (chosenName e i)
 unfolding chosenName
 chosenName-all P z [] i x = z

@@ -86,8 +86,8 @@ pub record Keeps {A : Type 0} (view : View A) (Q : ℕ → Head A → Type 0) : 
   pub delivers : (k v : ℕ) (m : Message) (b : Body (Head A)) → Q k (output m) → Everywhere Q b → Everywhere Q (view .delivered v m b)
 
 -- some head has Q with the number k
-abbrev pub Held : {H : Type 0} → (ℕ → H → Type 0) → ℕ → Type 0
-Held {H} Q k = (h : H) × Q k h
+abbrev pub SomeHead : {H : Type 0} → (ℕ → H → Type 0) → ℕ → Type 0
+SomeHead {H} Q k = (h : H) × Q k h
 
 module _ {A : Type 0} (view : View A) (Q : ℕ → Head A → Type 0) (K : Keeps view Q) where
   spend-everywhere : (a : ℕ) (b : Body (Head A)) → Everywhere Q b → Everywhere Q (spend view a b)
@@ -95,7 +95,7 @@ module _ {A : Type 0} (view : View A) (Q : ℕ → Head A → Type 0) (K : Keeps
 
   -- the actor and the target are parts of the tree, and what stands after the move has Q
   abbrev pub Kept : (a t : ℕ) → Body (Head A) → Type 0
-  Kept a t c = Held Q a × Held Q t × Everywhere Q c
+  Kept a t c = SomeHead Q a × SomeHead Q t × Everywhere Q c
 
   pub here-everywhere : (a t : ℕ) (b c : Body (Head A)) (news : List (ℕ × Message)) → Here view a t b c news → Everywhere Q b → Kept a t c
   here-everywhere a t b c news (by-open o e) x =
@@ -138,7 +138,7 @@ module _ {A : Type 0} (view : View A) (Q : ℕ → Head A → Type 0) (K : Keeps
 
 -- the plain machine
 pub move-everywhere : (Q : ℕ → Head (List Message) → Type 0) → Keeps plain Q → (a t : ℕ) (b : Plain) (m : MoveMade (List Message)) → move a t b ≡ some m → Everywhere Q b →
-    Held Q a × Held Q t × Everywhere Q (m .body)
+    SomeHead Q a × SomeHead Q t × Everywhere Q (m .body)
 unfolding settle
 move-everywhere Q K a t b m e x =
     let (c, w, q) = move-inv a t b m e in

@@ -87,15 +87,15 @@ module _ {A : Type 0} (view : View A) where
 
   -- OPEN: the actor and the target, both in b
   pub record Opened (a t : ℕ) (b c : Body (Head A)) : Type 0 where
-    pub place : ℕ
+    pub sought : ℕ
     pub doer : Head A
     pub goal : Head A
     pub after : Body (Head A)
     pub room : Body (Head A)
     pub actor : findPart a b ≡ some (doer, after)
     pub target : findPart t b ≡ some (goal, room)
-    pub asked : firstOf view doer ≡ Open (Called place)
-    pub named : headName view goal ≡ Called place
+    pub asked : firstOf view doer ≡ Open (Called sought)
+    pub named : headName view goal ≡ Called sought
     pub result : c ≡ spend view a (mergeParts room (removePart t b))
 
   -- a receipt is made: the actor and the target, both in b
@@ -112,7 +112,7 @@ module _ {A : Type 0} (view : View A) where
   -- IN and EXIT, by what the actor asks for: the target in b, the ambient that moves in the body that `home` says of the target's,
   -- and in it the actor
   pub record Carried (a t : ℕ) (b c : Body (Head A)) (verb : Named → First) (home : Body (Head A) → Body (Head A)) (Apart : ℕ → Type 0) (made : ℕ → Head A → Body (Head A) → Body (Head A)) : Type 0 where
-    pub place : ℕ
+    pub sought : ℕ
     pub own : ℕ
     pub mover : ℕ
     pub shell : Head A
@@ -126,8 +126,8 @@ module _ {A : Type 0} (view : View A) where
     pub actor : findPart a inside ≡ some (doer, after)
     pub another : Apart mover
     pub shell-named : headName view shell ≡ Called own
-    pub asked : firstOf view doer ≡ verb (Called place)
-    pub named : headName view goal ≡ Called place
+    pub asked : firstOf view doer ≡ verb (Called sought)
+    pub named : headName view goal ≡ Called sought
     pub result : c ≡ made mover shell inside
 
   -- IN: the ambient that moves stands in b too, and is not the target
@@ -158,7 +158,7 @@ module _ {A : Type 0} (view : View A) where
       let s = sameName-inv (toOpen (firstOf view (y .0 .0))) (headName view (x .0 .0)) (check-inv _ (z .0) (z .1)) in
       let q = is-quiet (z .2) in
       by-open (record {
-        place = s .0;
+        sought = s .0;
         doer = y .0 .0;
         goal = x .0 .0;
         after = y .0 .1;
@@ -198,7 +198,7 @@ module _ {A : Type 0} (view : View A) where
         let n = isNamed-inv (headName view (y .0)) (d .0) in
         let s = sameName-inv (to (firstOf view (z .0))) (headName view (x .0)) (d .1) in
         record {
-          place = s .0;
+          sought = s .0;
           own = n .0;
           mover = mover;
           shell = y .0;

@@ -269,8 +269,8 @@ module _ {A B : Type 0} (old : View A) (new : View B) (onAction : A → B) (onMe
     unfolding moveHere
     here-map a t b e = simp (open-map a t b, e, enter-map a t b, exit-map a t b, orElse-map)
 
--- The search for the place of a rewriting, where the rewriting g of the old trees and k of the changed ones agree by K on
--- trees that are Good: what stands around a place that was found changes by F alone.
+-- The search for the spot of a rewriting, where the rewriting g of the old trees and k of the changed ones agree by K on
+-- trees that are Good: what stands around a spot that was found changes by F alone.
 pub record Searches {A B : Type 0} (old : View A) (new : View B) (F : Head A → Head B) (K : MoveMade A → MoveMade B) (Good : Body (Head A) → Type 0)
     (g : Body (Head A) → Option (MoveMade A)) (k : Body (Head B) → Option (MoveMade B)) : Type 0 where
   pub names : (h : Head A) → isNamed (headName new (F h)) ≡ isNamed (headName old h)

@@ -1,5 +1,5 @@
-// What a rule word answers from the counts, the chosen names and the set of top parts alone (document 01, "The rule and its
-// walk"). It rests on stages, which has the definitions, and on the promises of rules.
+// What a rule word answers from the counts, the chosen names and the set of top parts alone (document 01, "The rule and
+// its walk").
 use read_rule_words::RuleTerm;
 use read_rule_words::term_of;
 use walk_stages::Counts;

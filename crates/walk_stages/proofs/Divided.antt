@@ -76,25 +76,25 @@ module _ (k : ℕ → List ℕ) (w : ℕ → ClosureHead) where
       go true (p, q, e) = ((h .0, h .1, h .2, p), q, λ f. omega (arith, e f))
       go false (p, q, e) = (p, (h .0, h .1, h .2, q), λ f. omega (arith, e f))
 
--- a share of a set, by its place among the shares
+-- a share of a set, by its rank among the shares
 pub record Shared (top share : ℕ) : Type 0 where
-  pub place : ℕ
-  pub below : place < 2 ^ length (members top)
-  pub is : members share ≡ picked (members top) place
+  pub rank : ℕ
+  pub below : rank < 2 ^ length (members top)
+  pub is : members share ≡ picked (members top) rank
 
-pub shared-last : (top share : ℕ) → top < 2 ^ 64 → share < 2 ^ 64 → (S : Shared top share) → share ≡ top → 2 ^ length (members top) ≤ suc (S .place)
-shared-last top share h g S e = share-last top share (S .place) h g (S .is) e
+pub shared-last : (top share : ℕ) → top < 2 ^ 64 → share < 2 ^ 64 → (S : Shared top share) → share ≡ top → 2 ^ length (members top) ≤ suc (S .rank)
+shared-last top share h g S e = share-last top share (S .rank) h g (S .is) e
 
 -- the next, as `next_share` promises it
 pub shared-next : (top share next : ℕ) → top < 2 ^ 64 → share < 2 ^ 64 → next < 2 ^ 64
     → ((j : ℕ) → suc j < 2 ^ length (members top) → members share ≡ picked (members top) j → members next ≡ picked (members top) (suc j))
-    → (S : Shared top share) → (share ≡ top → ⊥) → (T : Shared top next) × (T .place ≡ suc (S .place)) × (share < next)
+    → (S : Shared top share) → (share ≡ top → ⊥) → (T : Shared top next) × (T .rank ≡ suc (S .rank)) × (share < next)
 shared-next top share next h g l promise S n =
-    let more : suc (S .place) < 2 ^ length (members top) = share-more top share (S .place) h g (S .below) (S .is) n in
-    let e = promise (S .place) more (S .is) in
-    (record { place = suc (S .place); below = more; is = e }, refl, share-rises top share next (S .place) h g l more (S .is) e)
+    let more : suc (S .rank) < 2 ^ length (members top) = share-more top share (S .rank) h g (S .below) (S .is) n in
+    let e = promise (S .rank) more (S .is) in
+    (record { rank = suc (S .rank); below = more; is = e }, refl, share-rises top share next (S .rank) h g l more (S .is) e)
 
--- the divisions from that place on
+-- the divisions from that rank on
 pub remaining : Closure → ℕ → List (Closure × Closure)
 remaining b n = map halves (from (cells b) n)
 
@@ -107,10 +107,10 @@ module _ (b : Closure) (top share : ℕ) (S : Shared top share) (e : members top
   as-many = sym (length-map (cells b) number) ∙ ap length (numbers b ∙ sym e)
 
   -- THEOREM: the first of them is the division by the share.
-  pub remaining-first : (k : ℕ → List ℕ) (w : ℕ → ClosureHead) → Held k w b → (d : Closure × Closure) × (remaining b (S .place) ≡ d ∷ remaining b (suc (S .place))) × Divides k w b top share d
+  pub remaining-first : (k : ℕ → List ℕ) (w : ℕ → ClosureHead) → Held k w b → (d : Closure × Closure) × (remaining b (S .rank) ≡ d ∷ remaining b (suc (S .rank))) × Divides k w b top share d
   unfolding remaining halves
   remaining-first k w h =
-      let n : ℕ = S .place in
+      let n : ℕ = S .rank in
       let q = halved k w b n h in
       let l : n < 2 ^ length (cells b) = subst (λ (x : ℕ). n < 2 ^ x) (sym as-many) (S .below) in
       let whole : map number (cells b) ≡ members top = numbers b ∙ sym e in (
@@ -124,9 +124,9 @@ module _ (b : Closure) (top share : ℕ) (S : Shared top share) (e : members top
         },
       )
     where
-      but-told : but (members top) (members share) ≡ left (members top) (S .place)
-      but-told = ap (but (members top)) (S .is) ∙ but-picked 0 (members top) (S .place) (members-rising top)
+      but-told : but (members top) (members share) ≡ left (members top) (S .rank)
+      but-told = ap (but (members top)) (S .is) ∙ but-picked 0 (members top) (S .rank) (members-rising top)
 
-  pub remaining-none : 2 ^ length (members top) ≤ suc (S .place) → remaining b (suc (S .place)) ≡ []
+  pub remaining-none : 2 ^ length (members top) ≤ suc (S .rank) → remaining b (suc (S .rank)) ≡ []
   unfolding remaining
-  remaining-none l = ap (map halves) (from-end (cells b) (suc (S .place)) (subst (λ (x : ℕ). 2 ^ x ≤ suc (S .place)) (sym as-many) l))
+  remaining-none l = ap (map halves) (from-end (cells b) (suc (S .rank)) (subst (λ (x : ℕ). 2 ^ x ≤ suc (S .rank)) (sym as-many) l))

@@ -1,4 +1,4 @@
--- A state with another set of top parts: it stands for the piece of the closure whose top parts they are. Assumes nothing.
+-- A state with another set of top parts: it represents the piece of the closure whose top parts they are. Assumes nothing.
 use Prim.Native.Nat.{ℕ, _≤_, _<_}
 use mathlib.Core.List.{List}
 use mathlib.Core.Path.{_≡_, refl, sym, ap, _∙_}
@@ -30,7 +30,7 @@ module _ (k : ℕ → List ℕ) (w : ℕ → ClosureHead) (b c : Closure) (P : P
 
 -- what is kept of the parts is right
 pub seen-told : (script kinds starts : List ℕ) (weight spent : ℕ) (s : State) (b : Closure) → Ready script kinds starts s → Represents script kinds starts weight spent s b → spent < 4294967295
-    → Seen (boundIn script s) (heads script kinds starts (s .offsets)) (s .looks)
+    → Seen (boundIn script s) (heads script kinds starts (s .offsets)) (s .notes)
 seen-told script kinds starts weight spent s b ready R few = ready .seen (λ i. omega (arith, R .spends i))
 
 -- the bindings and what is kept of the parts are as they were
@@ -52,7 +52,7 @@ module _ (script kinds starts : List ℕ) (weight spent : ℕ) (s : State) (b : 
   pub lent-told : (i : ℕ) → (i ≡ 64 → ⊥) → k i ≡ members (getD kids i 0)
   lent-told i n = ap (λ (l : List ℕ). members (getD l i 0)) sets ∙ ap members (getD-set-other kids 64 i top 0 n)
 
-  -- THEOREM: with the top parts of a piece, the state stands for the piece.
+  -- THEOREM: with the top parts of a piece, the state represents the piece.
   pub focused : (c : Closure) (m : ℕ) → Piece k w b c → members m ≡ tops c → Represents script kinds starts weight spent (withTop kids m s) c
   focused c m P e = record {
     top = ap members (getD-set-same kids 64 m 0 (omega arith)) ∙ e;

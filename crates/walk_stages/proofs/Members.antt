@@ -251,7 +251,7 @@ module _ (program script sets numbers choices : List ℕ) (top somes left index 
 
   -- PLACED: its number and name fit
   abbrev number : Here → ℕ
-  number X = getD (X .table .places) index 0
+  number X = getD (X .table .placings) index 0
 
   number-is : (X : Here) → getD program (512 + index) 0 ≡ number X
   number-is X = X .loaded .number index (scene-low program script sets numbers choices top somes (suc left) index limits X)

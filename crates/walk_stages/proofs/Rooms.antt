@@ -81,15 +81,15 @@ module _ (k : ℕ → List ℕ) (w : ℕ → ClosureHead) where
 
 -- THEOREM: SOMEWHERE asks for the insides of the top parts that have a name.
 pub rooms-told : (script kinds starts : List ℕ) (weight spent : ℕ) (s : State) (b : Closure) (kids : List ℕ) (top : ℕ) → s .kids ≡ set kids 64 top → length kids ≡ 65
-    → Represents script kinds starts weight spent s b → Ready script kinds starts s → spent < 4294967295 → (m : ℕ) → members m ≡ inBoth (members top) (members (s .looks .named))
+    → Represents script kinds starts weight spent s b → Ready script kinds starts s → spent < 4294967295 → (m : ℕ) → members m ≡ inBoth (members top) (members (s .notes .named))
     → (cs : List Closure) × (insides (boundIn script s) b ≡ map (beside (boundIn script s)) cs) × Rooms (bodyIn (s .kids)) (heads script kinds starts (s .offsets)) b (members m) cs
 rooms-told script kinds starts weight spent s b kids top sets long R ready few m e =
     let σ : Bindings = boundIn script s in
     let k : ℕ → List ℕ = bodyIn (s .kids) in
     let w : ℕ → ClosureHead = heads script kinds starts (s .offsets) in
-    let names : Names σ w (members (s .looks .named)) = seen-names σ w (s .looks) (seen-told script kinds starts weight spent s b ready R few) in
-    let (cs, q, rooms) = insides-rooms k w σ (members (s .looks .named)) b (R .held) (λ i c. names i (low i c)) in
-    (cs, q, subst (λ (l : List ℕ). Rooms k w b l cs) (sym (e ∙ ap (λ (l : List ℕ). inBoth l (members (s .looks .named))) (top-told script kinds starts weight spent s b kids top sets long R))) rooms)
+    let names : Names σ w (members (s .notes .named)) = seen-names σ w (s .notes) (seen-told script kinds starts weight spent s b ready R few) in
+    let (cs, q, rooms) = insides-rooms k w σ (members (s .notes .named)) b (R .held) (λ i c. names i (low i c)) in
+    (cs, q, subst (λ (l : List ℕ). Rooms k w b l cs) (sym (e ∙ ap (λ (l : List ℕ). inBoth l (members (s .notes .named))) (top-told script kinds starts weight spent s b kids top sets long R))) rooms)
   where
     low : (i : ℕ) → 1 ≤ timesIn i b → i < 64
     low i c = byTest (ltb i 64) (λ t. ltb-true i 64 t) (λ t. absurd (let z : ⊥ = omega (arith, R .inside i (ltb-false i 64 t)) in z))

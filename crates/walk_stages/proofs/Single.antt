@@ -61,7 +61,7 @@ module _ (script kinds starts : List ℕ) (weight spent : ℕ) (s : State) (b : 
   -- THEOREM: AT asks for the inside of the one top part, by the name that is kept of it.
   pub at-one : Ready script kinds starts s → spent < 4294967295 → (n i : ℕ) → isOne (members top) ≡ true → i ≡ headOr 64 (members top)
       → (i < 64) × ((c : Closure) × Room (bodyIn (s .kids)) (heads script kinds starts (s .offsets)) b i c
-      × (only (boundIn script s) n b ≡ cond (sameName (Called n) (nameIn (s .looks .named) (s .looks .names) i)) (some (beside (boundIn script s) c)) none))
+      × (only (boundIn script s) n b ≡ cond (sameName (Called n) (nameIn (s .notes .named) (s .notes .names) i)) (some (beside (boundIn script s) c)) none))
   at-one ready few n i one first =
       let single : members top ≡ i ∷ [] = one-is 64 (members top) one ∙ ap (λ (x : ℕ). x ∷ []) (sym first) in
       let small : i < 64 = first-below top i [] single in

@@ -19,12 +19,12 @@ use Rattle.read_rule_words.specs.Rule.{Names, Rule, beside, some-name, sometime
 use Rattle.read_rules.specs.Ruled.{Ruled}
 use Rattle.read_rules.proofs.Inversion.{Told}
 use Rattle.theory_closures.specs.Closure.{Closure, ClosureHead, ClosureMachine, Bindings, closureMove}
-use Rattle.engine_states.specs.Searches.{place, Located}
+use Rattle.engine_states.specs.Searches.{home, Located}
 use Rattle.engine_states.specs.Represents.{heads, boundIn}
 use Rattle.engine_states.specs.declared.State.{State}
 use Rattle.engine_targets.specs.Targets.{isSome, TargetsOf}
 use Rattle.engine_targets.specs.Makes.{Moves}
-use Rattle.engine_targets.proofs.Aiming.{state-places, state-targets}
+use Rattle.engine_targets.proofs.Aiming.{state-homes, state-targets}
 use Rattle.base_arrays.specs.Stretches.{stretch}
 use Rattle.engine_state_arrays.specs.Lent.{kindsIn, startsIn, stateIn}
 use Rattle.base_arrays.proofs.Copying.{length-stretch, getD-stretch}
@@ -104,17 +104,17 @@ module _ (program script sets numbers choices : List ℕ) (top somes left index 
   pub record Dividing (c now : Counts) (share : ℕ) : Type 0 where
     pub shared : Shared top share
     pub same : (X : Here) (q p : Rule) → X .rule ≡ beside index q p
-        → firstYes (halves X q p) (map (shares σ) (divisions (X .tree))) (countOf c) ≡ firstYes (halves X q p) (map (shares σ) (remaining (X .tree) (shared .place))) (countOf now)
+        → firstYes (halves X q p) (map (shares σ) (divisions (X .tree))) (countOf c) ≡ firstYes (halves X q p) (map (shares σ) (remaining (X .tree) (shared .rank))) (countOf now)
 
   pub dividing-holds : (c : Counts) → Dividing c c 0
   dividing-holds c = record {
-    shared = record { place = 0; below = pow-pos (length (members top)); is = share-first top };
+    shared = record { rank = 0; below = pow-pos (length (members top)); is = share-first top };
     same = λ X q p e. ap (λ (l : List (Closure × Closure)). firstYes (halves X q p) (map (shares σ) l) (countOf c)) (sym (remaining-all (X .tree)));
   }
 
   module _ (c now : Counts) (share : ℕ) (D : Dividing c now share) (x : Walked) (Z : Splits program script sets numbers choices top somes left index limits now x share) where
     abbrev place-now : ℕ
-    place-now = D .shared .place
+    place-now = D .shared .rank
 
     -- the division by the share comes first
     turn : (X : Here) (q p : Rule) → X .rule ≡ beside index q p
@@ -336,16 +336,16 @@ module _ (program script sets numbers choices : List ℕ) (top somes left index 
         → length (pairsLeft targets (limits .limit) outer′ rest′) < length (pairsLeft targets (limits .limit) a rest)
     trying-less outer′ rest′ next = turns-fewer targets (limits .limit) a rest small some-left (N .pairs) (N .turn) outer′ rest′ next
 
-  -- the places and the targets that are found
-  module _ (places targets : List ℕ) (P : Located (members (getD sets 129 0)) (bodyIn (state .kids)) (λ i. getD places i 0))
-      (T : (a : ℕ) → a < 64 → TargetsOf (bodyIn (state .kids)) (getD (state .looks .acts) a 0) (members (getD (state .looks .aims) a 0)) (λ i. getD places i 0) a (members (getD targets a 0))) where
-    placed : (X : Here) (i : ℕ) → i < 64 → getD places i 0 ≡ place σ i (X .tree)
-    placed X = state-places script (kindsIn numbers) (startsIn numbers) (X .weight) (X .spent) state (X .tree) (X .stage .ready) (few X) (X .stage .stands) (λ i. getD places i 0) P
+  -- the homes and the targets that are found
+  module _ (homes targets : List ℕ) (P : Located (members (getD sets 129 0)) (bodyIn (state .kids)) (λ i. getD homes i 0))
+      (T : (a : ℕ) → a < 64 → TargetsOf (bodyIn (state .kids)) (getD (state .notes .acts) a 0) (members (getD (state .notes .aims) a 0)) (λ i. getD homes i 0) a (members (getD targets a 0))) where
+    placed : (X : Here) (i : ℕ) → i < 64 → getD homes i 0 ≡ home σ i (X .tree)
+    placed X = state-homes script (kindsIn numbers) (startsIn numbers) (X .weight) (X .spent) state (X .tree) (X .stage .ready) (few X) (X .stage .stands) (λ i. getD homes i 0) P
 
     aimed : (X : Here) (a : ℕ) → a < limits .limit → (t : ℕ) → t < 64 → elem t (members (getD targets a 0)) ≡ isSome (closureMove σ a t (X .tree))
     aimed X a h =
         let low : a < 64 = omega (arith, X .stage .few) in
-        state-targets script (kindsIn numbers) (startsIn numbers) (X .weight) (X .spent) state (X .tree) (X .stage .ready) (few X) (X .stage .stands) (λ i. getD places i 0) P a low (members (getD targets a 0)) (T a low)
+        state-targets script (kindsIn numbers) (startsIn numbers) (X .weight) (X .spent) state (X .tree) (X .stage .ready) (few X) (X .stage .stands) (λ i. getD homes i 0) P a low (members (getD targets a 0)) (T a low)
 
     pub trying-holds : (c : Counts) (outer rest : ℕ) → Turns targets (limits .limit) outer rest (pairsFrom targets 0 (limits .limit - 0)) → Trying targets c c outer rest
     trying-holds c outer rest U = record {
@@ -366,7 +366,7 @@ module _ (program script sets numbers choices : List ℕ) (top somes left index 
 
       -- the move leads to the next state, and the visit is made there
       module _ (sets′ numbers′ : List ℕ) (top′ : ℕ) (L : Lendable script sets′ numbers′ top′) (ek : kindsIn numbers′ ≡ kindsIn numbers) (es : startsIn numbers′ ≡ startsIn numbers)
-          (M : Moves script (kindsIn numbers) (startsIn numbers) state (stateIn sets′ numbers′ top′) (λ i. getD places i 0) a t)
+          (M : Moves script (kindsIn numbers) (startsIn numbers) state (stateIn sets′ numbers′ top′) (λ i. getD homes i 0) a t)
           (x : Walked) (visited : Visits program script sets′ numbers′ choices top′ somes left index limits now x) where
         turn-tried : (X : Here) (q : Rule) → X .rule ≡ sometime index q → (m : ClosureMachine) × (after σ (X .tree) a t ≡ some m) × (walkedOf x ≡ trying X q m (countOf now))
         turn-tried X q e =

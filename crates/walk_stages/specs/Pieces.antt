@@ -11,7 +11,7 @@ use Rattle.engine_states.specs.declared.State.{State}
 
 -- the state with `top` as the set of its top parts, beside the lent sets
 abbrev pub withTop : (kids : List ℕ) (top : ℕ) → State → State
-withTop kids top s = record { kids = set kids 64 top; offsets = s .offsets; looks = s .looks; bindings = s .bindings }
+withTop kids top s = record { kids = set kids 64 top; offsets = s .offsets; notes = s .notes; bindings = s .bindings }
 
 -- c is a piece of b: the sets and heads hold it, and of whatever is counted it has no more
 pub record Piece (bodies : ℕ → List ℕ) (heads : ℕ → ClosureHead) (b c : Closure) : Type 0 where

@@ -48,7 +48,7 @@ pub record Chosen (greatest : ℕ) (e : Names) (chosen : List ℕ) (somes : ℕ)
   pub number : length e ≡ somes
   pub names : (i : ℕ) → member i (indices e) ≡ true → (i < 256) × (chosenName e i ≡ getD chosen i 0) × (getD chosen i 0 ≤ greatest + somes)
 
--- What holds where the engine visits the rule q, at a word's index, on the state s, with `left` depths left: s stands for
+-- What holds where the engine visits the rule q, at a word's index, on the state s, with `left` depths left: s represents
 -- the closure b, all of whose numbers are below n + from, and no PLACED word in q is earlier than `from`.
 pub record Stage (words : List ℕ) (table : RuleTable) (script kinds starts : List ℕ) (limits : Limits) (chosen : List ℕ) (somes left : ℕ) (s : State) (index : ℕ)
     (weight spent from : ℕ) (e : Names) (q : Rule) (b : Closure) : Type 0 where
@@ -96,7 +96,7 @@ pub record Visitable (script sets numbers : List ℕ) (top somes : ℕ) (limits 
 pub record Loaded (program words : List ℕ) (table : RuleTable) : Type 0 where
   pub word : (i : ℕ) → i < length words → getD program i 0 ≡ getD words i 0
   pub right : (i : ℕ) → i < 256 → getD program (256 + i) 0 ≡ getD (table .rights) i 0
-  pub number : (i : ℕ) → i < 256 → getD program (512 + i) 0 ≡ getD (table .places) i 0
+  pub number : (i : ℕ) → i < 256 → getD program (512 + i) 0 ≡ getD (table .placings) i 0
 
 -- A rule and a closure that stand where the engine visits, with `left` depths left.
 pub record Scene (program script sets numbers chosen : List ℕ) (top somes left index : ℕ) (limits : Limits) : Type 0 where

@@ -1,5 +1,5 @@
-// The stages of a walk (document 01, "The rule and its walk"): the definitions of what its functions answer, the types that
-// these name, and their laws; no code. It rests on decision, lent_states, closures, rules and sets.
+// The stages of a walk (document 01, "The rule and its walk"): the definitions of what its functions answer, the types
+// that these name, and their laws; no code.
 
 // Visits made, and the greatest depth.
 pub struct Counts {

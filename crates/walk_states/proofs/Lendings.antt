@@ -41,13 +41,13 @@ pub carried : (P : List ℕ → List ℕ → State → Type 0) (k k₁ l l₁ : 
 carried P k k₁ l l₁ s s₁ ek el es p = subst (λ (x : State). P k₁ l₁ x) (sym es) (subst (λ (x : List ℕ). P k₁ x s) (sym el) (subst (λ (x : List ℕ). P x l s) (sym ek) p))
 
 -- The rule's words and table, of which the first i are in one array.
-pub record Loading (words rights places program : List ℕ) (i : ℕ) : Type 0 where
+pub record Loading (words rights placings program : List ℕ) (i : ℕ) : Type 0 where
   pub long : length program ≡ 768
   pub word : (j : ℕ) → j < i → j < length words → getD program j 0 ≡ getD words j 0
   pub right : (j : ℕ) → j < i → getD program (256 + j) 0 ≡ getD rights j 0
-  pub number : (j : ℕ) → j < i → getD program (512 + j) 0 ≡ getD places j 0
+  pub number : (j : ℕ) → j < i → getD program (512 + j) 0 ≡ getD placings j 0
 
-module _ (words rights places program : List ℕ) (i w r n : ℕ) (L : Loading words rights places program i) (low : i < 256) (ew : i < length words → w ≡ getD words i 0) (er : r ≡ getD rights i 0) (en : n ≡ getD places i 0) where
+module _ (words rights placings program : List ℕ) (i w r n : ℕ) (L : Loading words rights placings program i) (low : i < 256) (ew : i < length words → w ≡ getD words i 0) (er : r ≡ getD rights i 0) (en : n ≡ getD placings i 0) where
   abbrev once : List ℕ
   once = set program i w
 
@@ -67,7 +67,7 @@ module _ (words rights places program : List ℕ) (i w r n : ℕ) (L : Loading w
   split-last : (P : ℕ → Type 0) → P i → ((j : ℕ) → j < i → P j) → (j : ℕ) → j < i + 1 → P j
   split-last P new old j h = byTest (eqb j i) (λ t. subst P (sym (eqb-true j i t)) new) (λ t. let z : j ≡ i → ⊥ = eqb-false j i t in old j (omega arith))
 
-  pub loading-more : Loading words rights places thrice (i + 1)
+  pub loading-more : Loading words rights placings thrice (i + 1)
   loading-more = record {
     long = length-set twice (512 + i) n ∙ twice-long;
     word = split-last (λ (j : ℕ). j < length words → getD thrice j 0 ≡ getD words j 0)
@@ -76,7 +76,7 @@ module _ (words rights places program : List ℕ) (i w r n : ℕ) (L : Loading w
     right = split-last (λ (j : ℕ). getD thrice (256 + j) 0 ≡ getD rights j 0)
         (getD-set-other twice (512 + i) (256 + i) n 0 (λ z. omega arith) ∙ getD-set-same once (256 + i) r 0 (let l : length once ≡ 768 = length-set program i w ∙ L .long in omega (arith, l)) ∙ er)
         (λ j g. past (256 + j) (λ z. omega arith) (λ z. omega arith) (λ z. omega arith) ∙ L .right j g);
-    number = split-last (λ (j : ℕ). getD thrice (512 + j) 0 ≡ getD places j 0)
+    number = split-last (λ (j : ℕ). getD thrice (512 + j) 0 ≡ getD placings j 0)
         (getD-set-same twice (512 + i) n 0 (omega (arith, twice-long)) ∙ en)
         (λ j g. past (512 + j) (λ z. omega arith) (λ z. omega arith) (λ z. omega arith) ∙ L .number j g);
   }
@@ -85,8 +85,8 @@ module _ (words rights places program : List ℕ) (i w r n : ℕ) (L : Loading w
 pub step-moves : (P : ℕ → ℕ → Type 0) (a t b u : ℕ) → Move a t ≡ Move b u → P a t → P b u
 step-moves P a t b u e p = let x : a ≡ b = cc in let y : t ≡ u = cc in subst (λ (z : ℕ). P z u) x (subst (P a) y p)
 
-pub step-places : (P : ℕ → ℕ → Type 0) (i n j m : ℕ) → Place i n ≡ Place j m → P i n → P j m
-step-places P i n j m e p = let x : i ≡ j = cc in let y : n ≡ m = cc in subst (λ (z : ℕ). P z m) x (subst (P i) y p)
+pub step-placing : (P : ℕ → ℕ → Type 0) (i n j m : ℕ) → Place i n ≡ Place j m → P i n → P j m
+step-placing P i n j m e p = let x : i ≡ j = cc in let y : n ≡ m = cc in subst (λ (z : ℕ). P z m) x (subst (P i) y p)
 
 pub step-apart : (a t i n : ℕ) → Move a t ≡ Place i n → ⊥
 step-apart a t i n e = let z : _≡_ {A = ℕ} 0 1 = cc in omega arith

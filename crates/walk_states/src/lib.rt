@@ -1,11 +1,10 @@
-// What the words of a rule ask of the process that a state stands for (document 01, "The rule and its walk"), a state being
-// lent as two arrays and made only where a move or PLACED changes it. It rests on stages and on the promises of moves,
-// settling, lent_states, targets, closures and sets.
+// What the words of a rule ask of the process that a state represents (document 01, "The rule and its walk"), a state
+// being lent as two arrays and made only where a move or PLACED changes it.
 use engine_moves::make_move;
 use engine_settling::place_part;
 use engine_state_arrays::bodies;
-use engine_state_arrays::borrowed;
-use engine_state_arrays::lend;
+use engine_state_arrays::from_arrays;
+use engine_state_arrays::to_arrays;
 use engine_states::State;
 use engine_targets::locate;
 use engine_targets::targets;
@@ -39,9 +38,9 @@ pub struct Spot {
     pub left: usize,
 }
 
-// The places of all parts, and the targets of each actor's moves.
+// The homes of all parts, and the targets of each actor's moves.
 pub struct Found {
-    pub places: [usize; 64],
+    pub homes: [usize; 64],
     pub targets: [u64; 64],
 }
 
@@ -53,7 +52,7 @@ pub struct Turn {
 }
 
 // A state and its part table for lending, beside the set of its top parts.
-pub struct Standing {
+pub struct LentState {
     pub sets: [u64; 131],
     pub numbers: [u32; 481],
     pub top: u64,
@@ -78,20 +77,20 @@ pub fn is_called<'a>(sets: &'a [u64; 131], numbers: &'a [u32; 481], i: usize, na
     false
 }
 
-// The places of all parts of the state that is lent, and the targets of all actors.
+// The homes of all parts of the state that is lent, and the targets of all actors.
 pub fn all_targets<'a>(sets: &'a [u64; 131], numbers: &'a [u32; 481], top: u64) -> Found
-    ensures places { λ r. ⌜ Located (members (getD (now (sets .entry)) 129 0)) (bodyIn (stateIn (now (sets .entry)) (now (numbers .entry)) top .kids)) (λ i. getD (r .places) i 0) ⌝ }
-    ensures targets { λ r. ⌜ ((a : ℕ) → a < 64 → TargetsOf (bodyIn (stateIn (now (sets .entry)) (now (numbers .entry)) top .kids)) (getD (stateIn (now (sets .entry)) (now (numbers .entry)) top .looks .acts) a 0) (members (getD (stateIn (now (sets .entry)) (now (numbers .entry)) top .looks .aims) a 0)) (λ i. getD (r .places) i 0) a (members (getD (r .targets) a 0))) ⌝ }
+    ensures homes { λ r. ⌜ Located (members (getD (now (sets .entry)) 129 0)) (bodyIn (stateIn (now (sets .entry)) (now (numbers .entry)) top .kids)) (λ i. getD (r .homes) i 0) ⌝ }
+    ensures targets { λ r. ⌜ ((a : ℕ) → a < 64 → TargetsOf (bodyIn (stateIn (now (sets .entry)) (now (numbers .entry)) top .kids)) (getD (stateIn (now (sets .entry)) (now (numbers .entry)) top .notes .acts) a 0) (members (getD (stateIn (now (sets .entry)) (now (numbers .entry)) top .notes .aims) a 0)) (λ i. getD (r .homes) i 0) a (members (getD (r .targets) a 0))) ⌝ }
 {
     let kids = bodies(sets, top);
-    let places = locate(&kids, sets[129]);
+    let homes = locate(&kids, sets[129]);
     let mut found = Found {
-        places,
+        homes,
         targets: [0; 64],
     };
     let mut a: usize = 0;
     while a < 64 {
-        found.targets[a] = targets(&kids, numbers[256 + a], sets[65 + a], &places, a);
+        found.targets[a] = targets(&kids, numbers[256 + a], sets[65 + a], &homes, a);
         a += 1;
     }
     found
@@ -127,15 +126,15 @@ pub fn next_turn<'a>(inner: &'a [u64; 64], turn: Turn, limit: usize) -> Turn
 }
 
 // The state for lending.
-pub fn lend_state(kinds: [u8; 64], starts: [u32; 64], state: State) -> Standing
+pub fn as_arrays(kinds: [u8; 64], starts: [u32; 64], state: State) -> LentState
     requires { ⌜ state .bindings .first ≤ 32 ⌝ }
     ensures tables { λ r. ⌜ (kindsIn (r .numbers) ≡ kinds) × (startsIn (r .numbers) ≡ starts) × Small (r .numbers) × (length (r .sets) ≡ 131) × (length (r .numbers) ≡ 481) ⌝ }
     ensures state { λ r. ⌜ stateIn (r .sets) (r .numbers) (r .top) ≡ state ⌝ }
 {
-    let l = lend(kinds, starts, state);
+    let l = to_arrays(kinds, starts, state);
     let sets = l.sets;
     let numbers = l.numbers;
-    Standing {
+    LentState {
         sets,
         numbers,
         top: sets[64],
@@ -148,20 +147,20 @@ fn after_move<'a>(
     sets: &'a [u64; 131],
     numbers: &'a [u32; 481],
     top: u64,
-    places: &'a [usize; 64],
+    homes: &'a [usize; 64],
     a: usize,
     t: usize,
-) -> Standing
+) -> LentState
     requires { ⌜ (a < 64) × (t < 64) × Lendable (now script) (now sets) (now numbers) top ⌝ }
     ensures lends { λ r. ⌜ Lendable (now (script .entry)) (r .sets) (r .numbers) (r .top) ⌝ }
     ensures table { λ r. ⌜ (kindsIn (r .numbers) ≡ kindsIn (now (numbers .entry))) × (startsIn (r .numbers) ≡ startsIn (now (numbers .entry))) ⌝ }
-    ensures made { λ r. ⌜ Moves (now (script .entry)) (kindsIn (now (numbers .entry))) (startsIn (now (numbers .entry))) (stateIn (now (sets .entry)) (now (numbers .entry)) top) (stateIn (r .sets) (r .numbers) (r .top)) (λ i. getD (now (places .entry)) i 0) a t ⌝ }
+    ensures made { λ r. ⌜ Moves (now (script .entry)) (kindsIn (now (numbers .entry))) (startsIn (now (numbers .entry))) (stateIn (now (sets .entry)) (now (numbers .entry)) top) (stateIn (r .sets) (r .numbers) (r .top)) (λ i. getD (now (homes .entry)) i 0) a t ⌝ }
 {
     let mut next_sets = *sets;
     let mut next_numbers = *numbers;
     next_sets[64] = top;
-    make_move(script, &mut next_sets, &mut next_numbers, places, a, t);
-    Standing {
+    make_move(script, &mut next_sets, &mut next_numbers, homes, a, t);
+    LentState {
         sets: next_sets,
         numbers: next_numbers,
         top: next_sets[64],
@@ -176,19 +175,19 @@ fn place_within<'a>(
     top: u64,
     i: usize,
     name: u32,
-) -> Standing
+) -> LentState
     requires { ⌜ (i < 64) × (name < 536870912) × Lendable (now script) (now sets) (now numbers) top ⌝ }
     ensures lends { λ r. ⌜ Lendable (now (script .entry)) (r .sets) (r .numbers) (r .top) ⌝ }
     ensures bound { λ r. ⌜ boundIn (now (script .entry)) (stateIn (r .sets) (r .numbers) (r .top)) ≡ boundIn (now (script .entry)) (stateIn (now (sets .entry)) (now (numbers .entry)) top) ⌝ }
     ensures placed { λ r. ⌜ ((weight spent : ℕ) (b : Closure) → Represents (now (script .entry)) (kindsIn (now (numbers .entry))) (startsIn (now (numbers .entry))) weight spent (stateIn (now (sets .entry)) (now (numbers .entry)) top) b → timesIn i b ≡ 0 → weight < 64 → Represents (now (script .entry)) (kindsIn (r .numbers)) (startsIn (r .numbers)) (weight + 1) spent (stateIn (r .sets) (r .numbers) (r .top)) (part i (ambient (called name)) b close)) ⌝ }
 {
-    let b = borrowed(sets, numbers, top);
+    let b = from_arrays(sets, numbers, top);
     let kinds = b.kinds;
     let starts = b.starts;
     let p = place_part(script, kinds, starts, b.state, i, name);
     let with_kind = p.kinds;
     let with_start = p.starts;
-    lend_state(with_kind, with_start, p.state)
+    as_arrays(with_kind, with_start, p.state)
 }
 
 // The state after that step, for lending. Moves and PLACED share it, so that it is not put into the frames of a deep walk.
@@ -197,16 +196,16 @@ pub fn next_state<'a>(
     sets: &'a [u64; 131],
     numbers: &'a [u32; 481],
     top: u64,
-    places: &'a [usize; 64],
+    homes: &'a [usize; 64],
     step: Step,
-) -> Standing
+) -> LentState
     requires { ⌜ ((a t : ℕ) → step ≡ Move a t → (a < 64) × (t < 64)) × ((i n : ℕ) → step ≡ Place i n → (i < 64) × (n < 536870912)) × Lendable (now script) (now sets) (now numbers) top ⌝ }
     ensures lends { λ r. ⌜ Lendable (now (script .entry)) (r .sets) (r .numbers) (r .top) ⌝ }
-    ensures made { λ r. ⌜ ((a t : ℕ) → step ≡ Move a t → (kindsIn (r .numbers) ≡ kindsIn (now (numbers .entry))) × (startsIn (r .numbers) ≡ startsIn (now (numbers .entry))) × Moves (now (script .entry)) (kindsIn (now (numbers .entry))) (startsIn (now (numbers .entry))) (stateIn (now (sets .entry)) (now (numbers .entry)) top) (stateIn (r .sets) (r .numbers) (r .top)) (λ i. getD (now (places .entry)) i 0) a t) ⌝ }
+    ensures made { λ r. ⌜ ((a t : ℕ) → step ≡ Move a t → (kindsIn (r .numbers) ≡ kindsIn (now (numbers .entry))) × (startsIn (r .numbers) ≡ startsIn (now (numbers .entry))) × Moves (now (script .entry)) (kindsIn (now (numbers .entry))) (startsIn (now (numbers .entry))) (stateIn (now (sets .entry)) (now (numbers .entry)) top) (stateIn (r .sets) (r .numbers) (r .top)) (λ i. getD (now (homes .entry)) i 0) a t) ⌝ }
     ensures placed { λ r. ⌜ ((i n : ℕ) → step ≡ Place i n → (boundIn (now (script .entry)) (stateIn (r .sets) (r .numbers) (r .top)) ≡ boundIn (now (script .entry)) (stateIn (now (sets .entry)) (now (numbers .entry)) top)) × ((weight spent : ℕ) (b : Closure) → Represents (now (script .entry)) (kindsIn (now (numbers .entry))) (startsIn (now (numbers .entry))) weight spent (stateIn (now (sets .entry)) (now (numbers .entry)) top) b → timesIn i b ≡ 0 → weight < 64 → Represents (now (script .entry)) (kindsIn (r .numbers)) (startsIn (r .numbers)) (weight + 1) spent (stateIn (r .sets) (r .numbers) (r .top)) (part i (ambient (called n)) b close))) ⌝ }
 {
     match step {
-        Step::Move(a, t) => after_move(script, sets, numbers, top, places, a, t),
+        Step::Move(a, t) => after_move(script, sets, numbers, top, homes, a, t),
         Step::Place(i, name) => place_within(script, sets, numbers, top, i, name),
     }
 }
@@ -222,15 +221,15 @@ fn word_at(rule: &[u32], i: usize) -> u32
 }
 
 // The rule's words and its table as one array.
-pub fn loaded(rule: &[u32], rights: [u16; 256], places: [u8; 256]) -> [u32; 768]
+pub fn loaded(rule: &[u32], rights: [u16; 256], placings: [u8; 256]) -> [u32; 768]
     ensures words { λ r. ⌜ ((i : ℕ) → i < 256 → i < length (now (rule .entry)) → getD r i 0 ≡ getD (now (rule .entry)) i 0) ⌝ }
-    ensures table { λ r. ⌜ ((i : ℕ) → i < 256 → (getD r (256 + i) 0 ≡ getD rights i 0) × (getD r (512 + i) 0 ≡ getD places i 0)) ⌝ }
+    ensures table { λ r. ⌜ ((i : ℕ) → i < 256 → (getD r (256 + i) 0 ≡ getD rights i 0) × (getD r (512 + i) 0 ≡ getD placings i 0)) ⌝ }
 {
     let mut program: [u32; 768] = [0; 768];
     let mut i: usize = 0;
     while i < 256 {
         let right = rights[i];
-        let place = places[i];
+        let place = placings[i];
         program[i] = word_at(rule, i);
         program[256 + i] = right as u32;
         program[512 + i] = place as u32;

@@ -20,7 +20,7 @@ use Rattle.walk_states.proofs.Lendings.{carried}
 -- THEOREM: the first visit answers the whole walk.
 pub whole-walk : (program words script kinds starts sets numbers choices : List ℕ) (table : RuleTable) (top : ℕ) (s : State) (limits : Limits) (c : Counts) (r : Walked)
     → ((i : ℕ) → i < 256 → i < length words → getD program i 0 ≡ getD words i 0)
-    → ((i : ℕ) → i < 256 → (getD program (256 + i) 0 ≡ getD (table .rights) i 0) × (getD program (512 + i) 0 ≡ getD (table .places) i 0))
+    → ((i : ℕ) → i < 256 → (getD program (256 + i) 0 ≡ getD (table .rights) i 0) × (getD program (512 + i) 0 ≡ getD (table .placings) i 0))
     → kindsIn numbers ≡ kinds → startsIn numbers ≡ starts → stateIn sets numbers top ≡ s → Ready script kinds starts s → limits .limit ≤ 64 → limits .greatest < 268435456 → c .visits ≡ 0 → c .deepest ≡ 0
     → Visits program script sets numbers choices top 0 256 0 limits c r → Walks words table script kinds starts s limits r
 unfolding member

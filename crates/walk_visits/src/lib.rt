@@ -1,6 +1,5 @@
-// The walk of a rule over the process that a state stands for (document 01, "The rule and its walk"): a visit at each word
-// met. A state is lent as two arrays, and made only where a move or PLACED changes it. It rests on the promises of walk,
-// rule_answers, rule_reader, closures, sets and slices.
+// The walk of a rule over the process that a state represents (document 01, "The rule and its walk"): a visit at each
+// word met. A state is lent as two arrays, and made only where a move or PLACED changes it.
 use base_slices::wide;
 use engine_states::State;
 use read_rules::RuleTable;
@@ -15,8 +14,8 @@ use walk_stages::Walked;
 use walk_states::Spot;
 use walk_states::Step;
 use walk_states::all_targets;
+use walk_states::as_arrays;
 use walk_states::is_called;
-use walk_states::lend_state;
 use walk_states::loaded;
 use walk_states::next_state;
 use walk_states::next_turn;
@@ -274,7 +273,7 @@ fn sometime<'a>(
         let a = turn.outer;
         let t = base_sets::first(turn.rest);
         let step = Step::Move(a, t);
-        let s = next_state(script, sets, numbers, spot.top, &found.places, step);
+        let s = next_state(script, sets, numbers, spot.top, &found.homes, step);
         let mut moved = spot;
         moved.top = s.top;
         let w2 = visit(
@@ -378,7 +377,7 @@ fn placed_in<'a>(
     )
 }
 
-// The whole walk of the rule over the process that the state stands for.
+// The whole walk of the rule over the process that the state represents.
 pub fn walk_rule<'a>(
     rule: &'a [u32],
     table: RuleTable,
@@ -392,9 +391,9 @@ pub fn walk_rule<'a>(
     ensures { λ r. ⌜ Walks (now (rule .entry)) table (now (script .entry)) kinds starts state limits r ⌝ }
 {
     let rights = table.rights;
-    let places = table.places;
-    let program = loaded(rule, rights, places);
-    let s = lend_state(kinds, starts, state);
+    let placings = table.placings;
+    let program = loaded(rule, rights, placings);
+    let s = as_arrays(kinds, starts, state);
     let chosen: [u32; 256] = [0; 256];
     let none = Counts {
         visits: 0,

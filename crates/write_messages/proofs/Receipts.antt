@@ -6,15 +6,15 @@ use native.Mathlib.Omega.{arith}
 use lib.Dec.{eqb}
 use lib.ListN.{length, drop, set, getD}
 use borrow.Author.Tests.{eq-eqb, ne-eqb, eqb-true, eqb-false}
-use Rattle.engine_message_words.specs.Words.{place}
+use Rattle.engine_message_words.specs.Words.{newestBinding}
 use Rattle.base_slices.proofs.Tests.{byTest}
 use Rattle.base_slices.proofs.Tails.{drop-set}
 use Rattle.theory_written_trees.specs.Write.{newIndex}
 use Rattle.theory_written_trees.proofs.Trees.{new-hit, new-miss}
 use Rattle.write_messages.specs.Indices.{indicesIn, Indexed}
 
-new-at : (vs is : List ℕ) (u : ℕ) → length is ≡ length vs → newIndex (indicesIn vs is) u ≡ getD is (place vs u) 0
-unfolding indicesIn place
+new-at : (vs is : List ℕ) (u : ℕ) → length is ≡ length vs → newIndex (indicesIn vs is) u ≡ getD is (newestBinding vs u) 0
+unfolding indicesIn newestBinding
 new-at [] [] u l = unfold newIndex in refl
 new-at [] (i ∷ is) u l = absurd (omega arith)
 new-at (v ∷ vs) [] u l = absurd (omega arith)
@@ -27,10 +27,10 @@ past [] k h = refl
 past (i ∷ is) zero h = absurd (omega arith)
 past (i ∷ is) (suc k) h = past is k (omega arith)
 
-pub index-found : (vs is : List ℕ) (v k : ℕ) → Indexed vs is → k ≡ place vs v → getD is k 0 ≡ newIndex (indicesIn vs is) v
+pub index-found : (vs is : List ℕ) (v k : ℕ) → Indexed vs is → k ≡ newestBinding vs v → getD is k 0 ≡ newIndex (indicesIn vs is) v
 index-found vs is v k ok e = rw e (sym (new-at vs is v (ok .paired)))
 
-pub index-none : (vs is : List ℕ) (v k : ℕ) → Indexed vs is → k ≡ place vs v → length vs ≤ k → 0 ≡ newIndex (indicesIn vs is) v
+pub index-none : (vs is : List ℕ) (v k : ℕ) → Indexed vs is → k ≡ newestBinding vs v → length vs ≤ k → 0 ≡ newIndex (indicesIn vs is) v
 index-none vs is v k ok e h = sym (past is k (omega (arith, ok .paired))) ∙ index-found vs is v k ok e
 
 indexed-more : {vs is : List ℕ} (v i : ℕ) → Indexed vs is → i < 268435456 → Indexed (v ∷ vs) (i ∷ is)

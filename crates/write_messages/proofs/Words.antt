@@ -25,7 +25,7 @@ use Rattle.base_slices.proofs.Tests.{byTest}
 use Rattle.theory_closures.proofs.Resolving.{resolve-name, resolve-enter, resolve-exit, resolve-opens, resolve-empty, resolve-path}
 use Rattle.engine_bindings.proofs.Counting.{kept-drop}
 use Rattle.engine_message_words.proofs.FirstWords.{bound, bound-variable}
-use Rattle.engine_bindings.proofs.Passing.{firsts-first, Free, given-place}
+use Rattle.engine_bindings.proofs.Passing.{firsts-first, Free, given-newest}
 use Rattle.theory_written_trees.specs.Write.{Indices, writeMessage, oneMessage}
 use Rattle.write_messages.specs.Passes.{allWritten, plainWord}
 
@@ -112,7 +112,7 @@ pub one-written : (ix : Indices) (σ : List (ℕ × Message)) {l ws : List ℕ} 
 unfolding allWritten firsts messageAt
 one-written ix σ {l} {ws} e = rw e (append-nil (writeMessage ix (resolve σ (topMessage (spelled ws)))))
 
--- a word that is no variable with a binding stands for itself, and what stands in it comes behind
+-- a word that is no variable with a binding represents itself, and what stands in it comes behind
 written-word : (ix : Indices) (σ : List (ℕ × Message)) (m : MessageWord) (p : ℕ) (s : List Message) → Free σ m
     → allWritten ix σ (firsts (suc p) (push m s)) ≡ (plainWord ix m ∷ []) ++ allWritten ix σ (firsts (p + arityOf m) s)
 unfolding allWritten firsts push topMessage plainWord shapeOf writeMessage
@@ -134,7 +134,7 @@ written-first ix σ l (suc p) h f e₁ e₂ e₃ =
     let q : suc p - 1 ≡ p = omega arith in
     rw (q, e₁, e₂, e₃, firsts-first (suc p) l) (sym (written-word ix σ (firstWord l) p (spelled (drop 1 l)) f))
 
--- a variable with a binding stands for the message of that binding, after the older ones
+-- a variable with a binding represents the message of that binding, after the older ones
 written-variable : (ix : Indices) (σ : List (ℕ × Message)) (m : MessageWord) (v p : ℕ) (s : List Message) → m ≡ Variable v
     → allWritten ix σ (firsts (suc p) (push m s)) ≡ writeMessage ix (resolve σ (variable v)) ++ allWritten ix σ (firsts p s)
 unfolding allWritten firsts push topMessage
@@ -147,7 +147,7 @@ written-bound ix script vs ps l zero k z a b h e₁ e₂ e₃ e₄ = absurd (ome
 written-bound ix script vs ps l (suc p) k z a b h {us} {qs} e₁ e₂ e₃ e₄ =
     let q : suc p - 1 ≡ p = omega arith in
     elim (bound-variable vs (firstWord l) k b h)
-    [ bound v e g ↦ rw (q, firsts-first (suc p) l, one-written ix (bindingsIn script us qs) e₃, e₁, e₂, e₄, given-place script vs ps a k h v g) (sym (written-variable ix (bindingsIn script vs ps) (firstWord l) v p (spelled (drop 1 l)) e)) ]
+    [ bound v e g ↦ rw (q, firsts-first (suc p) l, one-written ix (bindingsIn script us qs) e₃, e₁, e₂, e₄, given-newest script vs ps a k h v g) (sym (written-variable ix (bindingsIn script vs ps) (firstWord l) v p (spelled (drop 1 l)) e)) ]
 
 -- what is lent to the writer of a binding's message: the script's words from an index on, and the older bindings
 

@@ -7,18 +7,18 @@ use Rattle.engine_bindings.specs.Measures.{Kept, itemCount}
 use Rattle.write_messages.specs.Indices.{Indexed}
 
 -- where the first `pending` messages of the words are to be written
-pub record MessagesAsked (words : List ℕ) (pending : ℕ) (variables places receipts indices : List ℕ) : Type 0 where
+pub record MessagesAsked (words : List ℕ) (pending : ℕ) (variables sources receipts indices : List ℕ) : Type 0 where
   -- the messages and the words can be counted together
   pub room : pending + length words < 2 ^ 64
-  -- each variable has the place of its message
-  pub aligned : length places ≡ length variables
+  -- each variable has the source of its message
+  pub aligned : length sources ≡ length variables
   -- each receipt around has its index
   pub indexed : Indexed receipts indices
 
 -- where items are to be written, from the offset on
-pub record ItemsAsked (script : List ℕ) (offset : ℕ) (variables places counts receipts indices out : List ℕ) : Type 0 where
+pub record ItemsAsked (script : List ℕ) (offset : ℕ) (variables sources counts receipts indices out : List ℕ) : Type 0 where
   -- the counts that are kept with the bindings are right
-  pub counted : Kept itemCount script variables places counts
+  pub counted : Kept itemCount script variables sources counts
   -- each receipt around has its index
   pub indexed : Indexed receipts indices
   -- no count of items that fit the buffer stops

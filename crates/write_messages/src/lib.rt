@@ -1,6 +1,5 @@
-// The writers of a message and of an action's items: each writes at the front of the buffer that it is lent, says how many
-// words it wrote, and lends the tail behind them to the next writer.
-// It rests on the promises of bindings, message_words, messages and slices.
+// The writers of a message and of an action's items: each writes at the front of the buffer that it is lent, says how
+// many words it wrote, and lends the tail behind them to the next writer.
 use base_slices::tail;
 use engine_bindings::after_own;
 use engine_bindings::item_count;
@@ -74,13 +73,13 @@ fn write_from(
     words: &[u32],
     pending: usize,
     variables: &[u32],
-    places: &[u32],
+    sources: &[u32],
     receipts: &[u32],
     indices: &[u32],
     out: &mut [u32],
 ) -> usize
-    requires { ⌜ MessagesAsked (now words) pending (now variables) (now places) (now receipts) (now indices) ⌝ }
-    ensures { λ r. ⌜ Wrote (allWritten (indicesIn (now (receipts .entry)) (now (indices .entry))) (bindingsIn (now (script .entry)) (now (variables .entry)) (now (places .entry))) (firsts pending (spelled (now (words .entry))))) (now (out .entry)) (now (out .exit)) r ⌝ }
+    requires { ⌜ MessagesAsked (now words) pending (now variables) (now sources) (now receipts) (now indices) ⌝ }
+    ensures { λ r. ⌜ Wrote (allWritten (indicesIn (now (receipts .entry)) (now (indices .entry))) (bindingsIn (now (script .entry)) (now (variables .entry)) (now (sources .entry))) (firsts pending (spelled (now (words .entry))))) (now (out .entry)) (now (out .exit)) r ⌝ }
 {
     if pending == 0 {
         return 0;
@@ -91,10 +90,10 @@ fn write_from(
         let older = k + 1;
         let m = write_from(
             script,
-            given(script, places, k),
+            given(script, sources, k),
             1,
             tail(variables, older),
-            tail(places, older),
+            tail(sources, older),
             receipts,
             indices,
             out,
@@ -104,7 +103,7 @@ fn write_from(
             tail(words, 1),
             pending - 1,
             variables,
-            places,
+            sources,
             receipts,
             indices,
             &mut out[m..],
@@ -118,7 +117,7 @@ fn write_from(
         tail(words, 1),
         pending - 1 + a,
         variables,
-        places,
+        sources,
         receipts,
         indices,
         &mut out[m..],
@@ -131,20 +130,20 @@ pub fn write_message(
     script: &[u32],
     at: usize,
     variables: &[u32],
-    places: &[u32],
+    sources: &[u32],
     receipts: &[u32],
     indices: &[u32],
     out: &mut [u32],
 ) -> usize
-    requires { ⌜ (length (now places) ≡ length (now variables)) × Indexed (now receipts) (now indices) ⌝ }
-    ensures { λ r. ⌜ Wrote (writeMessage (indicesIn (now (receipts .entry)) (now (indices .entry))) (resolve (bindingsIn (now (script .entry)) (now (variables .entry)) (now (places .entry))) (messageAt (drop at (now (script .entry)))))) (now (out .entry)) (now (out .exit)) r ⌝ }
+    requires { ⌜ (length (now sources) ≡ length (now variables)) × Indexed (now receipts) (now indices) ⌝ }
+    ensures { λ r. ⌜ Wrote (writeMessage (indicesIn (now (receipts .entry)) (now (indices .entry))) (resolve (bindingsIn (now (script .entry)) (now (variables .entry)) (now (sources .entry))) (messageAt (drop at (now (script .entry)))))) (now (out .entry)) (now (out .exit)) r ⌝ }
 {
     write_from(
         script,
         tail(script, at),
         1,
         variables,
-        places,
+        sources,
         receipts,
         indices,
         out,
@@ -176,26 +175,26 @@ fn write_own(
     offset: u32,
     left: u32,
     variables: &[u32],
-    places: &[u32],
+    sources: &[u32],
     counts: &[u32],
     receipts: &[u32],
     indices: &[u32],
     out: &mut [u32],
 ) -> usize
-    requires { ⌜ ItemsAsked (now script) offset (now variables) (now places) (now counts) (now receipts) (now indices) (now out) × (offset < length (ownItems (bindingsIn (now script) (now variables) (now places)) (now words))) ⌝ }
-    ensures { λ r. ⌜ Wrote (strung (indicesIn (now (receipts .entry)) (now (indices .entry))) left (drop offset (ownItems (bindingsIn (now (script .entry)) (now (variables .entry)) (now (places .entry))) (now (words .entry))))) (now (out .entry)) (now (out .exit)) r ⌝ }
+    requires { ⌜ ItemsAsked (now script) offset (now variables) (now sources) (now counts) (now receipts) (now indices) (now out) × (offset < length (ownItems (bindingsIn (now script) (now variables) (now sources)) (now words))) ⌝ }
+    ensures { λ r. ⌜ Wrote (strung (indicesIn (now (receipts .entry)) (now (indices .entry))) left (drop offset (ownItems (bindingsIn (now (script .entry)) (now (variables .entry)) (now (sources .entry))) (now (words .entry))))) (now (out .entry)) (now (out .exit)) r ⌝ }
 {
     let k = bound(first_word(words), variables);
     if k < variables.len() {
         let older = k + 1;
         return write_rest(
             script,
-            given(script, places, k),
+            given(script, sources, k),
             1,
             offset,
             left,
             tail(variables, older),
-            tail(places, older),
+            tail(sources, older),
             tail(counts, older),
             receipts,
             indices,
@@ -208,7 +207,7 @@ fn write_own(
         words,
         1,
         variables,
-        places,
+        sources,
         receipts,
         indices,
         &mut out[m..],
@@ -225,14 +224,14 @@ fn write_rest(
     offset: u32,
     left: u32,
     variables: &[u32],
-    places: &[u32],
+    sources: &[u32],
     counts: &[u32],
     receipts: &[u32],
     indices: &[u32],
     out: &mut [u32],
 ) -> usize
-    requires { ⌜ (pending + length (now words) < 2 ^ 64) × ItemsAsked (now script) offset (now variables) (now places) (now counts) (now receipts) (now indices) (now out) ⌝ }
-    ensures { λ r. ⌜ Wrote (strung (indicesIn (now (receipts .entry)) (now (indices .entry))) left (drop offset (allItems (bindingsIn (now (script .entry)) (now (variables .entry)) (now (places .entry))) (firsts pending (spelled (now (words .entry))))))) (now (out .entry)) (now (out .exit)) r ⌝ }
+    requires { ⌜ (pending + length (now words) < 2 ^ 64) × ItemsAsked (now script) offset (now variables) (now sources) (now counts) (now receipts) (now indices) (now out) ⌝ }
+    ensures { λ r. ⌜ Wrote (strung (indicesIn (now (receipts .entry)) (now (indices .entry))) left (drop offset (allItems (bindingsIn (now (script .entry)) (now (variables .entry)) (now (sources .entry))) (firsts pending (spelled (now (words .entry))))))) (now (out .entry)) (now (out .exit)) r ⌝ }
 {
     if pending == 0 {
         return 0;
@@ -249,7 +248,7 @@ fn write_rest(
             offset - o,
             left,
             variables,
-            places,
+            sources,
             counts,
             receipts,
             indices,
@@ -262,7 +261,7 @@ fn write_rest(
         offset,
         left,
         variables,
-        places,
+        sources,
         counts,
         receipts,
         indices,
@@ -276,7 +275,7 @@ fn write_rest(
         0,
         next,
         variables,
-        places,
+        sources,
         counts,
         receipts,
         indices,
@@ -291,16 +290,16 @@ pub fn write_items(
     at: usize,
     offset: u32,
     variables: &[u32],
-    places: &[u32],
+    sources: &[u32],
     counts: &[u32],
     receipts: &[u32],
     indices: &[u32],
     out: &mut [u32],
 ) -> usize
-    requires { ⌜ ItemsAsked (now script) offset (now variables) (now places) (now counts) (now receipts) (now indices) (now out) ⌝ }
-    ensures { λ r. ⌜ Wrote (writeMessage (indicesIn (now (receipts .entry)) (now (indices .entry))) (oneMessage (drop offset (items (resolve (bindingsIn (now (script .entry)) (now (variables .entry)) (now (places .entry))) (messageAt (drop at (now (script .entry))))))))) (now (out .entry)) (now (out .exit)) r ⌝ }
+    requires { ⌜ ItemsAsked (now script) offset (now variables) (now sources) (now counts) (now receipts) (now indices) (now out) ⌝ }
+    ensures { λ r. ⌜ Wrote (writeMessage (indicesIn (now (receipts .entry)) (now (indices .entry))) (oneMessage (drop offset (items (resolve (bindingsIn (now (script .entry)) (now (variables .entry)) (now (sources .entry))) (messageAt (drop at (now (script .entry))))))))) (now (out .entry)) (now (out .exit)) r ⌝ }
 {
-    let n = item_count(script, at, variables, places, counts);
+    let n = item_count(script, at, variables, sources, counts);
     if n <= offset {
         return write_word(0xD0000000, out);
     }
@@ -311,7 +310,7 @@ pub fn write_items(
         offset,
         n - offset,
         variables,
-        places,
+        sources,
         counts,
         receipts,
         indices,

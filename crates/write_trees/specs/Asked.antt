@@ -19,9 +19,9 @@ pub record AroundAsked (around : Around) (start index : ℕ) : Type 0 where
   pub placed : start < 65536
 
 -- where the words in front of a part's body are to be written
-pub record HeadAsked (script : List ℕ) (start offset : ℕ) (variables places counts : List ℕ) (around : Around) (out : List ℕ) : Type 0 where
+pub record HeadAsked (script : List ℕ) (start offset : ℕ) (variables sources counts : List ℕ) (around : Around) (out : List ℕ) : Type 0 where
   -- the counts that are kept with the bindings are right
-  pub counted : Kept itemCount script variables places counts
+  pub counted : Kept itemCount script variables sources counts
   -- the receipts around are held right
   pub right : Right around
   -- the part is none that PLACED made
@@ -30,9 +30,9 @@ pub record HeadAsked (script : List ℕ) (start offset : ℕ) (variables places 
   pub small : offset + length out < 4294967295
 
 -- where the part i is to be written, its word having the index
-pub record PartAsked (script starts offsets variables places counts : List ℕ) (around : Around) (i index fuel : ℕ) (out : List ℕ) : Type 0 where
+pub record PartAsked (script starts offsets variables sources counts : List ℕ) (around : Around) (i index fuel : ℕ) (out : List ℕ) : Type 0 where
   -- the counts that are kept with the bindings are right
-  pub counted : Kept itemCount script variables places counts
+  pub counted : Kept itemCount script variables sources counts
   -- the parts' messages stand in the script
   pub scripted : Scripted starts offsets
   -- the receipts around are held right
@@ -47,9 +47,9 @@ pub record PartAsked (script starts offsets variables places counts : List ℕ) 
   pub small : index + length out ≤ 268435456
 
 -- where a body is to be written, its first word having the index
-pub record BodyAsked (script starts offsets variables places counts : List ℕ) (around : Around) (index fuel : ℕ) (out : List ℕ) : Type 0 where
+pub record BodyAsked (script starts offsets variables sources counts : List ℕ) (around : Around) (index fuel : ℕ) (out : List ℕ) : Type 0 where
   -- the counts that are kept with the bindings are right
-  pub counted : Kept itemCount script variables places counts
+  pub counted : Kept itemCount script variables sources counts
   -- the parts' messages stand in the script
   pub scripted : Scripted starts offsets
   -- the receipts around are held right

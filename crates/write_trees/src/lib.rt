@@ -1,6 +1,6 @@
-// The tree writer: the words of the standing tree counted, then written at the front of a lent buffer. Each writer writes at
-// the front of the buffer that it is lent, says how many words it wrote, and lends the tail behind them to the next writer.
-// It rests on the promises of message_writer, closures and what is below.
+// The tree writer: the words of the standing tree counted, then written at the front of a lent buffer. Each writer
+// writes at the front of the buffer that it is lent, says how many words it wrote, and lends the tail behind them to
+// the next writer.
 use base_slices::sum;
 use base_slices::tail;
 use base_slices::wide;
@@ -52,25 +52,25 @@ fn count_head(
     start: u32,
     offset: u32,
     variables: &[u32],
-    places: &[u32],
+    sources: &[u32],
     counts: &[u32],
     sizes: &[u32],
     bulks: &[u32],
 ) -> u32
-    requires { ⌜ Cached (now script) (now variables) (now places) (now counts) (now sizes) (now bulks) × (start < 65536) × (offset < 4294967295) ⌝ }
-    ensures { λ r. ⌜ ((ix : Indices) → r ≡ capped (length (writeHead ix (unfoldHead (bindingsIn (now (script .entry)) (now (variables .entry)) (now (places .entry))) (headOf (now (script .entry)) kind start offset))))) ⌝ }
+    requires { ⌜ Cached (now script) (now variables) (now sources) (now counts) (now sizes) (now bulks) × (start < 65536) × (offset < 4294967295) ⌝ }
+    ensures { λ r. ⌜ ((ix : Indices) → r ≡ capped (length (writeHead ix (unfoldHead (bindingsIn (now (script .entry)) (now (variables .entry)) (now (sources .entry))) (headOf (now (script .entry)) kind start offset))))) ⌝ }
 {
     let at = wide(start);
     if kind == 2 {
         return sum(
             1,
-            item_words(script, at, offset, variables, places, counts, sizes, bulks),
+            item_words(script, at, offset, variables, sources, counts, sizes, bulks),
         );
     }
     if kind == 3 {
         return 1;
     }
-    sum(1, words_of(script, at, variables, places, sizes))
+    sum(1, words_of(script, at, variables, sources, sizes))
 }
 
 // Whether the body of a part of that kind is written: an output has none.
@@ -93,15 +93,15 @@ fn count_part<'a>(
     starts: &'a [u32; 64],
     offsets: &'a [u32; 64],
     variables: &'a [u32],
-    places: &'a [u32],
+    sources: &'a [u32],
     counts: &'a [u32],
     sizes: &'a [u32],
     bulks: &'a [u32],
     i: usize,
     fuel: usize,
 ) -> u32
-    requires { ⌜ Cached (now script) (now variables) (now places) (now counts) (now sizes) (now bulks) × Scripted (now starts) (now offsets) × (i < 64) ⌝ }
-    ensures { λ r. ⌜ CountsPart (bindingsIn (now (script .entry)) (now (variables .entry)) (now (places .entry))) (bodyIn (now (kids .entry))) (heads (now (script .entry)) (now (kinds .entry)) (now (starts .entry)) (now (offsets .entry))) (bodyIn (now (kids .entry)) i) (heads (now (script .entry)) (now (kinds .entry)) (now (starts .entry)) (now (offsets .entry)) i) fuel r ⌝ }
+    requires { ⌜ Cached (now script) (now variables) (now sources) (now counts) (now sizes) (now bulks) × Scripted (now starts) (now offsets) × (i < 64) ⌝ }
+    ensures { λ r. ⌜ CountsPart (bindingsIn (now (script .entry)) (now (variables .entry)) (now (sources .entry))) (bodyIn (now (kids .entry))) (heads (now (script .entry)) (now (kinds .entry)) (now (starts .entry)) (now (offsets .entry))) (bodyIn (now (kids .entry)) i) (heads (now (script .entry)) (now (kinds .entry)) (now (starts .entry)) (now (offsets .entry)) i) fuel r ⌝ }
 {
     let kind = kinds[i];
     let start = starts[i];
@@ -112,7 +112,7 @@ fn count_part<'a>(
         start,
         offset,
         variables,
-        places,
+        sources,
         counts,
         sizes,
         bulks,
@@ -128,7 +128,7 @@ fn count_part<'a>(
                 starts,
                 offsets,
                 variables,
-                places,
+                sources,
                 counts,
                 sizes,
                 bulks,
@@ -148,15 +148,15 @@ fn count_body<'a>(
     starts: &'a [u32; 64],
     offsets: &'a [u32; 64],
     variables: &'a [u32],
-    places: &'a [u32],
+    sources: &'a [u32],
     counts: &'a [u32],
     sizes: &'a [u32],
     bulks: &'a [u32],
     left: u64,
     fuel: usize,
 ) -> u32
-    requires { ⌜ Cached (now script) (now variables) (now places) (now counts) (now sizes) (now bulks) × Scripted (now starts) (now offsets) ⌝ }
-    ensures { λ r. ⌜ CountsBody (bindingsIn (now (script .entry)) (now (variables .entry)) (now (places .entry))) (bodyIn (now (kids .entry))) (heads (now (script .entry)) (now (kinds .entry)) (now (starts .entry)) (now (offsets .entry))) (members left) fuel r ⌝ }
+    requires { ⌜ Cached (now script) (now variables) (now sources) (now counts) (now sizes) (now bulks) × Scripted (now starts) (now offsets) ⌝ }
+    ensures { λ r. ⌜ CountsBody (bindingsIn (now (script .entry)) (now (variables .entry)) (now (sources .entry))) (bodyIn (now (kids .entry))) (heads (now (script .entry)) (now (kinds .entry)) (now (starts .entry)) (now (offsets .entry))) (members left) fuel r ⌝ }
 {
     if left == 0 {
         return 1;
@@ -172,7 +172,7 @@ fn count_body<'a>(
         starts,
         offsets,
         variables,
-        places,
+        sources,
         counts,
         sizes,
         bulks,
@@ -189,7 +189,7 @@ fn count_body<'a>(
             starts,
             offsets,
             variables,
-            places,
+            sources,
             counts,
             sizes,
             bulks,
@@ -207,13 +207,13 @@ pub fn count_words<'a>(
     starts: &'a [u32; 64],
     offsets: &'a [u32; 64],
     variables: &'a [u32],
-    places: &'a [u32],
+    sources: &'a [u32],
     counts: &'a [u32],
     sizes: &'a [u32],
     bulks: &'a [u32],
 ) -> u32
-    requires { ⌜ Cached (now script) (now variables) (now places) (now counts) (now sizes) (now bulks) × Scripted (now starts) (now offsets) ⌝ }
-    ensures { λ r. ⌜ CountsBody (bindingsIn (now (script .entry)) (now (variables .entry)) (now (places .entry))) (bodyIn (now (kids .entry))) (heads (now (script .entry)) (now (kinds .entry)) (now (starts .entry)) (now (offsets .entry))) (bodyIn (now (kids .entry)) 64) 64 r ⌝ }
+    requires { ⌜ Cached (now script) (now variables) (now sources) (now counts) (now sizes) (now bulks) × Scripted (now starts) (now offsets) ⌝ }
+    ensures { λ r. ⌜ CountsBody (bindingsIn (now (script .entry)) (now (variables .entry)) (now (sources .entry))) (bodyIn (now (kids .entry))) (heads (now (script .entry)) (now (kinds .entry)) (now (starts .entry)) (now (offsets .entry))) (bodyIn (now (kids .entry)) 64) 64 r ⌝ }
 {
     let top = kids[64];
     count_body(
@@ -223,7 +223,7 @@ pub fn count_words<'a>(
         starts,
         offsets,
         variables,
-        places,
+        sources,
         counts,
         sizes,
         bulks,
@@ -278,14 +278,14 @@ fn write_label(
     start: u32,
     offset: u32,
     variables: &[u32],
-    places: &[u32],
+    sources: &[u32],
     counts: &[u32],
     receipts: &[u32],
     indices: &[u32],
     out: &mut [u32],
 ) -> usize
-    requires { ⌜ ItemsAsked (now script) offset (now variables) (now places) (now counts) (now receipts) (now indices) (now out) × (start < 65536) ⌝ }
-    ensures { λ r. ⌜ Wrote (writeLabel (indicesIn (now (receipts .entry)) (now (indices .entry))) (unfoldHead (bindingsIn (now (script .entry)) (now (variables .entry)) (now (places .entry))) (headOf (now (script .entry)) kind start offset))) (now (out .entry)) (now (out .exit)) r ⌝ }
+    requires { ⌜ ItemsAsked (now script) offset (now variables) (now sources) (now counts) (now receipts) (now indices) (now out) × (start < 65536) ⌝ }
+    ensures { λ r. ⌜ Wrote (writeLabel (indicesIn (now (receipts .entry)) (now (indices .entry))) (unfoldHead (bindingsIn (now (script .entry)) (now (variables .entry)) (now (sources .entry))) (headOf (now (script .entry)) kind start offset))) (now (out .entry)) (now (out .exit)) r ⌝ }
 {
     let at = wide(start);
     if kind == 2 {
@@ -294,7 +294,7 @@ fn write_label(
             at,
             offset,
             variables,
-            places,
+            sources,
             counts,
             receipts,
             indices,
@@ -304,7 +304,7 @@ fn write_label(
     if kind == 3 {
         return 0;
     }
-    write_message(script, at, variables, places, receipts, indices, out)
+    write_message(script, at, variables, sources, receipts, indices, out)
 }
 
 // Writes the words in front of a part's body.
@@ -314,13 +314,13 @@ fn write_head(
     start: u32,
     offset: u32,
     variables: &[u32],
-    places: &[u32],
+    sources: &[u32],
     counts: &[u32],
     around: Around,
     out: &mut [u32],
 ) -> usize
-    requires { ⌜ HeadAsked (now script) start offset (now variables) (now places) (now counts) around (now out) ⌝ }
-    ensures { λ r. ⌜ Wrote (writeHead (indicesOf around) (unfoldHead (bindingsIn (now (script .entry)) (now (variables .entry)) (now (places .entry))) (headOf (now (script .entry)) kind start offset))) (now (out .entry)) (now (out .exit)) r ⌝ }
+    requires { ⌜ HeadAsked (now script) start offset (now variables) (now sources) (now counts) around (now out) ⌝ }
+    ensures { λ r. ⌜ Wrote (writeHead (indicesOf around) (unfoldHead (bindingsIn (now (script .entry)) (now (variables .entry)) (now (sources .entry))) (headOf (now (script .entry)) kind start offset))) (now (out .entry)) (now (out .exit)) r ⌝ }
 {
     let receipts = around.variables;
     let indices = around.indices;
@@ -332,7 +332,7 @@ fn write_head(
         start,
         offset,
         variables,
-        places,
+        sources,
         counts,
         tail(&receipts, first),
         tail(&indices, first),
@@ -349,7 +349,7 @@ fn write_part<'a, 'b>(
     starts: &'a [u32; 64],
     offsets: &'a [u32; 64],
     variables: &'a [u32],
-    places: &'a [u32],
+    sources: &'a [u32],
     counts: &'a [u32],
     around: Around,
     i: usize,
@@ -357,8 +357,8 @@ fn write_part<'a, 'b>(
     fuel: usize,
     out: &'b mut [u32],
 ) -> usize
-    requires { ⌜ PartAsked (now script) (now starts) (now offsets) (now variables) (now places) (now counts) around i index fuel (now out) ⌝ }
-    ensures { λ r. ⌜ WritesPart (indicesOf around) (bindingsIn (now (script .entry)) (now (variables .entry)) (now (places .entry))) (bodyIn (now (kids .entry))) (heads (now (script .entry)) (now (kinds .entry)) (now (starts .entry)) (now (offsets .entry))) (bodyIn (now (kids .entry)) i) (heads (now (script .entry)) (now (kinds .entry)) (now (starts .entry)) (now (offsets .entry)) i) index fuel (now (out .entry)) (now (out .exit)) r ⌝ }
+    requires { ⌜ PartAsked (now script) (now starts) (now offsets) (now variables) (now sources) (now counts) around i index fuel (now out) ⌝ }
+    ensures { λ r. ⌜ WritesPart (indicesOf around) (bindingsIn (now (script .entry)) (now (variables .entry)) (now (sources .entry))) (bodyIn (now (kids .entry))) (heads (now (script .entry)) (now (kinds .entry)) (now (starts .entry)) (now (offsets .entry))) (bodyIn (now (kids .entry)) i) (heads (now (script .entry)) (now (kinds .entry)) (now (starts .entry)) (now (offsets .entry)) i) index fuel (now (out .entry)) (now (out .exit)) r ⌝ }
 {
     let kind = kinds[i];
     let start = starts[i];
@@ -369,7 +369,7 @@ fn write_part<'a, 'b>(
         start,
         offset,
         variables,
-        places,
+        sources,
         counts,
         around,
         out,
@@ -383,7 +383,7 @@ fn write_part<'a, 'b>(
             starts,
             offsets,
             variables,
-            places,
+            sources,
             counts,
             around_body(around, kind, start, index as u32),
             inside,
@@ -404,7 +404,7 @@ fn write_body<'a, 'b>(
     starts: &'a [u32; 64],
     offsets: &'a [u32; 64],
     variables: &'a [u32],
-    places: &'a [u32],
+    sources: &'a [u32],
     counts: &'a [u32],
     around: Around,
     left: u64,
@@ -412,8 +412,8 @@ fn write_body<'a, 'b>(
     fuel: usize,
     out: &'b mut [u32],
 ) -> usize
-    requires { ⌜ BodyAsked (now script) (now starts) (now offsets) (now variables) (now places) (now counts) around index fuel (now out) ⌝ }
-    ensures { λ r. ⌜ Writes (indicesOf around) (bindingsIn (now (script .entry)) (now (variables .entry)) (now (places .entry))) (bodyIn (now (kids .entry))) (heads (now (script .entry)) (now (kinds .entry)) (now (starts .entry)) (now (offsets .entry))) (members left) index fuel (now (out .entry)) (now (out .exit)) r ⌝ }
+    requires { ⌜ BodyAsked (now script) (now starts) (now offsets) (now variables) (now sources) (now counts) around index fuel (now out) ⌝ }
+    ensures { λ r. ⌜ Writes (indicesOf around) (bindingsIn (now (script .entry)) (now (variables .entry)) (now (sources .entry))) (bodyIn (now (kids .entry))) (heads (now (script .entry)) (now (kinds .entry)) (now (starts .entry)) (now (offsets .entry))) (members left) index fuel (now (out .entry)) (now (out .exit)) r ⌝ }
 {
     if out.len() == 0 {
         return 0;
@@ -432,7 +432,7 @@ fn write_body<'a, 'b>(
         starts,
         offsets,
         variables,
-        places,
+        sources,
         counts,
         around,
         i,
@@ -448,7 +448,7 @@ fn write_body<'a, 'b>(
         starts,
         offsets,
         variables,
-        places,
+        sources,
         counts,
         around,
         others,
@@ -467,14 +467,14 @@ pub fn write_tree<'a, 'b>(
     starts: &'a [u32; 64],
     offsets: &'a [u32; 64],
     variables: &'a [u32],
-    places: &'a [u32],
+    sources: &'a [u32],
     counts: &'a [u32],
     sizes: &'a [u32],
     bulks: &'a [u32],
     out: &'b mut [u32],
 ) -> Fitting
-    requires { ⌜ Cached (now script) (now variables) (now places) (now counts) (now sizes) (now bulks) × Scripted (now starts) (now offsets) ⌝ }
-    ensures { λ r. ⌜ ((b : Closure) → bodyIn (now (kids .entry)) 64 ≡ tops b → Held (bodyIn (now (kids .entry))) (heads (now (script .entry)) (now (kinds .entry)) (now (starts .entry)) (now (offsets .entry))) b → parts b ≤ 64 → Fitted (write [] 0 (unfolded (bindingsIn (now (script .entry)) (now (variables .entry)) (now (places .entry))) b)) (now (out .entry)) (now (out .exit)) r) ⌝ }
+    requires { ⌜ Cached (now script) (now variables) (now sources) (now counts) (now sizes) (now bulks) × Scripted (now starts) (now offsets) ⌝ }
+    ensures { λ r. ⌜ ((b : Closure) → bodyIn (now (kids .entry)) 64 ≡ tops b → Held (bodyIn (now (kids .entry))) (heads (now (script .entry)) (now (kinds .entry)) (now (starts .entry)) (now (offsets .entry))) b → parts b ≤ 64 → Fitted (write [] 0 (unfolded (bindingsIn (now (script .entry)) (now (variables .entry)) (now (sources .entry))) b)) (now (out .entry)) (now (out .exit)) r) ⌝ }
 {
     let n = count_words(
         script,
@@ -483,7 +483,7 @@ pub fn write_tree<'a, 'b>(
         starts,
         offsets,
         variables,
-        places,
+        sources,
         counts,
         sizes,
         bulks,
@@ -509,7 +509,7 @@ pub fn write_tree<'a, 'b>(
         starts,
         offsets,
         variables,
-        places,
+        sources,
         counts,
         nothing_around(),
         top,

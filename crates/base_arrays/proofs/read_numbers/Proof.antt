@@ -14,7 +14,7 @@ Inv-loop from at to₀ i₀ to i = Filling (λ j. getD from (at + j) 0) (length 
 abbrev μ-loop : tie.MeasureT-loop
 μ-loop from at to₀ i₀ to i = length to₀ - i
 
--- the way from a place to one before it
+-- the way from a point of the code to one before it
 abbrev in-loop : tie.After-shared-slice-known Inv-loop μ-loop → tie.At-loop Inv-loop μ-loop
 in-loop c = c .before .before
 

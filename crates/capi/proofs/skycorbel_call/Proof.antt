@@ -5,7 +5,7 @@ use borrow.Author.Needs.{needs}
 use Rattle.capi.proofs.skycorbel_call.Statement.{statement}
 use Rattle.capi.proofs.skycorbel_call.Tie as tie
 
--- ---- the ways from a place to one before it
+-- ---- the ways from a point of the code to one before it
 
 abbrev told : tie.After-slice-known4 → tie.After-tell
 told c = c .before .before

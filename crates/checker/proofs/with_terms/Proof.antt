@@ -4,12 +4,12 @@ use borrow.Author.Needs.{needs}
 use Rattle.checker.proofs.with_terms.Statement.{statement}
 use Rattle.checker.proofs.with_terms.Tie as tie
 
--- ---- the ways from a place to one before it
+-- ---- the ways from a point of the code to one before it
 
 abbrev first-start : tie.After-first-state → tie.Start
 first-start c = c .before .before .before .before .before .before .before .before .before .before
 
-abbrev lent : tie.After-numbers2 → tie.After-lend
+abbrev lent : tie.After-numbers2 → tie.After-to-arrays
 lent c = c .before .before .before .before
 
 abbrev list-start : tie.After-run-list → tie.Start
@@ -21,19 +21,19 @@ halted c = c .before .before
 abbrev ended-list : tie.After-ended → tie.After-run-list
 ended-list c = c .before .before
 
-abbrev made : tie.After-borrowed → tie.After-enum-told
+abbrev made : tie.After-from-arrays → tie.After-enum-told
 made c = c .before .before .before
 
-abbrev borrowed-list : tie.After-borrowed → tie.After-run-list
+abbrev borrowed-list : tie.After-from-arrays → tie.After-run-list
 borrowed-list c = made c .before .before
 
 abbrev walked : tie.After-slice-known2 → tie.After-with-moves
 walked c = c .before .before
 
-abbrev walked-borrowed : tie.After-with-moves → tie.After-borrowed
+abbrev walked-borrowed : tie.After-with-moves → tie.After-from-arrays
 walked-borrowed c = c .before .before
 
-began : (c : tie.After-lend) → let a = first-start (c .before) .args in Began (a .script .now) (a .parts) (c .before .first-state .result) (c .lend .result .sets) (c .lend .result .numbers)
+began : (c : tie.After-to-arrays) → let a = first-start (c .before) .args in Began (a .script .now) (a .parts) (c .before .first-state .result) (c .to-arrays .result .sets) (c .to-arrays .result .numbers)
 began c = search needs
 
 -- ---- the needs
@@ -49,12 +49,12 @@ returns c =
 returns-2 : tie.Need-returns-2
 returns-2 c =
     let b = walked-borrowed (walked c) in let l = borrowed-list b in
-    list-answered (list-start l .pre) (began (lent (l .before))) (l .run-list .ensures) (made b .enum-told .given .1) (b .borrowed .ensures) _ _ _ (walked c .with-moves .ensures)
+    list-answered (list-start l .pre) (began (lent (l .before))) (l .run-list .ensures) (made b .enum-told .given .1) (b .from-arrays .ensures) _ _ _ (walked c .with-moves .ensures)
 
 with-moves-requires : tie.Need-with-moves-requires
 with-moves-requires c κs =
     let b = c .before in let l = borrowed-list b in
-    list-walkable (list-start l .pre) (began (lent (l .before))) (l .run-list .ensures) (made b .enum-told .given .1) (b .borrowed .ensures)
+    list-walkable (list-start l .pre) (began (lent (l .before))) (l .run-list .ensures) (made b .enum-told .given .1) (b .from-arrays .ensures)
 
 pub with-terms-spec : {M : Type 1} → statement M
 with-terms-spec =

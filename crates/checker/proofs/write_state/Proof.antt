@@ -20,16 +20,16 @@ use borrow.Author.Needs.{needs}
 use Rattle.checker.proofs.write_state.Statement.{statement}
 use Rattle.checker.proofs.write_state.Tie as tie
 
--- ---- the ways from a place to one before it
+-- ---- the ways from a point of the code to one before it
 
 abbrev variables-start : tie.After-variables2 → tie.Start
 variables-start c = c .before .before .before .before .before .before .before .before .before .before .before .before .before
 
-abbrev places-variables : tie.After-places2 → tie.After-variables2
-places-variables c = c .before .before
+abbrev sources-variables : tie.After-sources2 → tie.After-variables2
+sources-variables c = c .before .before
 
-abbrev counts-places : tie.After-counts2 → tie.After-places2
-counts-places c = c .before .before
+abbrev counts-sources : tie.After-counts2 → tie.After-sources2
+counts-sources c = c .before .before
 
 abbrev sizes-counts : tie.After-sizes2 → tie.After-counts2
 sizes-counts c = c .before .before
@@ -38,13 +38,13 @@ abbrev bulks-sizes : tie.After-bulks2 → tie.After-sizes2
 bulks-sizes c = c .before .before
 
 abbrev counts-start : tie.After-counts2 → tie.Start
-counts-start c = variables-start (places-variables (counts-places c))
+counts-start c = variables-start (sources-variables (counts-sources c))
 
 -- the bindings' arrays
-long : (s : tie.Start) → let b = s .args .state .bindings in (length (b .variables) ≡ 32) × (length (b .places) ≡ 32) × (length (b .counts) ≡ 32) × (length (b .sizes) ≡ 32) × (length (b .bulks) ≡ 32)
+long : (s : tie.Start) → let b = s .args .state .bindings in (length (b .variables) ≡ 32) × (length (b .sources) ≡ 32) × (length (b .counts) ≡ 32) × (length (b .sizes) ≡ 32) × (length (b .bulks) ≡ 32)
 long s = search (s .good .1 .1 .1 .0 .1 .1 .1 .1 .1 .0, needs)
 
-module _ (script kinds starts : List ℕ) (s : State) (vs ps : List ℕ) (ev : vs ≡ drop (s .bindings .first) (s .bindings .variables)) (ep : ps ≡ drop (s .bindings .first) (s .bindings .places)) where
+module _ (script kinds starts : List ℕ) (s : State) (vs ps : List ℕ) (ev : vs ≡ drop (s .bindings .first) (s .bindings .variables)) (ep : ps ≡ drop (s .bindings .first) (s .bindings .sources)) where
   lent-cached : (ns zs us : List ℕ) → ns ≡ drop (s .bindings .first) (s .bindings .counts) → zs ≡ drop (s .bindings .first) (s .bindings .sizes) → us ≡ drop (s .bindings .first) (s .bindings .bulks)
       → Writable script kinds starts s → Cached script vs ps ns zs us
   lent-cached ns zs us en ez eu W = transport (λ q. Cached script (sym ev q) (sym ep q) (sym en q) (sym ez q) (sym eu q)) (W .ready .bound .cached)
@@ -67,7 +67,7 @@ write-state-spec =
     tie.close
     (tie.spec
     (λ c. sym (long (variables-start c) .0)) (λ c κs. search needs)
-    (λ c. sym (long (variables-start (places-variables c)) .1)) (λ c κs. search needs)
+    (λ c. sym (long (variables-start (sources-variables c)) .1)) (λ c κs. search needs)
     (λ c. sym (long (counts-start c) .2)) (λ c κs. search needs)
     (λ c. sym (long (counts-start (sizes-counts c)) .3)) (λ c κs. search needs)
     (λ c. sym (long (counts-start (sizes-counts (bulks-sizes c))) .4)) (λ c κs. search needs)

@@ -32,7 +32,7 @@ module _ (t : ℕ) where
   abbrev claims : lts.Claims
   claims = (own.Asked, own.Learnt, after-own.Asked, after-own.Learnt, tail.Asked, tail.Learnt, and 3 ps (falls 3 ps _<_ μ t) count-from.Pre, count-from.Post, sum.Asked, sum.Learnt)
 
-  -- the places, and the way from each to those before it
+  -- the points of the code, and the way from each to those before it
   abbrev At : (lts.Claims → In 3 ps → Out 3 ps r → Type 0) → Type 0
   At place = place claims at count-from.Post
 
@@ -49,19 +49,19 @@ module _ (t : ℕ) where
   sum-tail c = c .before .before
 
   none-returns : At lts.Need-returns
-  none-returns c script places ok = no-items _ (none-pending (bindingsIn script (known-start (c .before) .args .variables .now) places) _ (spelled (known-start (c .before) .args .words .now)) (c .if1 .taken))
+  none-returns c script sources ok = no-items _ (none-pending (bindingsIn script (known-start (c .before) .args .variables .now) sources) _ (spelled (known-start (c .before) .args .words .now)) (c .if1 .taken))
 
   behind-requires : At lts.Need-count-from-requires
   behind-requires c κs = let l = ap length (c .tail .ensures) in let p = c .before .after-own .ensures in (omega arith, (omega arith, tail-start c .pre .1 .1))
 
   behind-returns : At lts.Need-returns-2
-  behind-returns c script places ok =
+  behind-returns c script sources ok =
       let l = sum-tail c in
       let a = tail-start l .args in
       let b = l .before .after-own .result in
-      let σ = bindingsIn script (a .variables .now) places in
+      let σ = bindingsIn script (a .variables .now) sources in
       items-sum _ (ownItems σ (a .words .now)) (allItems σ (firsts (b .left) (spelled (drop (b .used) (a .words .now)))))
-      (l .before .after-own .ensures .split σ) (tail-own l .own .ensures script places ok) (rw (l .tail .ensures) at (c .before .count-from .ensures script places ok)) (c .sum .ensures)
+      (l .before .after-own .ensures .split σ) (tail-own l .own .ensures script sources ok) (rw (l .tail .ensures) at (c .before .count-from .ensures script sources ok)) (c .sum .ensures)
 
   met : {M : Type 1} → lts.Closed claims at count-from.Post M
   met = lts.spec claims at count-from.Post none-returns (λ c κs. known-start (c .before) .pre .1 .1) (λ c κs. omega arith)

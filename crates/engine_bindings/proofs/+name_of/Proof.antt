@@ -29,7 +29,7 @@ module _ (t : ℕ) where
   abbrev claims : lts.Claims
   claims = (first-word.Asked, first-word.Learnt, bound.Asked, bound.Learnt, given.Asked, given.Learnt, tail.Asked, tail.Learnt, and 4 ps (falls 4 ps _<_ μ t) name-of.Pre, name-of.Post, plain-name.Asked, plain-name.Learnt)
 
-  -- the places, and the way from each to those before it
+  -- the points of the code, and the way from each to those before it
   abbrev At : (lts.Claims → In 4 ps → Out 4 ps r → Type 0) → Type 0
   At place = place claims at name-of.Post
 
@@ -52,7 +52,7 @@ module _ (t : ℕ) where
       let f = g .before in
       let s = bound-start f in
       let a = s .args in
-      c .name-of .ensures ∙ ap nameOf (given-message (a .script .now) (a .variables .now) (a .places .now) (s .pre .1) _ (g .if1 .taken) (a .words .now) (first-bound _ _ (f .before .first-word .ensures) (f .bound .ensures)) (l .tail .ensures) (c .before .tail2 .ensures) (l .before .given .ensures))
+      c .name-of .ensures ∙ ap nameOf (given-message (a .script .now) (a .variables .now) (a .sources .now) (s .pre .1) _ (g .if1 .taken) (a .words .now) (first-bound _ _ (f .before .first-word .ensures) (f .bound .ensures)) (l .tail .ensures) (c .before .tail2 .ensures) (l .before .given .ensures))
 
   older-requires : At lts.Need-name-of-requires
   older-requires c κs = let l = simp length-drop at (ap length (c .before .tail .ensures)) in let m = simp length-drop at (ap length (c .tail2 .ensures)) in (omega arith, omega arith)
@@ -61,7 +61,7 @@ module _ (t : ℕ) where
   plain-returns c =
       let b = plain-bound c in
       let a = bound-start b .args in
-      c .plain-name .ensures ∙ rw (b .before .first-word .ensures) (sym (name-free _ (a .words .now) (unbound-free (a .script .now) (a .variables .now) (a .places .now) _ (omega (arith, first-bound _ _ (b .before .first-word .ensures) (b .bound .ensures), c .before .if1 .left)))))
+      c .plain-name .ensures ∙ rw (b .before .first-word .ensures) (sym (name-free _ (a .words .now) (unbound-free (a .script .now) (a .variables .now) (a .sources .now) _ (omega (arith, first-bound _ _ (b .before .first-word .ensures) (b .bound .ensures), c .before .if1 .left)))))
 
   met : {M : Type 1} → lts.Closed claims at name-of.Post M
   met = lts.spec claims at name-of.Post (λ c κs. search needs) (λ c κs. search needs) (λ c κs. omega arith) (λ c. omega arith) (λ c κs. search needs)

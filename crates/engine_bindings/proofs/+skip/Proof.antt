@@ -28,7 +28,7 @@ module _ (t : ℕ) where
   abbrev claims : lts.Claims
   claims = (first-word.Asked, first-word.Learnt, arity.Asked, arity.Learnt, tail.Asked, tail.Learnt, and 1 ps (falls 1 ps _<_ μ t) skip.Pre, skip.Post)
 
-  -- the places, and the way from each to those before it
+  -- the points of the code, and the way from each to those before it
   abbrev At : (lts.Claims → In 1 ps → Out 1 ps r → Type 0) → Type 0
   At place = place claims at skip.Post
 

@@ -11,7 +11,7 @@ use Rattle.engine_bindings.proofs.Passing.{room, split-first}
 use Rattle.engine_bindings.proofs.after_own.Statement.{statement}
 use Rattle.engine_bindings.proofs.after_own.Tie as tie
 
--- the way from a place to one before it
+-- the way from a point of the code to one before it
 abbrev tail-first : tie.After-tail → tie.After-first-word
 tail-first c = c .before .before
 

@@ -11,14 +11,14 @@ use Rattle.engine_bindings.proofs.Counting.{kept-length}
 use Rattle.engine_bindings.proofs.item_count.Statement.{statement}
 use Rattle.engine_bindings.proofs.item_count.Tie as tie
 
--- the way from a place to one before it
+-- the way from a point of the code to one before it
 abbrev tail-start : tie.After-tail → tie.Start
 tail-start c = c .before .before .before .before .before
 
 returns : tie.Need-returns
 returns c =
     let s = tail-start (c .before) in
-    c .count-from .ensures (s .args .script .now) (s .args .places .now) (s .pre) ∙ ap (λ (l : List Message). capped (length l)) (one-message _ (c .before .tail .ensures))
+    c .count-from .ensures (s .args .script .now) (s .args .sources .now) (s .pre) ∙ ap (λ (l : List Message). capped (length l)) (one-message _ (c .before .tail .ensures))
 
 pub item-count-spec : {M : Type 1} → statement M
 item-count-spec = tie.close (tie.spec (λ c κs. search needs)

@@ -8,7 +8,7 @@ use Rattle.engine_bindings.proofs.Bindings.{message-word, message-given
 use Rattle.engine_bindings.proofs.name_at.Statement.{statement}
 use Rattle.engine_bindings.proofs.name_at.Tie as tie
 
--- the way from a place to one before it
+-- the way from a point of the code to one before it
 abbrev known-start : tie.After-shared-slice-known3 → tie.Start
 known-start c = c .before .before .before
 

@@ -15,18 +15,18 @@ use Rattle.engine_message_words.specs.Words.{firstWord, shapeOf, boundAt}
 use Rattle.read_messages.specs.declared.MessageWord.{MessageWord}
 use Rattle.engine_first_items.specs.Search.{searching}
 use Rattle.engine_first_items.specs.declared.Search.{Search}
-use Rattle.engine_first_items.proofs.Searching.{wordsLeft, Stands, On, turns, left-length, unbound, sought-none, stands-first, stands-here, on-variable, on-behind}
+use Rattle.engine_first_items.proofs.Searching.{wordsLeft, Finding, On, turns, left-length, unbound, sought-none, stands-first, stands-here, on-variable, on-behind}
 use Rattle.engine_first_items.proofs.first_item.Statement.{statement}
 use Rattle.engine_first_items.proofs.first_item.Tie as tie
 
 abbrev Inv-loop : tie.InvT-loop
-Inv-loop script at offset variables places counts n s₀ s =
-    Stands script variables places (firstItem (drop offset (items (resolve (bindingsIn script variables places) (messageAt (drop at script)))))) s
+Inv-loop script at offset variables sources counts n s₀ s =
+    Finding script variables sources (firstItem (drop offset (items (resolve (bindingsIn script variables sources) (messageAt (drop at script)))))) s
 
 abbrev μ-loop : tie.MeasureT-loop
-μ-loop script at offset variables places counts n s₀ s = turns variables s
+μ-loop script at offset variables sources counts n s₀ s = turns variables s
 
--- ---- the places, and the way from each to those before it
+-- ---- the points of the code, and the way from each to those before it
 
 abbrev At : (tie.InvT-loop → tie.MeasureT-loop → Type 0) → Type 0
 At place = place Inv-loop μ-loop
@@ -106,7 +106,7 @@ module _ (c : At tie.After-bound) where
   abbrev Onward : Search → Type 0
   Onward r =
       let a = bound-start c .args in
-      On (a .script .now) (a .variables .now) (a .places .now) (firstItem (drop (a .offset) (items (resolve (bindingsIn (a .script .now) (a .variables .now) (a .places .now)) (messageAt (drop (a .at) (a .script .now))))))) s r
+      On (a .script .now) (a .variables .now) (a .sources .now) (firstItem (drop (a .offset) (items (resolve (bindingsIn (a .script .now) (a .variables .now) (a .sources .now)) (messageAt (drop (a .at) (a .script .now))))))) s r
 
 -- it is no variable that is bound
 free : (c : At tie.Else2) → let b = else-bound c in length (receipts b) ≤ boundAt (firstWord (words b)) (receipts b)
@@ -137,7 +137,7 @@ on-free c =
 loop-holds : At tie.Need-loop-holds
 loop-holds c =
     let a = less-start c in
-    rw (c .less .ensures) (stands-first (a .args .script .now) (a .args .variables .now) (a .args .places .now) (a .args .at) (a .args .offset) (a .pre .1))
+    rw (c .less .ensures) (stands-first (a .args .script .now) (a .args .variables .now) (a .args .sources .now) (a .args .at) (a .args .offset) (a .pre .1))
 
 add-k : At tie.Need-add-k
 add-k c =

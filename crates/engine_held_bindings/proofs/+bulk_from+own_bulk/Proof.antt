@@ -58,7 +58,7 @@ module _ (t : ℕ) where
   abbrev own-claims : own-lts.Claims
   own-claims = (first-word.Asked, first-word.Learnt, bound.Asked, bound.Learnt, given.Asked, given.Learnt, tail.Asked, tail.Learnt, from-below, bulk-from.Post, size-from.Asked, size-from.Learnt, sum.Asked, sum.Learnt)
 
-  -- ---- bulk_from: the places, and the way from each to those before it
+  -- ---- bulk_from: the points of the code, and the way from each to those before it
 
   abbrev From : (from-lts.Claims → In 7 from-kinds.ps → Out 7 from-kinds.ps from-kinds.r → Type 0) → Type 0
   From place = place from-claims from-at bulk-from.Post
@@ -86,13 +86,13 @@ module _ (t : ℕ) where
   -- ---- bulk_from: what is known at each
 
   abbrev σ : From from-lts.Start → List (ℕ × Message)
-  σ s = bindingsIn (s .args .script .now) (s .args .variables .now) (s .args .places .now)
+  σ s = bindingsIn (s .args .script .now) (s .args .variables .now) (s .args .sources .now)
 
   abbrev own-items : From from-lts.After-after-own → List Message
   own-items c = let s = from-start c in ownItems (σ s) (s .args .words .now)
 
   counted : (c : From from-lts.After-after-own) → c .before .own .result ≡ capped (length (own-items c))
-  counted c = let s = from-start c in c .before .own .ensures (s .args .script .now) (s .args .places .now) (s .pre .1 .cached .counted)
+  counted c = let s = from-start c in c .before .own .ensures (s .args .script .now) (s .args .sources .now) (s .pre .1 .cached .counted)
 
   -- what is pending is the word's own items and those behind them
   pending-after : (c : From from-lts.After-after-own) {ws : List ℕ} → ws ≡ drop (c .after-own .result .used) (from-start c .args .words .now)
@@ -144,7 +144,7 @@ module _ (t : ℕ) where
       (λ c κs. (omega (arith, c .before .if1 .left), counted-start c .pre .1 .room))
       (λ c κs. search needs) past-requires past-returns own-requires (λ c κs. search needs) behind-requires (λ c κs. search needs) behind-returns
 
-  -- ---- own_bulk: the places, and the way from each to those before it
+  -- ---- own_bulk: the points of the code, and the way from each to those before it
 
   abbrev Own : (own-lts.Claims → In 7 own-kinds.ps → Out 7 own-kinds.ps own-kinds.r → Type 0) → Type 0
   Own place = place own-claims own-at own-bulk.Post
@@ -178,8 +178,8 @@ module _ (t : ℕ) where
       let s = own-start b in
       let a = s .args in
       kept-given (s .pre .1 .cached .bulked) _ (g .if1 .taken)
-      ∙ ap (λ (l : List Message). capped (bulk l)) (given-items (a .script .now) (a .variables .now) (a .places .now) (s .pre .1 .cached .counted .aligned) _ (g .if1 .taken) (a .words .now) (first-bound _ _ (b .before .first-word .ensures) (b .bound .ensures)))
-      ∙ ap (λ (n : ℕ). capped (bulk (drop n (ownItems (bindingsIn (a .script .now) (a .variables .now) (a .places .now)) (a .words .now))))) (sym (c .before .if2 .taken))
+      ∙ ap (λ (l : List Message). capped (bulk l)) (given-items (a .script .now) (a .variables .now) (a .sources .now) (s .pre .1 .cached .counted .aligned) _ (g .if1 .taken) (a .words .now) (first-bound _ _ (b .before .first-word .ensures) (b .bound .ensures)))
+      ∙ ap (λ (n : ℕ). capped (bulk (drop n (ownItems (bindingsIn (a .script .now) (a .variables .now) (a .sources .now)) (a .words .now))))) (sym (c .before .if2 .taken))
 
   given-requires : Own own-lts.Need-bulk-from-requires
   given-requires c κs =
@@ -189,7 +189,7 @@ module _ (t : ℕ) where
       let s = own-start (g .before) in
       let k = g .before .bound .result in
       let l = ap length (v .before .given .ensures) in
-      let d = length-drop (getD (s .args .places .now) k 0) (s .args .script .now) in
+      let d = length-drop (getD (s .args .sources .now) k 0) (s .args .script .now) in
       let m = ap length (v .tail .ensures) in
       let e = length-drop (k + 1) (s .args .variables .now) in (
         rank-older _ _ _ _ _ (s .pre .0) (omega (arith, m, e, g .if1 .taken)) (omega (arith, l, d, s .good .0)),
@@ -209,7 +209,7 @@ module _ (t : ℕ) where
       let s = own-start b in
       let a = s .args in
       c .bulk-from .ensures
-      ∙ ap (λ (l : List Message). capped (bulk (drop (a .offset) l))) (given-own (a .script .now) (a .variables .now) (a .places .now) (s .pre .1 .cached .counted .aligned) _ (g .if1 .taken) (a .words .now) (first-bound _ _ (b .before .first-word .ensures) (b .bound .ensures)) (v .tail .ensures) (u .before .tail2 .ensures) (v .before .given .ensures))
+      ∙ ap (λ (l : List Message). capped (bulk (drop (a .offset) l))) (given-own (a .script .now) (a .variables .now) (a .sources .now) (s .pre .1 .cached .counted .aligned) _ (g .if1 .taken) (a .words .now) (first-bound _ _ (b .before .first-word .ensures) (b .bound .ensures)) (v .tail .ensures) (u .before .tail2 .ensures) (v .before .given .ensures))
 
   single-returns : Own own-lts.Need-returns-3
   single-returns c =
@@ -217,8 +217,8 @@ module _ (t : ℕ) where
       let b = e .before in
       let s = own-start b in
       let a = s .args in
-      let f = unbound-free (a .script .now) (a .variables .now) (a .places .now) (firstWord (a .words .now)) (omega (arith, first-bound _ _ (b .before .first-word .ensures) (b .bound .ensures), e .if1 .left)) in
-      bulk-only _ _ (single _ (a .words .now) (a .offset) f (s .pre .1 .within)) (c .before .size-from .ensures (a .script .now) (a .places .now) (s .pre .1 .cached .sized) ∙ ap capped (one-size _ refl)) (c .sum .ensures)
+      let f = unbound-free (a .script .now) (a .variables .now) (a .sources .now) (firstWord (a .words .now)) (omega (arith, first-bound _ _ (b .before .first-word .ensures) (b .bound .ensures), e .if1 .left)) in
+      bulk-only _ _ (single _ (a .words .now) (a .offset) f (s .pre .1 .within)) (c .before .size-from .ensures (a .script .now) (a .sources .now) (s .pre .1 .cached .sized) ∙ ap capped (one-size _ refl)) (c .sum .ensures)
 
   own-met : {M : Type 1} → own-lts.Closed own-claims own-at own-bulk.Post M
   own-met = own-lts.spec own-claims own-at own-bulk.Post (λ c κs. search needs) (λ c κs. search needs)

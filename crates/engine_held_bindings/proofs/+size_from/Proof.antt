@@ -33,7 +33,7 @@ module _ (t : ℕ) where
   abbrev claims : lts.Claims
   claims = (first-word.Asked, first-word.Learnt, own-size.Asked, own-size.Learnt, arity.Asked, arity.Learnt, tail.Asked, tail.Learnt, and 3 ps (falls 3 ps _<_ μ t) size-from.Pre, size-from.Post, sum.Asked, sum.Learnt)
 
-  -- the places, and the way from each to those before it
+  -- the points of the code, and the way from each to those before it
   abbrev At : (lts.Claims → In 3 ps → Out 3 ps r → Type 0) → Type 0
   At place = place claims at size-from.Post
 
@@ -63,18 +63,18 @@ module _ (t : ℕ) where
   less c = less-behind (tail-start c .args .words .now) (tail-start c .args .pending) _ (c .tail .ensures) (pending-left c) (omega (arith, opened (c .before)))
 
   none-returns : At lts.Need-returns
-  none-returns c script places ok = let a = known-start (c .before) .args in none-size (bindingsIn script (a .variables .now) places) (a .pending) (spelled (a .words .now)) (c .if1 .taken)
+  none-returns c script sources ok = let a = known-start (c .before) .args in none-size (bindingsIn script (a .variables .now) sources) (a .pending) (spelled (a .words .now)) (c .if1 .taken)
 
   behind-requires : At lts.Need-size-from-requires
   behind-requires c κs = (omega (arith, less c .1, tail-start c .pre .0), (omega (arith, less c .0, tail-start c .pre .1 .0), tail-start c .pre .1 .1))
 
   behind-returns : At lts.Need-returns-2
-  behind-returns c script places ok =
+  behind-returns c script sources ok =
       let l = sum-tail c in
       let a = tail-start l .args in
       let o = l .before in
-      sizes-sum (bindingsIn script (a .variables .now) places) (a .words .now) (a .pending) (pending-left l) (arity-first o .first-word .ensures) (opened o) (l .tail .ensures)
-      (o .before .own-size .ensures script places ok) (c .before .size-from .ensures script places ok) (c .sum .ensures)
+      sizes-sum (bindingsIn script (a .variables .now) sources) (a .words .now) (a .pending) (pending-left l) (arity-first o .first-word .ensures) (opened o) (l .tail .ensures)
+      (o .before .own-size .ensures script sources ok) (c .before .size-from .ensures script sources ok) (c .sum .ensures)
 
   met : {M : Type 1} → lts.Closed claims at size-from.Post M
   met = lts.spec claims at size-from.Post none-returns (λ c κs. search needs) (λ c κs. first-start c .pre .1 .1) (λ c κs. search needs) (λ c κs. search needs)

@@ -19,7 +19,7 @@ abbrev bulk-start : tie.After-bulk-from → tie.Start
 bulk-start c = c .before .before .before .before .before .before .before .before
 
 -- the bulk of the items from the offset on
-counted : (c : tie.After-bulk-from) → let a = bulk-start c .args in c .bulk-from .result ≡ capped (bulk (drop (a .offset) (items (resolve (bindingsIn (a .script .now) (a .variables .now) (a .places .now)) (messageAt (drop (a .at) (a .script .now)))))))
+counted : (c : tie.After-bulk-from) → let a = bulk-start c .args in c .bulk-from .result ≡ capped (bulk (drop (a .offset) (items (resolve (bindingsIn (a .script .now) (a .variables .now) (a .sources .now)) (messageAt (drop (a .at) (a .script .now)))))))
 counted c = c .bulk-from .ensures ∙ ap (λ (l : List Message). capped (bulk (drop (bulk-start c .args .offset) l))) (one-message _ (c .before .tail .ensures))
 
 returns : tie.Need-returns

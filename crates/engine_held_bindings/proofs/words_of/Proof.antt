@@ -9,12 +9,12 @@ use Rattle.engine_held_bindings.proofs.Sizing.{one-size}
 use Rattle.engine_held_bindings.proofs.words_of.Statement.{statement}
 use Rattle.engine_held_bindings.proofs.words_of.Tie as tie
 
--- the way from a place to one before it
+-- the way from a point of the code to one before it
 abbrev tail-start : tie.After-tail → tie.Start
 tail-start c = c .before .before .before .before .before
 
 returns : tie.Need-returns
-returns c = let s = tail-start (c .before) in c .size-from .ensures (s .args .script .now) (s .args .places .now) (s .pre) ∙ ap capped (one-size _ (c .before .tail .ensures))
+returns c = let s = tail-start (c .before) in c .size-from .ensures (s .args .script .now) (s .args .sources .now) (s .pre) ∙ ap capped (one-size _ (c .before .tail .ensures))
 
 pub words-of-spec : {M : Type 1} → statement M
 words-of-spec = tie.close (tie.spec (λ c κs. search needs)

@@ -43,7 +43,7 @@ abbrev claims : ℕ → settle-below-lts.Claims
 claims t = (intersection-reads.Asked, intersection-reads.Learnt, first-reads.Asked, first-reads.Learnt, rest-reads.Asked, rest-reads.Learnt, settle-below-below t, settle-below.Post, has-reads.Asked, has-reads.Learnt, with-reads.Asked, with-reads.Learnt, union-reads.Asked, union-reads.Learnt)
 
 module _ (t : ℕ) where
-  -- the function's entry, the place behind the first of left, and that behind the parts beside it
+  -- the function's entry, the point behind the first of left, and that behind the parts beside it
   abbrev Start : Type 0
   Start = settle-below-lts.Start (claims t) (settle-below-at t) settle-below.Post
 
@@ -192,28 +192,10 @@ pub +settle-below-spec : {M : Type 1} → statement M
     close
     μ-settle-below
     (λ t. settle-below-lts.spec
-    (claims t)
-    (settle-below-at t)
-    settle-below.Post
-    (settle-below-intersection-requires t)
-    (settle-below-returns t)
-    (settle-below-returns-2 t)
-    (settle-below-first-requires t)
-    (settle-below-rest-requires t)
-    (settle-below-sub-settle-below t)
-    (settle-below-settle-below-requires t)
-    (settle-below-has-requires t)
-    (settle-below-mul-inside t)
-    (settle-below-element-copy-out-inside t)
-    (settle-below-sub-settle-below-2 t)
-    (settle-below-settle-below-requires-2 t)
-    (settle-below-mul-kind t)
-    (settle-below-element-copy-out-kind t)
-    (settle-below-mul-sets t)
-    (settle-below-element-write-sets t)
-    (settle-below-with-requires t)
-    (settle-below-returns-3 t)
-    (settle-below-union-requires t)
-    (settle-below-returns-4 t)
-    (settle-below-with-requires-2 t)
-    (settle-below-returns-5 t))
+    (claims t) (settle-below-at t) settle-below.Post (settle-below-intersection-requires t) (settle-below-returns t)
+    (settle-below-returns-2 t) (settle-below-first-requires t) (settle-below-rest-requires t) (settle-below-sub-settle-below t)
+    (settle-below-settle-below-requires t) (settle-below-has-requires t) (settle-below-mul-inside t)
+    (settle-below-element-copy-out-inside t) (settle-below-sub-settle-below-2 t) (settle-below-settle-below-requires-2 t)
+    (settle-below-mul-kind t) (settle-below-element-copy-out-kind t) (settle-below-mul-sets t) (settle-below-element-write-sets t)
+    (settle-below-with-requires t) (settle-below-returns-3 t) (settle-below-union-requires t) (settle-below-returns-4 t)
+    (settle-below-with-requires-2 t) (settle-below-returns-5 t))

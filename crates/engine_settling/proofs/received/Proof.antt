@@ -16,9 +16,9 @@ returns c = (c .before .before .before .before .pre .3, λ n. absurd (n (c .if1 
 returns-2 : tie.Need-returns-2
 returns-2 c =
     let x = c .before .before .before .before .before .before .before .before .before .before .before .before .before .before .before .args in
-    let n = c .looked .ensures .1 in
+    let n = c .noted .ensures .1 in
     let b = c .before .before .before .before .before .before .before .before .bind .ensures in (
-      c .looked .ensures .0,
+      c .noted .ensures .0,
       λ some. record {
         set-of = c .before .union .result;
         kids = n .0;
@@ -33,20 +33,6 @@ pub received-spec : {M : Type 1} → statement M
 received-spec =
     tie.close
     (tie.spec
-    returns
-    (λ c. search needs)
-    (λ c. search needs)
-    (λ c. search needs)
-    (λ c. search needs)
-    (λ c κs. search needs)
-    (λ c. search needs)
-    (λ c. search needs)
-    (λ c. search needs)
-    (λ c. search needs)
-    (λ c κs. search needs)
-    (λ c κs. search needs)
-    (λ c κs. search needs)
-    (λ c. search needs)
-    (λ c. search needs)
-    (λ c κs. search needs)
-    returns-2)
+    returns (λ c. search needs) (λ c. search needs) (λ c. search needs) (λ c. search needs) (λ c κs. search needs) (λ c. search needs)
+    (λ c. search needs) (λ c. search needs) (λ c. search needs) (λ c κs. search needs) (λ c κs. search needs) (λ c κs. search needs)
+    (λ c. search needs) (λ c. search needs) (λ c κs. search needs) returns-2)

@@ -1,4 +1,4 @@
--- `all_sets` meets its contract: what is put at a higher place leaves what stands below. Assumes nothing.
+-- `all_sets` meets its contract: what is put at a higher index leaves what stands below. Assumes nothing.
 use mathlib.Core.Path.{_≡_, _∙_}
 use native.Mathlib.Omega.{arith}
 use lib.ListN.{length, set, replicate}
@@ -28,10 +28,4 @@ pub all-sets-spec : {M : Type 1} → statement M
 all-sets-spec =
     tie.close
     (tie.spec
-    (λ c. search needs)
-    (λ c κs. search needs)
-    (λ c. search needs)
-    put-sets-requires-2
-    (λ c. search needs)
-    (λ c. search needs)
-    returns)
+    (λ c. search needs) (λ c κs. search needs) (λ c. search needs) put-sets-requires-2 (λ c. search needs) (λ c. search needs) returns)

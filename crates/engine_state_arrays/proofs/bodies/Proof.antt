@@ -1,4 +1,4 @@
--- `bodies` meets its contract: the bodies out of their place, and the top. Assumes nothing.
+-- `bodies` meets its contract: the bodies from where they stand, and the top. Assumes nothing.
 use mathlib.Core.List.{List}
 use mathlib.Core.Path.{ap}
 use Prim.Native.Nat.{ℕ}

@@ -1,4 +1,4 @@
--- `part_numbers` meets its contract: what is put at a higher place leaves what stands below. Assumes nothing.
+-- `part_numbers` meets its contract: what is put at a higher index leaves what stands below. Assumes nothing.
 use mathlib.Core.Path.{_≡_, _∙_}
 use native.Mathlib.Omega.{arith}
 use lib.ListN.{length, replicate}
@@ -53,16 +53,6 @@ pub part-numbers-spec : {M : Type 1} → statement M
 part-numbers-spec =
     tie.close
     (tie.spec
-    (λ c κs. search needs)
-    (λ c κs. search needs)
-    (λ c. search needs)
-    (λ c κs. search needs)
-    (λ c. search needs)
-    put-numbers-requires-2
-    (λ c. search needs)
-    put-numbers-requires-3
-    (λ c. search needs)
-    put-numbers-requires-4
-    (λ c. search needs)
-    put-numbers-requires-5
+    (λ c κs. search needs) (λ c κs. search needs) (λ c. search needs) (λ c κs. search needs) (λ c. search needs) put-numbers-requires-2
+    (λ c. search needs) put-numbers-requires-3 (λ c. search needs) put-numbers-requires-4 (λ c. search needs) put-numbers-requires-5
     returns)

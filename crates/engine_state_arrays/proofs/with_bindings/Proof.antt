@@ -1,4 +1,4 @@
--- `with_bindings` meets its contract: what is put at a higher place leaves what stands below. Assumes nothing.
+-- `with_bindings` meets its contract: what is put at a higher index leaves what stands below. Assumes nothing.
 use mathlib.Core.Path.{_≡_, _∙_}
 use native.Mathlib.Omega.{arith}
 use lib.ListN.{length}
@@ -18,8 +18,8 @@ Start = lts.Start (put-numbers-reads.Asked, put-numbers-reads.Learnt) reads.Pre 
 long-variables : (s : Start) → length (s .args .bindings .variables) ≡ 32
 long-variables s = search needs
 
-long-places : (s : Start) → length (s .args .bindings .places) ≡ 32
-long-places s = search needs
+long-sources : (s : Start) → length (s .args .bindings .sources) ≡ 32
+long-sources s = search needs
 
 long-counts : (s : Start) → length (s .args .bindings .counts) ≡ 32
 long-counts s = search needs
@@ -34,7 +34,7 @@ put-numbers-requires : tie.Need-put-numbers-requires
 put-numbers-requires c κs = (search needs, omega (arith, long-variables (c .before .before .before .before .before .before .before)))
 
 put-numbers-requires-2 : tie.Need-put-numbers-requires-2
-put-numbers-requires-2 c κs = (c .before .before .put-numbers .ensures .0, omega (arith, long-places (c .before .before .before .before .before .before .before .before .before .before)))
+put-numbers-requires-2 c κs = (c .before .before .put-numbers .ensures .0, omega (arith, long-sources (c .before .before .before .before .before .before .before .before .before .before)))
 
 put-numbers-requires-3 : tie.Need-put-numbers-requires-3
 put-numbers-requires-3 c κs = (c .before .before .put-numbers2 .ensures .0, omega (arith, long-counts (c .before .before .before .before .before .before .before .before .before .before .before .before .before)))
@@ -51,7 +51,7 @@ cast-r c = omega (arith, c .before .before .before .before .before .before .befo
 returns : tie.Need-returns
 returns c =
     let a : length (c .before .before .before .before .before .before .before .before .before .before .before .before .before .before .before .before .before .before .before .before .args .bindings .variables) ≡ 32 = long-variables (c .before .before .before .before .before .before .before .before .before .before .before .before .before .before .before .before .before .before .before .before) in
-    let b : length (c .before .before .before .before .before .before .before .before .before .before .before .before .before .before .before .before .before .before .before .before .args .bindings .places) ≡ 32 = long-places (c .before .before .before .before .before .before .before .before .before .before .before .before .before .before .before .before .before .before .before .before) in
+    let b : length (c .before .before .before .before .before .before .before .before .before .before .before .before .before .before .before .before .before .before .before .before .args .bindings .sources) ≡ 32 = long-sources (c .before .before .before .before .before .before .before .before .before .before .before .before .before .before .before .before .before .before .before .before) in
     let d : length (c .before .before .before .before .before .before .before .before .before .before .before .before .before .before .before .before .before .before .before .before .args .bindings .counts) ≡ 32 = long-counts (c .before .before .before .before .before .before .before .before .before .before .before .before .before .before .before .before .before .before .before .before) in
     let e : length (c .before .before .before .before .before .before .before .before .before .before .before .before .before .before .before .before .before .before .before .before .args .bindings .sizes) ≡ 32 = long-sizes (c .before .before .before .before .before .before .before .before .before .before .before .before .before .before .before .before .before .before .before .before) in
     let f : length (c .before .before .before .before .before .before .before .before .before .before .before .before .before .before .before .before .before .before .before .before .args .bindings .bulks) ≡ 32 = long-bulks (c .before .before .before .before .before .before .before .before .before .before .before .before .before .before .before .before .before .before .before .before) in (
@@ -60,13 +60,13 @@ returns c =
             ∙ put-before 448 (c .before .before .before .before .before .before .before .before .before .before .before .before .before .before .before .before .before .before .before .before .args .bindings .bulks) (c .before .before .before .put-numbers4 .last .0) (c .put-numbers5 .last .0) (c .put-numbers5 .ensures .1) 320 32 (omega arith)
             ∙ put-before 416 (c .before .before .before .before .before .before .before .before .before .before .before .before .before .before .before .before .before .before .before .before .args .bindings .sizes) (c .before .before .before .before .before .before .put-numbers3 .last .0) (c .before .before .before .put-numbers4 .last .0) (c .before .before .before .put-numbers4 .ensures .1) 320 32 (omega arith)
             ∙ put-before 384 (c .before .before .before .before .before .before .before .before .before .before .before .before .before .before .before .before .before .before .before .before .args .bindings .counts) (c .before .before .before .before .before .before .before .before .before .put-numbers2 .last .0) (c .before .before .before .before .before .before .put-numbers3 .last .0) (c .before .before .before .before .before .before .put-numbers3 .ensures .1) 320 32 (omega arith)
-            ∙ put-before 352 (c .before .before .before .before .before .before .before .before .before .before .before .before .before .before .before .before .before .before .before .before .args .bindings .places) (c .before .before .before .before .before .before .before .before .before .before .before .before .put-numbers .last .0) (c .before .before .before .before .before .before .before .before .before .put-numbers2 .last .0) (c .before .before .before .before .before .before .before .before .before .put-numbers2 .ensures .1) 320 32 (omega arith)
+            ∙ put-before 352 (c .before .before .before .before .before .before .before .before .before .before .before .before .before .before .before .before .before .before .before .before .args .bindings .sources) (c .before .before .before .before .before .before .before .before .before .before .before .before .put-numbers .last .0) (c .before .before .before .before .before .before .before .before .before .put-numbers2 .last .0) (c .before .before .before .before .before .before .before .before .before .put-numbers2 .ensures .1) 320 32 (omega arith)
             ∙ put-here 320 (c .before .before .before .before .before .before .before .before .before .before .before .before .before .before .before .before .before .before .before .before .args .bindings .variables) (c .before .before .before .before .before .before .before .before .before .before .before .before .before .before .before .before .before .before .before .before .args .numbers) (c .before .before .before .before .before .before .before .before .before .before .before .before .put-numbers .last .0) (c .before .before .before .before .before .before .before .before .before .before .before .before .put-numbers .ensures .1) 32 a,
         set-before 352 32 480 (c .before .before .before .before .before .before .before .before .before .before .before .before .before .before .before .before .before .before .before .before .args .bindings .first) (c .put-numbers5 .last .0) (omega arith)
             ∙ put-before 448 (c .before .before .before .before .before .before .before .before .before .before .before .before .before .before .before .before .before .before .before .before .args .bindings .bulks) (c .before .before .before .put-numbers4 .last .0) (c .put-numbers5 .last .0) (c .put-numbers5 .ensures .1) 352 32 (omega arith)
             ∙ put-before 416 (c .before .before .before .before .before .before .before .before .before .before .before .before .before .before .before .before .before .before .before .before .args .bindings .sizes) (c .before .before .before .before .before .before .put-numbers3 .last .0) (c .before .before .before .put-numbers4 .last .0) (c .before .before .before .put-numbers4 .ensures .1) 352 32 (omega arith)
             ∙ put-before 384 (c .before .before .before .before .before .before .before .before .before .before .before .before .before .before .before .before .before .before .before .before .args .bindings .counts) (c .before .before .before .before .before .before .before .before .before .put-numbers2 .last .0) (c .before .before .before .before .before .before .put-numbers3 .last .0) (c .before .before .before .before .before .before .put-numbers3 .ensures .1) 352 32 (omega arith)
-            ∙ put-here 352 (c .before .before .before .before .before .before .before .before .before .before .before .before .before .before .before .before .before .before .before .before .args .bindings .places) (c .before .before .before .before .before .before .before .before .before .before .before .before .put-numbers .last .0) (c .before .before .before .before .before .before .before .before .before .put-numbers2 .last .0) (c .before .before .before .before .before .before .before .before .before .put-numbers2 .ensures .1) 32 b,
+            ∙ put-here 352 (c .before .before .before .before .before .before .before .before .before .before .before .before .before .before .before .before .before .before .before .before .args .bindings .sources) (c .before .before .before .before .before .before .before .before .before .before .before .before .put-numbers .last .0) (c .before .before .before .before .before .before .before .before .before .put-numbers2 .last .0) (c .before .before .before .before .before .before .before .before .before .put-numbers2 .ensures .1) 32 b,
         set-before 384 32 480 (c .before .before .before .before .before .before .before .before .before .before .before .before .before .before .before .before .before .before .before .before .args .bindings .first) (c .put-numbers5 .last .0) (omega arith)
             ∙ put-before 448 (c .before .before .before .before .before .before .before .before .before .before .before .before .before .before .before .before .before .before .before .before .args .bindings .bulks) (c .before .before .before .put-numbers4 .last .0) (c .put-numbers5 .last .0) (c .put-numbers5 .ensures .1) 384 32 (omega arith)
             ∙ put-before 416 (c .before .before .before .before .before .before .before .before .before .before .before .before .before .before .before .before .before .before .before .before .args .bindings .sizes) (c .before .before .before .before .before .before .put-numbers3 .last .0) (c .before .before .before .put-numbers4 .last .0) (c .before .before .before .put-numbers4 .ensures .1) 384 32 (omega arith)
@@ -82,7 +82,7 @@ returns c =
           ∙ put-before 448 (c .before .before .before .before .before .before .before .before .before .before .before .before .before .before .before .before .before .before .before .before .args .bindings .bulks) (c .before .before .before .put-numbers4 .last .0) (c .put-numbers5 .last .0) (c .put-numbers5 .ensures .1) i n (omega arith)
           ∙ put-before 416 (c .before .before .before .before .before .before .before .before .before .before .before .before .before .before .before .before .before .before .before .before .args .bindings .sizes) (c .before .before .before .before .before .before .put-numbers3 .last .0) (c .before .before .before .put-numbers4 .last .0) (c .before .before .before .put-numbers4 .ensures .1) i n (omega arith)
           ∙ put-before 384 (c .before .before .before .before .before .before .before .before .before .before .before .before .before .before .before .before .before .before .before .before .args .bindings .counts) (c .before .before .before .before .before .before .before .before .before .put-numbers2 .last .0) (c .before .before .before .before .before .before .put-numbers3 .last .0) (c .before .before .before .before .before .before .put-numbers3 .ensures .1) i n (omega arith)
-          ∙ put-before 352 (c .before .before .before .before .before .before .before .before .before .before .before .before .before .before .before .before .before .before .before .before .args .bindings .places) (c .before .before .before .before .before .before .before .before .before .before .before .before .put-numbers .last .0) (c .before .before .before .before .before .before .before .before .before .put-numbers2 .last .0) (c .before .before .before .before .before .before .before .before .before .put-numbers2 .ensures .1) i n (omega arith)
+          ∙ put-before 352 (c .before .before .before .before .before .before .before .before .before .before .before .before .before .before .before .before .before .before .before .before .args .bindings .sources) (c .before .before .before .before .before .before .before .before .before .before .before .before .put-numbers .last .0) (c .before .before .before .before .before .before .before .before .before .put-numbers2 .last .0) (c .before .before .before .before .before .before .before .before .before .put-numbers2 .ensures .1) i n (omega arith)
           ∙ put-before 320 (c .before .before .before .before .before .before .before .before .before .before .before .before .before .before .before .before .before .before .before .before .args .bindings .variables) (c .before .before .before .before .before .before .before .before .before .before .before .before .before .before .before .before .before .before .before .before .args .numbers) (c .before .before .before .before .before .before .before .before .before .before .before .before .put-numbers .last .0) (c .before .before .before .before .before .before .before .before .before .before .before .before .put-numbers .ensures .1) i n (omega arith),
     )
 
@@ -90,16 +90,5 @@ pub with-bindings-spec : {M : Type 1} → statement M
 with-bindings-spec =
     tie.close
     (tie.spec
-    (λ c. search needs)
-    put-numbers-requires
-    (λ c. search needs)
-    put-numbers-requires-2
-    (λ c. search needs)
-    put-numbers-requires-3
-    (λ c. search needs)
-    put-numbers-requires-4
-    (λ c. search needs)
-    put-numbers-requires-5
-    cast-r
-    (λ c. search needs)
-    returns)
+    (λ c. search needs) put-numbers-requires (λ c. search needs) put-numbers-requires-2 (λ c. search needs) put-numbers-requires-3
+    (λ c. search needs) put-numbers-requires-4 (λ c. search needs) put-numbers-requires-5 cast-r (λ c. search needs) returns)

@@ -32,7 +32,7 @@ abbrev claims : ℕ → count-below-lts.Claims
 claims t = (first-reads.Asked, first-reads.Learnt, rest-reads.Asked, rest-reads.Learnt, count-below-below t, count-below.Post)
 
 module _ (t : ℕ) where
-  -- the function's entry, the place behind the first of left, and that behind both counts
+  -- the function's entry, the point behind the first of left, and that behind both counts
   abbrev Start : Type 0
   Start = count-below-lts.Start (claims t) (count-below-at t) count-below.Post
 
@@ -110,21 +110,7 @@ pub +count-below-spec : {M : Type 1} → statement M
     close
     μ-count-below
     (λ t. count-below-lts.spec
-    (claims t)
-    (count-below-at t)
-    count-below.Post
-    (count-below-returns t)
-    (count-below-returns-2 t)
-    (count-below-first-requires t)
-    (count-below-rest-requires t)
-    (count-below-mul-inside t)
-    (count-below-element-copy-out-inside t)
-    (count-below-sub-count-below t)
-    (count-below-count-below-requires t)
-    (count-below-sub-count-below-2 t)
-    (count-below-count-below-requires-2 t)
-    (count-below-add-if3 t)
-    (count-below-returns-3 t)
-    (count-below-add-result t)
-    (count-below-add-result-2 t)
-    (count-below-returns-4 t))
+    (claims t) (count-below-at t) count-below.Post (count-below-returns t) (count-below-returns-2 t) (count-below-first-requires t)
+    (count-below-rest-requires t) (count-below-mul-inside t) (count-below-element-copy-out-inside t) (count-below-sub-count-below t)
+    (count-below-count-below-requires t) (count-below-sub-count-below-2 t) (count-below-count-below-requires-2 t) (count-below-add-if3 t)
+    (count-below-returns-3 t) (count-below-add-result t) (count-below-add-result-2 t) (count-below-returns-4 t))

@@ -14,10 +14,10 @@ use Rattle.engine_states.proofs.name_parts.Statement.{statement}
 use Rattle.engine_states.proofs.name_parts.Tie as tie
 
 abbrev Inv-loop : tie.InvT-loop
-Inv-loop script kinds starts variables places t₀ i₀ t i = (i ≤ 64) × ((offsets : List ℕ) → Filled (λ j. headName (viewUnder (bindingsIn script variables places)) (heads script kinds starts offsets j)) i (t .named) (t .names))
+Inv-loop script kinds starts variables sources t₀ i₀ t i = (i ≤ 64) × ((offsets : List ℕ) → Filled (λ j. headName (viewUnder (bindingsIn script variables sources)) (heads script kinds starts offsets j)) i (t .named) (t .names))
 
 abbrev μ-loop : tie.MeasureT-loop
-μ-loop script kinds starts variables places t₀ i₀ t i = 64 - i
+μ-loop script kinds starts variables sources t₀ i₀ t i = 64 - i
 
 loop-holds : tie.Need-loop-holds Inv-loop μ-loop
 loop-holds c = (search needs, λ o. filled-none _ _ _ members-empty)
@@ -38,12 +38,5 @@ name-parts-spec =
     Inv-loop
     μ-loop
     loop-holds
-    (λ c. search needs)
-    (λ c. search needs)
-    (λ c. search needs)
-    (λ c κs. search needs)
-    with-name-requires
-    (λ c. search needs)
-    (λ c. search needs)
-    loop-again
-    returns)
+    (λ c. search needs) (λ c. search needs) (λ c. search needs) (λ c κs. search needs) with-name-requires (λ c. search needs)
+    (λ c. search needs) loop-again returns)

@@ -18,7 +18,7 @@ use Rattle.theory_machine.specs.Moves.{isNamed, headName}
 use Rattle.theory_closures.specs.Closure.{ClosureHead, Bindings, viewUnder}
 use Rattle.engine_states.specs.Searches.{Locates}
 use Rattle.engine_states.specs.Seen.{Names}
-use Rattle.engine_targets.proofs.Locating.{Enters, enters-named, enters-nameless, locates-none, locates-no-fuel, locates-first, set-place}
+use Rattle.engine_targets.proofs.Locating.{Enters, enters-named, enters-nameless, locates-none, locates-no-fuel, locates-first, set-home}
 use Rattle.engine_targets.proofs.locate_below.Reads as locate-below
 use Rattle.engine_targets.proofs.locate_below.Kinds as locate-below-kinds
 use Rattle.engine_targets.proofs.+locate_below.Lts-locate_below as locate-below-lts
@@ -41,7 +41,7 @@ abbrev placed : List ℕ → ℕ → ℕ
 placed l x = getD l x 0
 
 module _ (t : ℕ) where
-  -- the function's entry, the places behind the first of left and behind the rest, and that where the two ways meet
+  -- the function's entry, the points behind the first of left and behind the rest, and that where the two ways meet
   abbrev Start : Type 0
   Start = locate-below-lts.Start (claims t) (locate-below-at t) locate-below.Post
 
@@ -72,7 +72,7 @@ module _ (t : ℕ) where
   abbrev found₁ : Rest → List ℕ
   found₁ c = set (start (c .before) .args .found .now) (c .before .first .result) (start (c .before) .args .at)
 
-  -- l has the places when those in the body of the first are written, if it has a name
+  -- l has the homes when those in the body of the first are written, if it has a name
   abbrev Through : Rest → List ℕ → Type 0
   Through c l = (length l ≡ 64) × ((σ : Bindings) (w : ℕ → ClosureHead) → Names σ w (members (start (c .before) .args .named))
       → Enters σ (k (start (c .before))) w (c .before .first .result) (start (c .before) .args .fuel - 1) (placed (found₁ c)) (placed l))
@@ -140,7 +140,7 @@ module _ (t : ℕ) where
       let after : List ℕ = c .before .before .if3 .found in (
         c .locate-below2 .ensures .0,
         λ σ w names. locates-first σ (k s) w (left s) (s .args .at) (s .args .fuel) (placed (s .args .found .now)) i (tail (left s)) (placed (found₁ r)) (placed after) (placed (c .locate-below2 .last .0)) (first-then-rest (r .before)) (s .pre .1 .1)
-            (set-place (s .args .found .now) i (s .args .at) (omega (arith, first-low (r .before), s .pre .1 .0)))
+            (set-home (s .args .found .now) i (s .args .at) (omega (arith, first-low (r .before), s .pre .1 .0)))
             (through (c .before .before) .1 σ w names)
             (subst (λ (l : List ℕ). Locates σ (k s) w l (s .args .at) (s .args .fuel - 1) (placed after) (placed (c .locate-below2 .last .0))) (r .rest .ensures) (c .locate-below2 .ensures .1 σ w names)),
       )
@@ -150,20 +150,8 @@ pub +locate-below-spec : {M : Type 1} → statement M
     close
     μ-locate-below
     (λ t. locate-below-lts.spec
-    (claims t)
-    (locate-below-at t)
-    locate-below.Post
-    (locate-below-returns t)
-    (locate-below-returns-2 t)
-    (locate-below-first-requires t)
-    (locate-below-rest-requires t)
-    (locate-below-mul-found t)
-    (locate-below-element-write-found t)
-    (locate-below-has-requires t)
-    (locate-below-mul-inside t)
-    (locate-below-element-copy-out-inside t)
-    (locate-below-sub-locate-below t)
-    (locate-below-locate-below-requires t)
-    (locate-below-sub-locate-below-2 t)
-    (locate-below-locate-below-requires-2 t)
+    (claims t) (locate-below-at t) locate-below.Post (locate-below-returns t) (locate-below-returns-2 t) (locate-below-first-requires t)
+    (locate-below-rest-requires t) (locate-below-mul-found t) (locate-below-element-write-found t) (locate-below-has-requires t)
+    (locate-below-mul-inside t) (locate-below-element-copy-out-inside t) (locate-below-sub-locate-below t)
+    (locate-below-locate-below-requires t) (locate-below-sub-locate-below-2 t) (locate-below-locate-below-requires-2 t)
     (locate-below-returns-3 t))

@@ -1,4 +1,4 @@
--- `aimed_within` meets its contract: a place of 65 or more is no body. Assumes nothing.
+-- `aimed_within` meets its contract: a home of 65 or more is no body. Assumes nothing.
 use native.Mathlib.Omega.{arith}
 use Rattle.base_sets.specs.Sets.{members, elem}
 use Rattle.read_scripts.specs.Represents.{bodyIn}

@@ -1,4 +1,4 @@
--- `locate` meets its contract: the places are found from the top. Assumes nothing.
+-- `locate` meets its contract: the homes are found from the top. Assumes nothing.
 use Rattle.read_scripts.specs.Represents.{bodyIn}
 use lib.ListN.{getD}
 use Rattle.engine_targets.proofs.Locating.{located}

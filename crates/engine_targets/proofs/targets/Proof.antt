@@ -22,7 +22,7 @@ abbrev aim : tie.Start → List ℕ
 aim s = members (s .args .aim)
 
 abbrev at : tie.Start → ℕ → ℕ
-at s i = getD (s .args .places .now) i 0
+at s i = getD (s .args .homes .now) i 0
 
 abbrev test : (s : tie.Start) (n t : ℕ) → Bool
 test s n t = isTarget (k s) n (at s (s .args .a)) (at s (at s (s .args .a))) t (elem t (aim s))
@@ -56,14 +56,5 @@ pub targets-spec : {M : Type 1} → statement M
 targets-spec =
     tie.close
     (tie.spec
-    (λ c. search needs)
-    (λ c. search needs)
-    (λ c κs. search needs)
-    (λ c κs. search needs)
-    (λ c κs. search needs)
-    (λ c κs. search needs)
-    returns
-    returns-2
-    returns-3
-    returns-4
-    returns-5)
+    (λ c. search needs) (λ c. search needs) (λ c κs. search needs) (λ c κs. search needs) (λ c κs. search needs) (λ c κs. search needs)
+    returns returns-2 returns-3 returns-4 returns-5)

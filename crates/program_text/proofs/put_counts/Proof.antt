@@ -5,7 +5,7 @@ use borrow.Author.Needs.{needs}
 use Rattle.program_text.proofs.put_counts.Statement.{statement}
 use Rattle.program_text.proofs.put_counts.Tie as tie
 
--- ---- the ways from a place to one before it
+-- ---- the ways from a point of the code to one before it
 
 abbrev end : tie.After-slice-known7 → tie.After-put-byte
 end c = c .before .before

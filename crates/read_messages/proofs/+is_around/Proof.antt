@@ -42,7 +42,7 @@ abbrev claims : ℕ → lts.Claims
 claims t = (and 1 is-around-kinds.ps (falls 1 is-around-kinds.ps _<_ μ-is-around t) is-around.Pre, is-around.Post)
 
 module _ (t : ℕ) where
-  -- the way from a place to one before it
+  -- the way from a point of the code to one before it
   abbrev rest-start : lts.After-is-around-arg (claims t) (is-around-at t) is-around.Post → lts.Start (claims t) (is-around-at t) is-around.Post
   rest-start c = c .before .before .before .before .before
 

@@ -28,7 +28,7 @@ abbrev claims : ℕ → lts.Claims
 claims t = (ask-message-reads.Asked, ask-message-reads.Learnt, and 2 read-message-kinds.ps (falls 2 read-message-kinds.ps _<_ μ-read-message t) read-message.Pre, read-message.Post)
 
 module _ (t : ℕ) where
-  -- the way from a place to one before it
+  -- the way from a point of the code to one before it
   abbrev asked-start : lts.After-ask-message (claims t) (read-message-at t) read-message.Post → lts.Start (claims t) (read-message-at t) read-message.Post
   asked-start c = c .before .before .before .before .before
 

@@ -35,7 +35,7 @@ abbrev claims : ℕ → lts.Claims
 claims t = (refused-reads.Asked, refused-reads.Learnt, ask-rule-reads.Asked, ask-rule-reads.Learnt, and 1 read-rule-kinds.ps (falls 1 read-rule-kinds.ps _<_ μ-read-rule t) read-rule.Pre, read-rule.Post, turn-reads.Asked, turn-reads.Learnt, with-some-reads.Asked, with-some-reads.Learnt, enter-reads.Asked, enter-reads.Learnt)
 
 module _ (t : ℕ) where
-  -- the way from a place to one before it
+  -- the way from a point of the code to one before it
   abbrev lent-start : lts.After-all2 (claims t) (read-rule-at t) read-rule.Post → lts.Start (claims t) (read-rule-at t) read-rule.Post
   lent-start c = c .before .before .before .before .before
 

@@ -9,7 +9,7 @@ use borrow.Author.Needs.{needs}
 use Rattle.read_rules.proofs.read_whole_rule.Statement.{statement}
 use Rattle.read_rules.proofs.read_whole_rule.Tie as tie
 
--- the way from a place to one before it
+-- the way from a point of the code to one before it
 abbrev read-start : tie.After-read-rule → tie.Start
 read-start c = c .before .before .before .before .before
 

@@ -10,7 +10,7 @@ use borrow.Author.Needs.{needs}
 use Rattle.read_scripts.proofs.enter_part.Statement.{statement}
 use Rattle.read_scripts.proofs.enter_part.Tie as tie
 
--- the way from a place to one before it
+-- the way from a point of the code to one before it
 abbrev out-start : tie.Then2 → tie.Start
 out-start c = c .before .before
 

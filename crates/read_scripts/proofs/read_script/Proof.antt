@@ -8,7 +8,7 @@ use borrow.Author.Needs.{needs}
 use Rattle.read_scripts.proofs.read_script.Statement.{statement}
 use Rattle.read_scripts.proofs.read_script.Tie as tie
 
--- the way from the place behind the reader to the start
+-- the way from the point behind the reader to the start
 abbrev read-start : tie.After-read-body → tie.Start
 read-start c = c .before .before .before .before .before
 

@@ -6,7 +6,7 @@ use borrow.Author.Needs.{needs}
 use Rattle.walk_rule_answers.proofs.name_said.Statement.{statement}
 use Rattle.walk_rule_answers.proofs.name_said.Tie as tie
 
--- the way from a place to one before it
+-- the way from a point of the code to one before it
 abbrev constant-term : tie.After-t → tie.After-term-of
 constant-term c = c .before .before
 

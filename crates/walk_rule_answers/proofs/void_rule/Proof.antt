@@ -1,10 +1,9 @@
 -- `void_rule` meets its contract. Assumes nothing.
 use mathlib.Core.Path.{sym, ap}
-use Rattle.walk_stages.specs.Visits.{walkedOf}
+use Rattle.walk_stages.specs.Visits.{walkedOf, countOf}
 use Rattle.theory_decision.specs.Walk as spec
 use mathlib.Core.Bool.{Bool}
 use borrow.Author.Tests.{eq-eqb, ne-eqb}
-use Rattle.walk_stages.specs.Visits.{countOf}
 use Rattle.walk_rule_answers.proofs.void_rule.Statement.{statement}
 use Rattle.walk_rule_answers.proofs.void_rule.Tie as tie
 

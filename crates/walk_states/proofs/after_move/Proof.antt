@@ -4,7 +4,7 @@ use native.Mathlib.Omega.{arith}
 use lib.ListN.{getD}
 use Rattle.engine_states.specs.declared.State.{State}
 use Rattle.engine_targets.specs.Makes.{Moves}
-use Rattle.engine_state_arrays.specs.Lent.{kindsIn, startsIn, stateIn, standing}
+use Rattle.engine_state_arrays.specs.Lent.{kindsIn, startsIn, stateIn, ownState}
 use Rattle.engine_state_arrays.proofs.Standing.{standing-top}
 use Rattle.engine_settling.proofs.Settled.{ready-same}
 use Rattle.engine_moves.proofs.LentMoves.{lends-set}
@@ -24,7 +24,7 @@ make-move-requires c κs =
         sets-long = L .sets-long;
         numbers-long = L .numbers-long;
         small = L .small;
-        ready = ready-same (x .script .now) k l (stateIn (x .sets .now) (x .numbers .now) (x .top)) (standing (x .sets .now) (x .numbers .now)) refl refl refl (L .ready);
+        ready = ready-same (x .script .now) k l (stateIn (x .sets .now) (x .numbers .now) (x .top)) (ownState (x .sets .now) (x .numbers .now)) refl refl refl (L .ready);
       }),
     )
 
@@ -33,11 +33,11 @@ returns c =
     let x = c .before .before .before .before .before .before .args in
     let L = c .before .before .before .before .before .before .pre .2 in
     let m = c .make-move .ensures in
-    let r = standing (c .make-move .last .1 .0) (c .make-move .last .1 .1 .0) in (
+    let r = ownState (c .make-move .last .1 .0) (c .make-move .last .1 .1 .0) in (
       record { sets-long = m .0 .sets-long; numbers-long = m .0 .numbers-long; small = m .0 .small; ready = m .0 .ready },
       (
         m .1 .0,
-        subst (λ (s : State). Moves (x .script .now) (kindsIn (x .numbers .now)) (startsIn (x .numbers .now)) s r (λ i. getD (x .places .now) i 0) (x .a) (x .t)) (standing-top (x .sets .now) (x .numbers .now) (x .top) (L .sets-long)) (m .1 .1),
+        subst (λ (s : State). Moves (x .script .now) (kindsIn (x .numbers .now)) (startsIn (x .numbers .now)) s r (λ i. getD (x .homes .now) i 0) (x .a) (x .t)) (standing-top (x .sets .now) (x .numbers .now) (x .top) (L .sets-long)) (m .1 .1),
       ),
     )
 

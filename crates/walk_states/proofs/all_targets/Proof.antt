@@ -1,4 +1,4 @@
--- `all_targets` meets its contract: the places are found once, and each actor is asked. Assumes nothing.
+-- `all_targets` meets its contract: the homes are found once, and each actor is asked. Assumes nothing.
 use Prim.Native.Nat.{ℕ, _+_, _-_, _≤_, _<_}
 use mathlib.Core.List.{List}
 use mathlib.Core.Path.{_≡_, refl, sym, subst}
@@ -16,10 +16,10 @@ use Rattle.walk_states.proofs.all_targets.Statement.{statement}
 use Rattle.walk_states.proofs.all_targets.Tie as tie
 
 abbrev Inv-loop : tie.InvT-loop
-Inv-loop sets numbers top kids places found₀ a₀ found a = (a ≤ 64) × (found .places ≡ places) × (length (found .targets) ≡ 64) × ((b : ℕ) → b < a → TargetsOf (bodyIn kids) (getD numbers (256 + b) 0) (members (getD sets (65 + b) 0)) (λ i. getD places i 0) b (members (getD (found .targets) b 0)))
+Inv-loop sets numbers top kids homes found₀ a₀ found a = (a ≤ 64) × (found .homes ≡ homes) × (length (found .targets) ≡ 64) × ((b : ℕ) → b < a → TargetsOf (bodyIn kids) (getD numbers (256 + b) 0) (members (getD sets (65 + b) 0)) (λ i. getD homes i 0) b (members (getD (found .targets) b 0)))
 
 abbrev μ-loop : tie.MeasureT-loop
-μ-loop sets numbers top kids places found₀ a₀ found a = 64 - a
+μ-loop sets numbers top kids homes found₀ a₀ found a = 64 - a
 
 loop-holds : tie.Need-loop-holds Inv-loop μ-loop
 loop-holds c = (omega arith, refl, refl, λ b h. absurd (let z : ⊥ = omega arith in z))
@@ -70,7 +70,7 @@ returns c =
     let p = c .before .loop .inv .1 in
     let placed : Located (members (getD (c .before .before .before .before .before .before .args .sets .now) 129 0)) (bodyIn (stateIn (c .before .before .before .before .before .before .args .sets .now) (c .before .before .before .before .before .before .args .numbers .now) (c .before .before .before .before .before .before .args .top) .kids)) (λ i. getD (c .before .before .locate .result) i 0) = subst (λ (l : List ℕ). Located (members (getD (c .before .before .before .before .before .before .args .sets .now) 129 0)) (bodyIn l) (λ i. getD (c .before .before .locate .result) i 0)) (c .before .before .before .before .before .bodies .ensures) (c .before .before .locate .ensures) in (
       subst (λ (l : List ℕ). Located (members (getD (c .before .before .before .before .before .before .args .sets .now) 129 0)) (bodyIn (stateIn (c .before .before .before .before .before .before .args .sets .now) (c .before .before .before .before .before .before .args .numbers .now) (c .before .before .before .before .before .before .args .top) .kids)) (λ i. getD l i 0)) (sym p) placed,
-      λ a h. subst (λ (l : List ℕ). TargetsOf (bodyIn (stateIn (c .before .before .before .before .before .before .args .sets .now) (c .before .before .before .before .before .before .args .numbers .now) (c .before .before .before .before .before .before .args .top) .kids)) (getD (stateIn (c .before .before .before .before .before .before .args .sets .now) (c .before .before .before .before .before .before .args .numbers .now) (c .before .before .before .before .before .before .args .top) .looks .acts) a 0) (members (getD (stateIn (c .before .before .before .before .before .before .args .sets .now) (c .before .before .before .before .before .before .args .numbers .now) (c .before .before .before .before .before .before .args .top) .looks .aims) a 0)) (λ i. getD l i 0) a (members (getD (c .before .loop .found .targets) a 0))) (sym p)
+      λ a h. subst (λ (l : List ℕ). TargetsOf (bodyIn (stateIn (c .before .before .before .before .before .before .args .sets .now) (c .before .before .before .before .before .before .args .numbers .now) (c .before .before .before .before .before .before .args .top) .kids)) (getD (stateIn (c .before .before .before .before .before .before .args .sets .now) (c .before .before .before .before .before .before .args .numbers .now) (c .before .before .before .before .before .before .args .top) .notes .acts) a 0) (members (getD (stateIn (c .before .before .before .before .before .before .args .sets .now) (c .before .before .before .before .before .before .args .numbers .now) (c .before .before .before .before .before .before .args .top) .notes .aims) a 0)) (λ i. getD l i 0) a (members (getD (c .before .loop .found .targets) a 0))) (sym p)
           (targets-lent (c .before .before .before .before .before .before .args .sets .now) (c .before .before .before .before .before .before .args .numbers .now) (c .before .before .before .before .before .before .args .top) (c .before .before .before .before .before .bodies .result) (c .before .before .before .before .before .bodies .ensures) (λ i. getD (c .before .before .locate .result) i 0) a (members (getD (c .before .loop .found .targets) a 0)) h (c .before .loop .inv .3 a (omega (arith, c .loop-test .left)))),
     )
 
@@ -81,19 +81,5 @@ all-targets-spec =
     Inv-loop
     μ-loop
     (λ c κs. search needs)
-    (λ c. search needs)
-    (λ c κs. search needs)
-    loop-holds
-    add-targets
-    mul-targets
-    element-copy-out-targets
-    add-targets-2
-    mul-targets-2
-    element-copy-out-targets-2
-    targets-requires
-    mul-found
-    element-write-found
-    add-a
-    loop-less
-    loop-again
-    returns)
+    (λ c. search needs) (λ c κs. search needs) loop-holds add-targets mul-targets element-copy-out-targets add-targets-2 mul-targets-2
+    element-copy-out-targets-2 targets-requires mul-found element-write-found add-a loop-less loop-again returns)

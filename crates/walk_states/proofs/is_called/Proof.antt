@@ -34,11 +34,4 @@ pub is-called-spec : {M : Type 1} → statement M
 is-called-spec =
     tie.close
     (tie.spec
-    returns
-    element-copy-out-has
-    has-requires
-    add-result
-    mul-result
-    element-copy-out-result
-    returns-2
-    returns-3)
+    returns element-copy-out-has has-requires add-result mul-result element-copy-out-result returns-2 returns-3)

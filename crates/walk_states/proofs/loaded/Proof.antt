@@ -8,10 +8,10 @@ use Rattle.walk_states.proofs.loaded.Statement.{statement}
 use Rattle.walk_states.proofs.loaded.Tie as tie
 
 abbrev Inv-loop : tie.InvT-loop
-Inv-loop rule rights places program₀ i₀ program i = (i ≤ 256) × Loading rule rights places program i
+Inv-loop rule rights placings program₀ i₀ program i = (i ≤ 256) × Loading rule rights placings program i
 
 abbrev μ-loop : tie.MeasureT-loop
-μ-loop rule rights places program₀ i₀ program i = 256 - i
+μ-loop rule rights placings program₀ i₀ program i = 256 - i
 
 loop-holds : tie.Need-loop-holds Inv-loop μ-loop
 loop-holds c = (omega arith, record { long = refl; word = λ j h. absurd (let z : ⊥ = omega arith in z); right = λ j h. absurd (let z : ⊥ = omega arith in z); number = λ j h. absurd (let z : ⊥ = omega arith in z) })
@@ -77,21 +77,5 @@ loaded-spec =
     Inv-loop
     μ-loop
     loop-holds
-    mul-right
-    array-read-right
-    array-read-place
-    word-at-requires
-    mul-program
-    array-write-program
-    cast-program
-    add-program
-    mul-program-2
-    array-write-program-2
-    cast-program-2
-    add-program-2
-    mul-program-3
-    array-write-program-3
-    add-i
-    loop-less
-    loop-again
-    returns)
+    mul-right array-read-right array-read-place word-at-requires mul-program array-write-program cast-program add-program mul-program-2
+    array-write-program-2 cast-program-2 add-program-2 mul-program-3 array-write-program-3 add-i loop-less loop-again returns)

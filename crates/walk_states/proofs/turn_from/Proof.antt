@@ -44,10 +44,4 @@ turn-from-spec =
     Inv-loop
     μ-loop
     loop-holds
-    mul-rest
-    element-copy-out-rest
-    returns
-    add-outer
-    loop-less
-    loop-again
-    returns-2)
+    mul-rest element-copy-out-rest returns add-outer loop-less loop-again returns-2)

@@ -1,4 +1,4 @@
--- `write_from` meets its contract: a variable with a binding is the message of that binding, any other word stands for itself.
+-- `write_from` meets its contract: a variable with a binding is the message of that binding, any other word represents itself.
 -- The measure falls with the bindings, and then with the words and messages that are left. Assumes nothing.
 use Prim.Native.Nat.{ℕ, _+_, _-_, _*_, _≤_, _<_}
 use mathlib.Core.Path.{_≡_, sym, ap, _∙_}
@@ -36,7 +36,7 @@ module _ (t : ℕ) where
   abbrev claims : lts.Claims
   claims = (first-word.Asked, first-word.Learnt, bound.Asked, bound.Learnt, given.Asked, given.Learnt, tail.Asked, tail.Learnt, and 7 ps (falls 7 ps _<_ μ t) write-from.Pre, write-from.Post, plain-word.Asked, plain-word.Learnt, write-word.Asked, write-word.Learnt, arity.Asked, arity.Learnt)
 
-  -- ---- the places, and the way from each to those before it
+  -- ---- the points of the code, and the way from each to those before it
 
   abbrev At : (lts.Claims → In 7 ps → Out 7 ps r → Type 0) → Type 0
   At place = place claims at write-from.Post
@@ -129,9 +129,9 @@ module _ (t : ℕ) where
       let f = older-found o in
       let s = found-start f in
       let a = s .args in
-      let few = few-words (a .script .now) (getD (a .places .now) (f .bound .result) 0) (older-given o .given .ensures) (s .good .0 .1) in
+      let few = few-words (a .script .now) (getD (a .sources .now) (f .bound .result) 0) (older-given o .given .ensures) (s .good .0 .1) in
       let fewer = fewer-older (a .variables .now) (f .bound .result) (o .before .tail .ensures) (older-given o .before .if2 .taken) in
-      (rank-older _ _ _ _ _ (s .pre .0) fewer (omega (arith, few)), record { room = few; aligned = older-aligned (a .variables .now) (a .places .now) (f .bound .result + 1) (o .before .tail .ensures) (o .tail2 .ensures) (s .pre .1 .aligned); indexed = s .pre .1 .indexed })
+      (rank-older _ _ _ _ _ (s .pre .0) fewer (omega (arith, few)), record { room = few; aligned = older-aligned (a .variables .now) (a .sources .now) (f .bound .result + 1) (o .before .tail .ensures) (o .tail2 .ensures) (s .pre .1 .aligned); indexed = s .pre .1 .indexed })
 
   write-more-requires : At lts.Need-write-from-requires-2
   write-more-requires c κs =
@@ -171,7 +171,7 @@ module _ (t : ℕ) where
       let w = arity-word (l .before) in
       let f = word-found w in
       let a = found-start f .args in
-      let free = unbound-free (a .script .now) (a .variables .now) (a .places .now) (firstWord (a .words .now)) (omega (arith, first-bound _ _ (first f) (f .bound .ensures), word-plain w .before .if2 .left)) in
+      let free = unbound-free (a .script .now) (a .variables .now) (a .sources .now) (firstWord (a .words .now)) (omega (arith, first-bound _ _ (first f) (f .bound .ensures), word-plain w .before .if2 .left)) in
       wrote-as (written-first _ _ _ _ (pending-left f) free
       (word-plain w .plain-word .ensures ∙ ap (plainWord _) (first f)) (opened (l .before)) (l .tail4 .ensures))
       (wrote-more (partly-word w) (w .write-word .ensures) (m .write-from3 .ensures))

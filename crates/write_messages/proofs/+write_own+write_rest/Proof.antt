@@ -62,7 +62,7 @@ module _ (t : ℕ) where
   abbrev rest-claims : rest-lts.Claims
   rest-claims = (own.Asked, own.Learnt, after-own.Asked, after-own.Learnt, tail.Asked, tail.Learnt, rest-below, write-rest.Post, and 8 own-kinds.ps (falls 8 own-kinds.ps _<_ μ-own t) write-own.Pre, write-own.Post, less.Asked, less.Learnt)
 
-  -- ---- write_own: the places, and the way from each to those before it
+  -- ---- write_own: the points of the code, and the way from each to those before it
 
   abbrev Own : (own-lts.Claims → In 8 own-kinds.ps → Out 8 own-kinds.ps own-kinds.r → Type 0) → Type 0
   Own place = place own-claims own-at write-own.Post
@@ -113,7 +113,7 @@ module _ (t : ℕ) where
       let f = older-found o in
       let s = own-start f in
       let a = s .args in
-      let few = few-words (a .script .now) (getD (a .places .now) (f .bound .result) 0) (older-given o .given .ensures) (s .good .0 .1) in
+      let few = few-words (a .script .now) (getD (a .sources .now) (f .bound .result) 0) (older-given o .given .ensures) (s .good .0 .1) in
       let fewer = fewer-older (a .variables .now) (f .bound .result) (older-tail o .tail .ensures) (older-given o .before .if1 .taken) in
       (rank-older _ _ _ _ _ (s .pre .0) fewer (omega (arith, few)), (few, record { counted = older-kept (s .pre .1 .0 .counted) (f .bound .result + 1) (older-tail o .tail .ensures) (o .before .tail2 .ensures) (o .tail3 .ensures); indexed = s .pre .1 .0 .indexed; small = s .pre .1 .0 .small }))
 
@@ -124,7 +124,7 @@ module _ (t : ℕ) where
       let f = older-found o in
       let s = own-start f in
       let a = s .args in
-      let own = given-own (a .script .now) (a .variables .now) (a .places .now) (s .pre .1 .0 .counted .aligned) _ (older-given o .before .if1 .taken) (a .words .now) (first-bound _ _ (f .before .first-word .ensures) (f .bound .ensures)) (older-tail o .tail .ensures) (o .before .tail2 .ensures) (older-given o .given .ensures) in
+      let own = given-own (a .script .now) (a .variables .now) (a .sources .now) (s .pre .1 .0 .counted .aligned) _ (older-given o .before .if1 .taken) (a .words .now) (first-bound _ _ (f .before .first-word .ensures) (f .bound .ensures)) (older-tail o .tail .ensures) (o .before .tail2 .ensures) (older-given o .given .ensures) in
       wrote-as (ap (λ (l : List Message). strung (indicesIn (a .receipts .now) (a .indices .now)) (a .left) (drop (a .offset) l)) own) (g .write-rest .ensures)
 
   single-requires : Own own-lts.Need-write-from-requires
@@ -140,7 +140,7 @@ module _ (t : ℕ) where
       let f = link-else w .before in
       let s = own-start f in
       let a = s .args in
-      let free = unbound-free (a .script .now) (a .variables .now) (a .places .now) (firstWord (a .words .now)) (omega (arith, first-bound _ _ (f .before .first-word .ensures) (f .bound .ensures), link-else w .if1 .left)) in
+      let free = unbound-free (a .script .now) (a .variables .now) (a .sources .now) (firstWord (a .words .now)) (omega (arith, first-bound _ _ (f .before .first-word .ensures) (f .bound .ensures), link-else w .if1 .left)) in
       wrote-as (strung-single _ _ (a .left) _ (a .words .now) (single _ (a .words .now) (a .offset) free (s .pre .1 .1))) (wrote-more (partly-link w) (w .write-link .ensures) (m .write-from .ensures))
 
   own-met : {M : Type 1} → own-lts.Closed own-claims own-at write-own.Post M
@@ -150,7 +150,7 @@ module _ (t : ℕ) where
       (λ c. partly-bytes (partly-link (behind-link c))) (λ c. partly-behind (partly-link (behind-link c))) (λ c. partly-behind (partly-link (behind-link c))) (λ c. omega arith)
       single-requires (λ c. partly-sum (partly-link (more-link (end-more c))) (end-more c .write-from .ensures .within)) single-length single-returns
 
-  -- ---- write_rest: the places, and the way from each to those before it
+  -- ---- write_rest: the points of the code, and the way from each to those before it
 
   abbrev Rest : (rest-lts.Claims → In 8 rest-kinds.ps → Out 8 rest-kinds.ps rest-kinds.r → Type 0) → Type 0
   Rest place = place rest-claims rest-at write-rest.Post
@@ -197,13 +197,13 @@ module _ (t : ℕ) where
   -- ---- write_rest: what is known at each
 
   abbrev σ : Rest rest-lts.Start → List (ℕ × Message)
-  σ s = bindingsIn (s .args .script .now) (s .args .variables .now) (s .args .places .now)
+  σ s = bindingsIn (s .args .script .now) (s .args .variables .now) (s .args .sources .now)
 
   abbrev own-items : Rest rest-lts.After-after-own → List Message
   own-items c = let s = rest-start c in ownItems (σ s) (s .args .words .now)
 
   counted : (c : Rest rest-lts.After-after-own) → c .before .own .result ≡ capped (length (own-items c))
-  counted c = let s = rest-start c in c .before .own .ensures (s .args .script .now) (s .args .places .now) (s .pre .1 .1 .counted)
+  counted c = let s = rest-start c in c .before .own .ensures (s .args .script .now) (s .args .sources .now) (s .pre .1 .1 .counted)
 
   -- what is pending is the word's own items and those behind them
   pending-after : (c : Rest rest-lts.After-after-own) {ws : List ℕ} → ws ≡ drop (c .after-own .result .used) (rest-start c .args .words .now)

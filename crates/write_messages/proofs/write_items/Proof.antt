@@ -16,7 +16,7 @@ use borrow.Author.Needs.{needs}
 use Rattle.write_messages.proofs.write_items.Statement.{statement}
 use Rattle.write_messages.proofs.write_items.Tie as tie
 
--- ---- the places, and the way from each to those before it
+-- ---- the points of the code, and the way from each to those before it
 
 abbrev known-start : tie.After-slice-known → tie.Start
 known-start c = c .before .before .before .before .before .before .before
@@ -42,7 +42,7 @@ end-rest c = c .before .before
 -- ---- what is written
 
 abbrev σ : tie.Start → List (ℕ × Message)
-σ s = bindingsIn (s .args .script .now) (s .args .variables .now) (s .args .places .now)
+σ s = bindingsIn (s .args .script .now) (s .args .variables .now) (s .args .sources .now)
 
 abbrev message-items : tie.Start → List Message
 message-items s = items (resolve (σ s) (messageAt (drop (s .args .at) (s .args .script .now))))

@@ -49,7 +49,7 @@ module _ (t : ℕ) where
   abbrev part-claims : part-lts.Claims
   part-claims = (count-head.Asked, count-head.Learnt, has-body.Asked, has-body.Learnt, body-below, count-body.Post, sum.Asked, sum.Learnt)
 
-  -- ---- count_body: the places, and the way from each to those before it
+  -- ---- count_body: the points of the code, and the way from each to those before it
 
   abbrev Body : (body-lts.Claims → In 1 body-kinds.ps → Out 1 body-kinds.ps body-kinds.r → Type 0) → Type 0
   Body place = place body-claims body-at count-body.Post
@@ -115,7 +115,7 @@ module _ (t : ℕ) where
   body-met = body-lts.spec body-claims body-at count-body.Post none-returns fuel-returns (λ c κs. search needs) (λ c. omega (arith, fuel-left c)) part-requires rest-requires
       (λ c. omega (arith, fuel-left (rest-first c))) beside-requires (λ c κs. search needs) beside-returns
 
-  -- ---- count_part: the places, and the way from each to those before it
+  -- ---- count_part: the points of the code, and the way from each to those before it
 
   abbrev Part : (part-lts.Claims → In 1 part-kinds.ps → Out 1 part-kinds.ps part-kinds.r → Type 0) → Type 0
   Part place = place part-claims part-at count-part.Post

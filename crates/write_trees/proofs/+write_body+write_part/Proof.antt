@@ -49,7 +49,7 @@ module _ (t : ℕ) where
   abbrev part-claims : part-lts.Claims
   part-claims = (write-head.Asked, write-head.Learnt, has-body.Asked, has-body.Learnt, around-body.Asked, around-body.Learnt, body-below, write-body.Post)
 
-  -- ---- write_body: the places, and the way from each to those before it
+  -- ---- write_body: the points of the code, and the way from each to those before it
 
   abbrev Body : (body-lts.Claims → In 2 body-kinds.ps → Out 2 body-kinds.ps body-kinds.r → Type 0) → Type 0
   Body place = place body-claims body-at write-body.Post
@@ -154,7 +154,7 @@ module _ (t : ℕ) where
       (λ c. partly-bytes (partly-part (rest-part c))) (λ c. partly-behind (partly-part (rest-part c))) (λ c. partly-behind (partly-part (rest-part c))) (λ c. omega arith)
       beside-requires (λ c. partly-sum (partly-part (rest-part (more-rest (end-more c)))) (end-more c .write-body .ensures .within)) beside-length beside-returns
 
-  -- ---- write_part: the places, and the way from each to those before it
+  -- ---- write_part: the points of the code, and the way from each to those before it
 
   abbrev Part : (part-lts.Claims → In 2 part-kinds.ps → Out 2 part-kinds.ps part-kinds.r → Type 0) → Type 0
   Part place = place part-claims part-at write-part.Post

@@ -4,7 +4,7 @@ use borrow.Author.Needs.{needs}
 use Rattle.write_trees.proofs.count_head.Statement.{statement}
 use Rattle.write_trees.proofs.count_head.Tie as tie
 
--- ---- the places, and the way from each to those before it
+-- ---- the points of the code, and the way from each to those before it
 
 abbrev wide-start : tie.After-wide → tie.Start
 wide-start c = c .before .before .before .before .before .before .before

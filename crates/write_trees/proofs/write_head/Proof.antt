@@ -6,7 +6,7 @@ use borrow.Author.Needs.{needs}
 use Rattle.write_trees.proofs.write_head.Statement.{statement}
 use Rattle.write_trees.proofs.write_head.Tie as tie
 
--- ---- the places, and the way from each to those before it
+-- ---- the points of the code, and the way from each to those before it
 
 abbrev word-head : tie.After-write-word → tie.After-head-word
 word-head c = c .before .before

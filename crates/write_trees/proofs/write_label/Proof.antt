@@ -5,7 +5,7 @@ use borrow.Author.Needs.{needs}
 use Rattle.write_trees.proofs.write_label.Statement.{statement}
 use Rattle.write_trees.proofs.write_label.Tie as tie
 
--- ---- the places, and the way from each to those before it
+-- ---- the points of the code, and the way from each to those before it
 
 abbrev wide-start : tie.After-wide → tie.Start
 wide-start c = c .before .before .before .before .before .before .before .before

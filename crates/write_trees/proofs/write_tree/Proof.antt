@@ -14,7 +14,7 @@ use borrow.Author.Needs.{needs}
 use Rattle.write_trees.proofs.write_tree.Statement.{statement}
 use Rattle.write_trees.proofs.write_tree.Tie as tie
 
--- ---- the places, and the way from each to those before it
+-- ---- the points of the code, and the way from each to those before it
 
 abbrev count-start : tie.After-count-words → tie.Start
 count-start c = c .before .before .before .before .before .before .before .before
@@ -68,7 +68,7 @@ returns-3 c b e h p =
     let w = around-wide x in
     let a = wide-start w .args in
     fitted _ _ _ (wide-count w .count-words .ensures [] 0 b e h p) (omega (arith, w .before .if1 .left)) (w .wide .result) (w .wide .ensures) (fits x) _ _
-    (wrote-as (ap (λ (ix : Indices). write ix 0 (unfolded (bindingsIn (a .script .now) (a .variables .now) (a .places .now)) b)) (x .nothing-around .ensures .none)) (m .write-body .ensures .written b e h p))
+    (wrote-as (ap (λ (ix : Indices). write ix 0 (unfolded (bindingsIn (a .script .now) (a .variables .now) (a .sources .now)) b)) (x .nothing-around .ensures .none)) (m .write-body .ensures .written b e h p))
 
 pub write-tree-spec : {M : Type 1} → statement M
 write-tree-spec = tie.close (tie.spec (λ c κs. search needs) returns (λ c κs. search needs) returns-2 (λ c. search needs) (λ c κs. search needs) (λ c. search needs)

@@ -16,7 +16,7 @@ abbrev pub μ-loop : lts.MeasureT-loop
 μ-loop s at nest around owner k₀ t₀ k t = length s - k
 
 module _ (t : ℕ) where
-  -- the way from a place to one before it
+  -- the way from a point of the code to one before it
   abbrev loop-start : lts.At-loop (read-body-claims t) (read-body-at t) reads.Post Inv-loop μ-loop → lts.Start (read-body-claims t) (read-body-at t) reads.Post Inv-loop μ-loop
   loop-start c = c .before .before
 

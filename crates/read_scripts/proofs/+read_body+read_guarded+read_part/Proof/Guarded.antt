@@ -12,7 +12,7 @@ use Rattle.read_scripts.proofs.read_guarded.Reads as reads
 use Rattle.read_scripts.proofs.+read_body+read_guarded+read_part.Proof.Measures.{read-guarded-at, read-guarded-claims}
 
 module _ (t : ℕ) where
-  -- the way from a place to one before it
+  -- the way from a point of the code to one before it
   abbrev pub lent-start : lts.After-all2 (read-guarded-claims t) (read-guarded-at t) reads.Post → lts.Start (read-guarded-claims t) (read-guarded-at t) reads.Post
   lent-start c = c .before .before .before .before
 

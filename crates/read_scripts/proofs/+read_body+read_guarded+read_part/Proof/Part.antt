@@ -15,7 +15,7 @@ use Rattle.read_scripts.proofs.read_part.Reads as reads
 use Rattle.read_scripts.proofs.+read_body+read_guarded+read_part.Proof.Measures.{read-part-at, read-part-claims}
 
 module _ (t : ℕ) where
-  -- the way from a place to one before it
+  -- the way from a point of the code to one before it
   abbrev unfit-word : lts.After-refused (read-part-claims t) (read-part-at t) reads.Post → lts.After-w (read-part-claims t) (read-part-at t) reads.Post
   unfit-word c = c .before .before
 

@@ -5,7 +5,7 @@ use native.Mathlib.Omega.{arith}
 use borrow.Author.Needs.{needs}
 use Rattle.walk_stages.proofs.Scenes.{visitable-state}
 use Rattle.walk_stages.proofs.Members.{placed-number, placed-far, placed-name, placed-goes}
-use Rattle.walk_states.proofs.Lendings.{step-places, step-apart}
+use Rattle.walk_states.proofs.Lendings.{step-placing, step-apart}
 use Rattle.walk_visits.proofs.+at_name+beside+either+negation+placed_in+some_name+sometime+somewhere+split+visit.Lts-placed_in as lts
 use Rattle.walk_visits.proofs.placed_in.Reads as reads
 use Rattle.walk_visits.proofs.+at_name+beside+either+negation+placed_in+some_name+sometime+somewhere+split+visit.Proof.Measures.{placed-in-at, placed-in-claims}
@@ -45,7 +45,7 @@ module _ (t : ℕ) where
   returns-3 c = let x = c .before .before .before .before .before .before .before .before .before .args in placed-name (x .program .now) (x .script .now) (x .sets .now) (x .numbers .now) (x .chosen .now) (x .spot .top) (x .spot .somes) (x .spot .left) (x .spot .at) (x .limits) (x .c) (c .before .before .before .before .before .before .before .before .before .pre .1 .2 .few-somes) _ (c .before .before .name-said .ensures) (c .if3 .taken) _
 
   pub next-state-requires : lts.Need-next-state-requires (placed-in-claims t) (placed-in-at t) reads.Post
-  next-state-requires c κs = (λ b u e. absurd (step-apart b u _ _ (sym e)), λ j n e. step-places (λ (y : ℕ) (z : ℕ). (y < 64) × (z < 536870912)) _ _ j n e (omega (arith, c .before .before .if2 .left), omega (arith, c .before .if3 .left)), c .before .before .before .before .before .before .before .before .before .before .pre .1 .2 .state)
+  next-state-requires c κs = (λ b u e. absurd (step-apart b u _ _ (sym e)), λ j n e. step-placing (λ (y : ℕ) (z : ℕ). (y < 64) × (z < 536870912)) _ _ j n e (omega (arith, c .before .before .if2 .left), omega (arith, c .before .if3 .left)), c .before .before .before .before .before .before .before .before .before .before .pre .1 .2 .state)
 
   pub add-inner : lts.Need-add-inner (placed-in-claims t) (placed-in-at t) reads.Post
   add-inner c = search needs

@@ -38,7 +38,7 @@ module _ (t : ℕ) where
   turn-from-requires c κs = c .before .before .before .before .before .before .before .before .before .pre .1 .2 .few-numbers
 
   pub loop-holds : lts.Need-loop-holds (sometime-claims t) (sometime-at t) reads.Post Inv-loop μ-loop
-  loop-holds c = let x = c .before .before .before .before .before .before .before .before .before .before .args in (search (c .turn-from .ok, needs), trying-holds (x .program .now) (x .script .now) (x .sets .now) (x .numbers .now) (x .chosen .now) (x .spot .top) (x .spot .somes) (x .spot .left) (x .spot .at) (x .limits) (c .before .before .before .all-targets .result .places) (c .before .before .before .all-targets .result .targets) (c .before .before .before .all-targets .ensures .0) (c .before .before .before .all-targets .ensures .1) _ _ _ (c .turn-from .ensures))
+  loop-holds c = let x = c .before .before .before .before .before .before .before .before .before .before .args in (search (c .turn-from .ok, needs), trying-holds (x .program .now) (x .script .now) (x .sets .now) (x .numbers .now) (x .chosen .now) (x .spot .top) (x .spot .somes) (x .spot .left) (x .spot .at) (x .limits) (c .before .before .before .all-targets .result .homes) (c .before .before .before .all-targets .result .targets) (c .before .before .before .all-targets .ensures .0) (c .before .before .before .all-targets .ensures .1) _ _ _ (c .turn-from .ensures))
 
   pub first-requires : lts.Need-first-requires (sometime-claims t) (sometime-at t) reads.Post Inv-loop μ-loop
   first-requires c κs = search needs
@@ -53,7 +53,7 @@ module _ (t : ℕ) where
   enum-known-w2 c = search needs
 
   pub returns-2 : lts.Need-returns-2 (sometime-claims t) (sometime-at t) reads.Post Inv-loop μ-loop
-  returns-2 c = let x = c .before .before .before .before .before .before .before .before .before .before .before .before .before .before .before .before .before .before .before .before .before .before .args in sometime-then (x .program .now) (x .script .now) (x .sets .now) (x .numbers .now) (x .chosen .now) (x .spot .top) (x .spot .somes) (x .spot .left) (x .spot .at) (x .limits) (x .c) _ (c .before .before .before .before .before .before .before .before .before .before .before .before .before .before .before .before .before .before .before .visit .ensures) _ (c .before .before .before .before .before .before .before .before .before .before .before .before .before .before .before .before .before .w .given .1) _ (trying-stops (x .program .now) (x .script .now) (x .sets .now) (x .numbers .now) (x .chosen .now) (x .spot .top) (x .spot .somes) (x .spot .left) (x .spot .at) (x .limits) (c .before .before .before .before .before .before .before .before .before .before .before .before .before .before .before .all-targets .result .places) (c .before .before .before .before .before .before .before .before .before .before .before .before .before .before .before .all-targets .result .targets) (c .before .before .before .before .before .before .before .before .before .before .before .before .before .before .before .all-targets .ensures .0) (c .before .before .before .before .before .before .before .before .before .before .before .before .before .before .before .all-targets .ensures .1) _ _ _ _ _ (c .before .before .before .before .before .before .before .before .before .before .before .loop .inv .1) (c .before .before .before .before .before .before .before .before .before .before .before .loop .inv .0) (c .before .before .before .before .before .before .before .before .before .if1 .taken) (c .before .before .before .before .before .before .before .before .first .ensures) _ _ _ (c .before .before .before .before .before .next-state .ensures .0) (c .before .before .before .before .before .next-state .ensures .1 .0 _ _ refl .0) (c .before .before .before .before .before .next-state .ensures .1 .0 _ _ refl .1) (c .before .before .before .before .before .next-state .ensures .1 .0 _ _ refl .2) _ (c .before .visit2 .ensures) (c .match2 .keys2))
+  returns-2 c = let x = c .before .before .before .before .before .before .before .before .before .before .before .before .before .before .before .before .before .before .before .before .before .before .args in sometime-then (x .program .now) (x .script .now) (x .sets .now) (x .numbers .now) (x .chosen .now) (x .spot .top) (x .spot .somes) (x .spot .left) (x .spot .at) (x .limits) (x .c) _ (c .before .before .before .before .before .before .before .before .before .before .before .before .before .before .before .before .before .before .before .visit .ensures) _ (c .before .before .before .before .before .before .before .before .before .before .before .before .before .before .before .before .before .w .given .1) _ (trying-stops (x .program .now) (x .script .now) (x .sets .now) (x .numbers .now) (x .chosen .now) (x .spot .top) (x .spot .somes) (x .spot .left) (x .spot .at) (x .limits) (c .before .before .before .before .before .before .before .before .before .before .before .before .before .before .before .all-targets .result .homes) (c .before .before .before .before .before .before .before .before .before .before .before .before .before .before .before .all-targets .result .targets) (c .before .before .before .before .before .before .before .before .before .before .before .before .before .before .before .all-targets .ensures .0) (c .before .before .before .before .before .before .before .before .before .before .before .before .before .before .before .all-targets .ensures .1) _ _ _ _ _ (c .before .before .before .before .before .before .before .before .before .before .before .loop .inv .1) (c .before .before .before .before .before .before .before .before .before .before .before .loop .inv .0) (c .before .before .before .before .before .before .before .before .before .if1 .taken) (c .before .before .before .before .before .before .before .before .first .ensures) _ _ _ (c .before .before .before .before .before .next-state .ensures .0) (c .before .before .before .before .before .next-state .ensures .1 .0 _ _ refl .0) (c .before .before .before .before .before .next-state .ensures .1 .0 _ _ refl .1) (c .before .before .before .before .before .next-state .ensures .1 .0 _ _ refl .2) _ (c .before .visit2 .ensures) (c .match2 .keys2))
 
   pub next-turn-requires : lts.Need-next-turn-requires (sometime-claims t) (sometime-at t) reads.Post Inv-loop μ-loop
   next-turn-requires c κs = let x = c .before .before .before .before .before .before .before .before .before .before .before .before .before .before .before .before .before .before .before .before .before .before .before .before .before .before .args in (c .before .before .before .before .before .before .before .before .before .before .before .before .before .before .before .before .before .before .before .before .before .before .before .before .before .before .pre .1 .2 .few-numbers, c .before .before .before .before .before .before .before .before .before .before .before .before .before .if1 .taken, trying-low (x .program .now) (x .script .now) (x .sets .now) (x .numbers .now) (x .chosen .now) (x .spot .top) (x .spot .somes) (x .spot .left) (x .spot .at) (x .limits) _ _ _ _ _ (c .before .before .before .before .before .before .before .before .before .before .before .before .before .before .before .loop .inv .1) (c .before .before .before .before .before .before .before .before .before .before .before .before .before .before .before .loop .inv .0) (c .before .before .before .before .before .before .before .before .before .before .before .before .before .if1 .taken))
@@ -62,7 +62,7 @@ module _ (t : ℕ) where
   loop-less c = let x = c .before .before .before .before .before .before .before .before .before .before .before .before .before .before .before .before .before .before .before .before .before .before .before .before .before .before .before .args in trying-less (x .program .now) (x .script .now) (x .sets .now) (x .numbers .now) (x .chosen .now) (x .spot .top) (x .spot .somes) (x .spot .left) (x .spot .at) (x .limits) _ _ _ _ _ (c .before .before .before .before .before .before .before .before .before .before .before .before .before .before .before .before .loop .inv .1) (c .before .before .before .before .before .before .before .before .before .before .before .before .before .before .before .before .loop .inv .0) (c .before .before .before .before .before .before .before .before .before .before .before .before .before .before .if1 .taken) _ _ (c .next-turn .ensures)
 
   pub loop-again : lts.Need-loop-again (sometime-claims t) (sometime-at t) reads.Post Inv-loop μ-loop
-  loop-again c = let x = c .before .before .before .before .before .before .before .before .before .before .before .before .before .before .before .before .before .before .before .before .before .before .before .before .before .before .before .args in (search (c .next-turn .ok, needs), trying-again (x .program .now) (x .script .now) (x .sets .now) (x .numbers .now) (x .chosen .now) (x .spot .top) (x .spot .somes) (x .spot .left) (x .spot .at) (x .limits) (c .before .before .before .before .before .before .before .before .before .before .before .before .before .before .before .before .before .before .before .before .all-targets .result .places) (c .before .before .before .before .before .before .before .before .before .before .before .before .before .before .before .before .before .before .before .before .all-targets .result .targets) (c .before .before .before .before .before .before .before .before .before .before .before .before .before .before .before .before .before .before .before .before .all-targets .ensures .0) (c .before .before .before .before .before .before .before .before .before .before .before .before .before .before .before .before .before .before .before .before .all-targets .ensures .1) _ _ _ _ _ (c .before .before .before .before .before .before .before .before .before .before .before .before .before .before .before .before .loop .inv .1) (c .before .before .before .before .before .before .before .before .before .before .before .before .before .before .before .before .loop .inv .0) (c .before .before .before .before .before .before .before .before .before .before .before .before .before .before .if1 .taken) (c .before .before .before .before .before .before .before .before .before .before .before .before .before .first .ensures) _ _ _ (c .before .before .before .before .before .before .before .before .before .before .next-state .ensures .0) (c .before .before .before .before .before .before .before .before .before .before .next-state .ensures .1 .0 _ _ refl .0) (c .before .before .before .before .before .before .before .before .before .before .next-state .ensures .1 .0 _ _ refl .1) (c .before .before .before .before .before .before .before .before .before .before .next-state .ensures .1 .0 _ _ refl .2) _ (c .before .before .before .before .before .before .visit2 .ensures) _ (c .before .before .before .before .w2 .given .1) _ _ (c .next-turn .ensures))
+  loop-again c = let x = c .before .before .before .before .before .before .before .before .before .before .before .before .before .before .before .before .before .before .before .before .before .before .before .before .before .before .before .args in (search (c .next-turn .ok, needs), trying-again (x .program .now) (x .script .now) (x .sets .now) (x .numbers .now) (x .chosen .now) (x .spot .top) (x .spot .somes) (x .spot .left) (x .spot .at) (x .limits) (c .before .before .before .before .before .before .before .before .before .before .before .before .before .before .before .before .before .before .before .before .all-targets .result .homes) (c .before .before .before .before .before .before .before .before .before .before .before .before .before .before .before .before .before .before .before .before .all-targets .result .targets) (c .before .before .before .before .before .before .before .before .before .before .before .before .before .before .before .before .before .before .before .before .all-targets .ensures .0) (c .before .before .before .before .before .before .before .before .before .before .before .before .before .before .before .before .before .before .before .before .all-targets .ensures .1) _ _ _ _ _ (c .before .before .before .before .before .before .before .before .before .before .before .before .before .before .before .before .loop .inv .1) (c .before .before .before .before .before .before .before .before .before .before .before .before .before .before .before .before .loop .inv .0) (c .before .before .before .before .before .before .before .before .before .before .before .before .before .before .if1 .taken) (c .before .before .before .before .before .before .before .before .before .before .before .before .before .first .ensures) _ _ _ (c .before .before .before .before .before .before .before .before .before .before .next-state .ensures .0) (c .before .before .before .before .before .before .before .before .before .before .next-state .ensures .1 .0 _ _ refl .0) (c .before .before .before .before .before .before .before .before .before .before .next-state .ensures .1 .0 _ _ refl .1) (c .before .before .before .before .before .before .before .before .before .before .next-state .ensures .1 .0 _ _ refl .2) _ (c .before .before .before .before .before .before .visit2 .ensures) _ (c .before .before .before .before .w2 .given .1) _ _ (c .next-turn .ensures))
 
   pub returns-3 : lts.Need-returns-3 (sometime-claims t) (sometime-at t) reads.Post Inv-loop μ-loop
   returns-3 c = let x = c .before .before .before .before .before .before .before .before .before .before .before .before .before .args in sometime-then (x .program .now) (x .script .now) (x .sets .now) (x .numbers .now) (x .chosen .now) (x .spot .top) (x .spot .somes) (x .spot .left) (x .spot .at) (x .limits) (x .c) _ (c .before .before .before .before .before .before .before .before .before .before .visit .ensures) _ (c .before .before .before .before .before .before .before .before .w .given .1) _ (trying-ends (x .program .now) (x .script .now) (x .sets .now) (x .numbers .now) (x .chosen .now) (x .spot .top) (x .spot .somes) (x .spot .left) (x .spot .at) (x .limits) _ _ _ _ _ (c .before .before .loop .inv .1) (c .if1 .left))

@@ -1,4 +1,4 @@
--- `lend` meets its contract: the three together. Assumes nothing.
+-- `to_arrays` meets its contract: the three together. Assumes nothing.
 use mathlib.Core.Path.{_≡_, _∙_}
 use native.Mathlib.Omega.{arith}
 use lib.ListN.{getD, set}
@@ -6,8 +6,8 @@ use Rattle.base_arrays.specs.Stretches.{stretch}
 use Rattle.engine_state_arrays.proofs.Standing.{standing-kids}
 use Rattle.base_arrays.proofs.Copying.{small-in, small-of, from-start, to-start}
 use borrow.Author.Needs.{needs}
-use Rattle.engine_state_arrays.proofs.lend.Statement.{statement}
-use Rattle.engine_state_arrays.proofs.lend.Tie as tie
+use Rattle.engine_state_arrays.proofs.to_arrays.Statement.{statement}
+use Rattle.engine_state_arrays.proofs.to_arrays.Tie as tie
 
 with-bindings-requires : tie.Need-with-bindings-requires
 with-bindings-requires c κs = c .before .before .before .before .before .before .before .pre
@@ -33,11 +33,11 @@ returns c =
       λ q. record {
         kids = ek q;
         offsets = (w .1 128 64 (omega arith) ∙ p .0 .2) q;
-        looks = record { named = s .2 q; names = (w .1 192 64 (omega arith) ∙ p .0 .3) q; acts = (w .1 256 64 (omega arith) ∙ p .0 .4) q; aims = s .1 q; busy = s .3 q };
-        bindings = record { variables = w .0 .0 q; places = w .0 .1 q; counts = w .0 .2 q; sizes = w .0 .3 q; bulks = w .0 .4 q; first = w .0 .5 q };
+        notes = record { named = s .2 q; names = (w .1 192 64 (omega arith) ∙ p .0 .3) q; acts = (w .1 256 64 (omega arith) ∙ p .0 .4) q; aims = s .1 q; busy = s .3 q };
+        bindings = record { variables = w .0 .0 q; sources = w .0 .1 q; counts = w .0 .2 q; sizes = w .0 .3 q; bulks = w .0 .4 q; first = w .0 .5 q };
       },
     )
 
-pub lend-spec : {M : Type 1} → statement M
-lend-spec =
+pub to-arrays-spec : {M : Type 1} → statement M
+to-arrays-spec =
     tie.close (tie.spec (λ c κs. search needs) with-bindings-requires (λ c κs. search needs) returns)

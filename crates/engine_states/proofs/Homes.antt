@@ -1,5 +1,5 @@
 -- The part in whose body a part stands, by the sets: a part stands in the body of the top, or of a named ambient that
--- itself stands somewhere, and its place is then that body's number. Assumes nothing.
+-- itself stands somewhere, and its home is then that body's number. Assumes nothing.
 use Prim.Native.Nat.{ℕ, _≤_, _<_}
 use mathlib.Core.Bool.{Bool, true, false, _||_, cond, true≢false}
 use mathlib.Core.List.{List}
@@ -15,7 +15,7 @@ use Rattle.theory_machine.specs.Moves.{isNamed, headName}
 use Rattle.base_slices.proofs.Tests.{byTest}
 use Rattle.read_scripts.proofs.Numbers.{own-times}
 use Rattle.theory_closures.specs.Closure.{ClosureHead, Closure, Bindings, viewUnder}
-use Rattle.engine_states.specs.Searches.{firstPlace, placeBelow, place, Stands}
+use Rattle.engine_states.specs.Searches.{firstHome, homeBelow, home, HeldOnce}
 use Rattle.engine_states.proofs.Holding.{in-times, not-in}
 
 abbrev named : Bindings → ClosureHead → Type 0
@@ -55,66 +55,66 @@ inside-apart σ x b (directly {s = s} n e) m q = let c : 1 ≤ oneIf (eqb x b) =
 inside-apart σ x b (deeper n p) m q = inside-apart σ x b p (omega arith) q
 inside-apart σ x b (beside p) m q = inside-apart σ x b p (omega arith) q
 
--- ---- the place is where it stands
+-- ---- the home is where it stands
 
-pub nowhere : (σ : Bindings) (x : ℕ) (f : Closure) → timesIn x f ≡ 0 → placeBelow σ x f ≡ 65
-unfolding totalOver placeBelow
+pub nowhere : (σ : Bindings) (x : ℕ) (f : Closure) → timesIn x f ≡ 0 → homeBelow σ x f ≡ 65
+unfolding totalOver homeBelow
 nowhere σ x close e = refl
 nowhere σ x (part i h s r) e =
     go (isNamed (headName (viewUnder σ) h)) (not-in x s (omega arith)) (nowhere σ x s (omega arith)) (nowhere σ x r (omega arith))
   where
-    go : (u : Bool) → elem x (tops s) ≡ false → placeBelow σ x s ≡ 65 → placeBelow σ x r ≡ 65
-        → firstPlace (cond u (cond (elem x (tops s)) i (placeBelow σ x s)) 65) (placeBelow σ x r) ≡ 65
+    go : (u : Bool) → elem x (tops s) ≡ false → homeBelow σ x s ≡ 65 → homeBelow σ x r ≡ 65
+        → firstHome (cond u (cond (elem x (tops s)) i (homeBelow σ x s)) 65) (homeBelow σ x r) ≡ 65
     go true a b c = rw (a, b, c)
     go false a b c = rw c
 
-first-most : (p q : ℕ) → q ≤ 65 → firstPlace p q ≤ 65
+first-most : (p q : ℕ) → q ≤ 65 → firstHome p q ≤ 65
 first-most p q l = byTest (ltb p 65) (λ t. rw t (let m : p < 65 = ltb-true p 65 t in omega arith)) (λ t. rw t l)
 
-most-below : (σ : Bindings) (x : ℕ) (f : Closure) → placeBelow σ x f ≤ 65
-unfolding placeBelow
+most-below : (σ : Bindings) (x : ℕ) (f : Closure) → homeBelow σ x f ≤ 65
+unfolding homeBelow
 most-below σ x close = omega arith
-most-below σ x (part i h s r) = first-most (cond (isNamed (headName (viewUnder σ) h)) (cond (elem x (tops s)) i (placeBelow σ x s)) 65) (placeBelow σ x r) (most-below σ x r)
+most-below σ x (part i h s r) = first-most (cond (isNamed (headName (viewUnder σ) h)) (cond (elem x (tops s)) i (homeBelow σ x s)) 65) (homeBelow σ x r) (most-below σ x r)
 
-pub place-most : (σ : Bindings) (x : ℕ) (f : Closure) → place σ x f ≤ 65
-unfolding place
-place-most σ x f = byTest (elem x (tops f)) (λ e. rw e (omega arith)) (λ e. rw e (most-below σ x f))
+pub home-most : (σ : Bindings) (x : ℕ) (f : Closure) → home σ x f ≤ 65
+unfolding home
+home-most σ x f = byTest (elem x (tops f)) (λ e. rw e (omega arith)) (λ e. rw e (most-below σ x f))
 
 below : (b : ℕ) (f : Closure) → ((j : ℕ) → 64 ≤ j → timesIn j f ≡ 0) → 1 ≤ timesIn b f → b < 64
 below b f low m = byTest (ltb b 64) (λ u. ltb-true b 64 u) (λ u. absurd (let z : ⊥ = omega (arith, low b (ltb-false b 64 u)) in z))
 
 module _ (σ : Bindings) (x : ℕ) where
-  inside-place : (b : ℕ) {f : Closure} → Inside σ x b f → timesIn x f ≤ 1 → ((j : ℕ) → 64 ≤ j → timesIn j f ≡ 0) → placeBelow σ x f ≡ b
-  unfolding totalOver placeBelow
-  inside-place b (directly {i = i} {h = h} {s = s} {r = r} n e) m low =
+  inside-home : (b : ℕ) {f : Closure} → Inside σ x b f → timesIn x f ≤ 1 → ((j : ℕ) → 64 ≤ j → timesIn j f ≡ 0) → homeBelow σ x f ≡ b
+  unfolding totalOver homeBelow
+  inside-home b (directly {i = i} {h = h} {s = s} {r = r} n e) m low =
       rw (n, e, lt-ltb i 65 (let l : i < 64 = below i (part i h s r) low (omega (arith, own-times i)) in omega arith))
-  inside-place b (deeper {i = i} {h = h} {s = s} {r = r} n p) m low =
+  inside-home b (deeper {i = i} {h = h} {s = s} {r = r} n p) m low =
       let c = inside-times σ x b p in
-      let q = inside-place b p (omega arith) (λ j l. omega (arith, low j l)) in
+      let q = inside-home b p (omega arith) (λ j l. omega (arith, low j l)) in
       let l : b < 64 = below b (part i h s r) low (omega (arith, c .1)) in
       rw (n, inside-only σ x b p (omega arith), q, lt-ltb b 65 (omega arith))
-  inside-place b (beside {i = i} {h = h} {s = s} {r = r} p) m low =
+  inside-home b (beside {i = i} {h = h} {s = s} {r = r} p) m low =
       let c = inside-times σ x b p in
       go (isNamed (headName (viewUnder σ) h)) (not-in x s (omega (arith, c .0))) (nowhere σ x s (omega (arith, c .0)))
-      (inside-place b p (omega arith) (λ j l. omega (arith, low j l)))
+      (inside-home b p (omega arith) (λ j l. omega (arith, low j l)))
     where
-      go : (u : Bool) → elem x (tops s) ≡ false → placeBelow σ x s ≡ 65 → placeBelow σ x r ≡ b
-          → firstPlace (cond u (cond (elem x (tops s)) i (placeBelow σ x s)) 65) (placeBelow σ x r) ≡ b
+      go : (u : Bool) → elem x (tops s) ≡ false → homeBelow σ x s ≡ 65 → homeBelow σ x r ≡ b
+          → firstHome (cond u (cond (elem x (tops s)) i (homeBelow σ x s)) 65) (homeBelow σ x r) ≡ b
       go true y z q = rw (y, z) q
       go false y z q = q
 
-  place-inside : (f : Closure) → placeBelow σ x f < 65 → Inside σ x (placeBelow σ x f) f
-  unfolding placeBelow
-  place-inside close l = absurd (let z : ⊥ = omega arith in z)
-  place-inside (part i h s r) l = byTest (isNamed (headName (viewUnder σ) h))
+  home-inside : (f : Closure) → homeBelow σ x f < 65 → Inside σ x (homeBelow σ x f) f
+  unfolding homeBelow
+  home-inside close l = absurd (let z : ⊥ = omega arith in z)
+  home-inside (part i h s r) l = byTest (isNamed (headName (viewUnder σ) h))
       (λ n. byTest (elem x (tops s))
       (λ e. byTest (ltb i 65)
       (λ u. rw (n, e, u) (directly n e))
-      (λ u. rw (n, e, u) (beside (place-inside r (rw (n, e, u) at l)))))
-      (λ e. byTest (ltb (placeBelow σ x s) 65)
-      (λ u. rw (n, e, u) (deeper n (place-inside s (ltb-true (placeBelow σ x s) 65 u))))
-      (λ u. rw (n, e, u) (beside (place-inside r (rw (n, e, u) at l))))))
-      (λ n. rw n (beside (place-inside r (rw n at l))))
+      (λ u. rw (n, e, u) (beside (home-inside r (rw (n, e, u) at l)))))
+      (λ e. byTest (ltb (homeBelow σ x s) 65)
+      (λ u. rw (n, e, u) (deeper n (home-inside s (ltb-true (homeBelow σ x s) 65 u))))
+      (λ u. rw (n, e, u) (beside (home-inside r (rw (n, e, u) at l))))))
+      (λ n. rw n (beside (home-inside r (rw n at l))))
 
 -- ---- the bodies that hold a part
 
@@ -156,41 +156,41 @@ around σ x b (beside {i = i} {r = r} p) = elim (around σ x b p) [
 abbrev pub Active : (σ : Bindings) (w : ℕ → ClosureHead) (at : ℕ → ℕ) → ℕ → Type 0
 Active σ w at b = (b ≡ 64) ⊎ ((b < 64) × (at b < 65) × named σ (w b))
 
-module _ (σ : Bindings) (k : ℕ → List ℕ) (w : ℕ → ClosureHead) (f : Closure) (Q : Stands k w f) where
+module _ (σ : Bindings) (k : ℕ → List ℕ) (w : ℕ → ClosureHead) (f : Closure) (Q : HeldOnce k w f) where
   abbrev at : ℕ → ℕ
-  at i = place σ i f
+  at i = home σ i f
 
   at-top : (x : ℕ) → elem x (tops f) ≡ true → at x ≡ 64
-  unfolding place
+  unfolding home
   at-top x e = rw e
 
   at-inside : (x b : ℕ) → Inside σ x b f → at x ≡ b
-  unfolding place
-  at-inside x b p = rw (inside-only σ x b p (Q .once x)) (inside-place σ x b p (Q .once x) (Q .low))
+  unfolding home
+  at-inside x b p = rw (inside-only σ x b p (Q .once x)) (inside-home σ x b p (Q .once x) (Q .low))
 
-  -- a part that has a place, at the top or inside
-  placed : (x : ℕ) → at x < 65 → ((at x ≡ 64) × (elem x (tops f) ≡ true)) ⊎ Inside σ x (at x) f
-  unfolding place
-  placed x l = byTest (elem x (tops f)) (λ e. rw e (inl (refl, refl))) (λ e. rw e (inr (place-inside σ x f (rw e at l))))
+  -- a part that has a home, at the top or inside
+  homed : (x : ℕ) → at x < 65 → ((at x ≡ 64) × (elem x (tops f) ≡ true)) ⊎ Inside σ x (at x) f
+  unfolding home
+  homed x l = byTest (elem x (tops f)) (λ e. rw e (inl (refl, refl))) (λ e. rw e (inr (home-inside σ x f (rw e at l))))
 
-  -- only parts have a place
-  pub place-low : (x : ℕ) → place σ x f < 65 → x < 64
-  place-low x l = below x f (Q .low) (elim (placed x l) [ inl z ↦ in-times x f (z .1) | inr p ↦ inside-times σ x (at x) p .0 ])
+  -- only parts have a home
+  pub home-low : (x : ℕ) → home σ x f < 65 → x < 64
+  home-low x l = below x f (Q .low) (elim (homed x l) [ inl z ↦ in-times x f (z .1) | inr p ↦ inside-times σ x (at x) p .0 ])
 
-  pub place-apart : (x : ℕ) → place σ x f < 65 → x ≡ place σ x f → ⊥
-  place-apart x l e = elim (placed x l) [ inl z ↦ omega (arith, place-low x l, z .0) | inr p ↦ inside-apart σ x (at x) p (Q .once x) e ]
+  pub home-apart : (x : ℕ) → home σ x f < 65 → x ≡ home σ x f → ⊥
+  home-apart x l e = elim (homed x l) [ inl z ↦ omega (arith, home-low x l, z .0) | inr p ↦ inside-apart σ x (at x) p (Q .once x) e ]
 
-  -- THEOREM: what stands in an active body has that body's number for its place.
-  pub place-of : (b x : ℕ) → Active σ w (λ i. place σ i f) b → elem x (k b) ≡ true → place σ x f ≡ b
-  place-of b x (inl e) m = at-top x (ap (elem x) (sym (Q .top)) ∙ ap (λ (j : ℕ). elem x (k j)) (sym e) ∙ m) ∙ sym e
-  place-of b x (inr c) m = elim (placed b (c .1)) [
+  -- THEOREM: what stands in an active body has that body's number for its home.
+  pub home-of : (b x : ℕ) → Active σ w (λ i. home σ i f) b → elem x (k b) ≡ true → home σ x f ≡ b
+  home-of b x (inl e) m = at-top x (ap (elem x) (sym (Q .top)) ∙ ap (λ (j : ℕ). elem x (k j)) (sym e) ∙ m) ∙ sym e
+  home-of b x (inr c) m = elim (homed b (c .1)) [
     | inl z ↦ at-inside x b (from-top σ k w x b f (Q .held) (z .1) (c .2) m)
     | inr p ↦ at-inside x b (from-inside σ k w x b (at b) p (Q .held) (c .2) m)
   ]
 
-  -- THEOREM: a part that has a place stands in its body, and that body is active.
-  pub place-active : (x b : ℕ) → place σ x f ≡ b → b < 65 → (elem x (k b) ≡ true) × Active σ w (λ i. place σ i f) b
-  place-active x b e l = subst (λ (j : ℕ). (elem x (k j) ≡ true) × Active σ w at j) e (by-place (placed x (omega arith)))
+  -- THEOREM: a part that has a home stands in its body, and that body is active.
+  pub home-active : (x b : ℕ) → home σ x f ≡ b → b < 65 → (elem x (k b) ≡ true) × Active σ w (λ i. home σ i f) b
+  home-active x b e l = subst (λ (j : ℕ). (elem x (k j) ≡ true) × Active σ w at j) e (by-home (homed x (omega arith)))
     where
       stands : Inside σ x (at x) f → at (at x) < 65
       stands p = elim (around σ x (at x) p) [
@@ -198,8 +198,8 @@ module _ (σ : Bindings) (k : ℕ → List ℕ) (w : ℕ → ClosureHead) (f : C
         | inr q ↦ omega (arith, at-inside (at x) (q .0) (q .1), below (q .0) f (Q .low) (inside-times σ (at x) (q .0) (q .1) .1))
       ]
 
-      by-place : ((at x ≡ 64) × (elem x (tops f) ≡ true)) ⊎ Inside σ x (at x) f → (elem x (k (at x)) ≡ true) × Active σ w at (at x)
-      by-place (inl z) = (ap (λ (j : ℕ). elem x (k j)) (z .0) ∙ ap (elem x) (Q .top) ∙ z .1, inl (z .0))
-      by-place (inr p) =
+      by-home : ((at x ≡ 64) × (elem x (tops f) ≡ true)) ⊎ Inside σ x (at x) f → (elem x (k (at x)) ≡ true) × Active σ w at (at x)
+      by-home (inl z) = (ap (λ (j : ℕ). elem x (k j)) (z .0) ∙ ap (elem x) (Q .top) ∙ z .1, inl (z .0))
+      by-home (inr p) =
           let h = inside-held σ k w x (at x) p (Q .held) in
           (h .0, inr (below (at x) f (Q .low) (inside-times σ x (at x) p .1), stands p, h .1))
