@@ -35,11 +35,11 @@ no-some none e = refl
 no-some (some a) e = absurd (true≢false e)
 
 module _ (script kinds starts : List ℕ) (n : ℕ) (moves : List ℕ) (s : State) where
-  -- the machine for which s stands
+  -- the machine that s represents
   abbrev from : Closure → ClosureMachine
   from b = record { tree = b; bindings = boundIn script s }
 
-  -- a machine for which the state r stands after i moves, and which goes on as the first one
+  -- a machine that the state r represents after i moves, and which goes on as the first one
   pub record Reached (weight spent : ℕ) (b : Closure) (i : ℕ) (r : State) : Type 0 where
     pub machine : ClosureMachine
     pub goes : (ws : List ℕ) → closureRun n 0 (take i moves ++ ws) (from b) ≡ closureRun n i ws machine

@@ -27,7 +27,7 @@ module _ (script kinds starts : List ℕ) where
   Left r weight spent (halted q i) = ⊥
   Left r weight spent (moved m) = Represents script kinds starts weight spent r (m .tree) × (boundIn script r ≡ m .bindings)
 
-  -- For every closure for which s stands, n being the script's parts: the list ends as the closure machine's, and r represents
+  -- For every closure that s represents, n being the script's parts: the list ends as the closure machine's, and r represents
   -- the machine that the moves made leave. Offsets that fit into 32 bits do after the list.
   abbrev pub Runs : (n : ℕ) (moves : List ℕ) (s : State) → Ended → State → Type 0
   Runs n moves s e r =

@@ -96,7 +96,7 @@ weighs-so script s b long counted w e =
 -- ---- what a call comes to, from the writer's answer and from the walk's
 
 module _ (script kinds starts : List ℕ) (s : State) (moves : ℕ) (before after : List ℕ) where
-  -- the writer's answer, for every closure for which the state stands
+  -- the writer's answer, for every closure that the state represents
   abbrev Writes : Fitting → Type 0
   Writes x = (weight spent : ℕ) (b : Closure) → Represents script kinds starts weight spent s b → Fitted (write [] 0 (unfolded (boundIn script s) b)) before after x
 

@@ -78,7 +78,7 @@ pub record Greatest (script words : List ℕ) (g : ℕ) : Type 0 where
   -- names have 28 bits
   pub small : g < 268435456
 
--- For every list of so many moves and every closure for which the state stands: the answer, with the buffer as it is at exit,
+-- For every list of so many moves and every closure that the state represents: the answer, with the buffer as it is at exit,
 -- is what the call comes to where the walk, on the machine that stands, says v.
 pub record ComesTo (script kinds starts : List ℕ) (s : State) (moves : ℕ) (before after : List ℕ) (r : Answer) (v : Walked) : Type 0 where
   pub ends : (list rule : List ℕ) (patience weight spent : ℕ) (b : Closure) → moves ≡ length list → Represents script kinds starts weight spent s b

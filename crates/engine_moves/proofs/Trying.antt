@@ -1,4 +1,4 @@
--- The homes and the targets that are found in what is lent are those of the closure for which it stands. Assumes nothing.
+-- The homes and the targets that are found in what is lent are those of the closure that it represents. Assumes nothing.
 use Prim.Native.Nat.{ℕ, _+_, _<_}
 use mathlib.Core.List.{List}
 use mathlib.Core.Path.{_≡_, subst}

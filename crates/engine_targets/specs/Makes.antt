@@ -16,12 +16,12 @@ use Rattle.engine_states.specs.declared.State.{State}
 use Rattle.engine_targets.specs.Targets.{isSome, canOpen, canReceive, canEnter, canExit}
 
 module _ (script kinds starts : List ℕ) (s r : State) where
-  -- r represents what the move (a, t) makes of the closure b for which s stands
+  -- r represents what the move (a, t) makes of the closure b that s represents
   abbrev pub Makes : (weight spent a t : ℕ) (b : Closure) → Type 0
   Makes weight spent a t b =
       (m : MoveMade Action) × (closureMove (boundIn script s) a t b ≡ some m) × Represents script kinds starts weight spent r (m .body) × (boundIn script r ≡ m .news ++ boundIn script s)
 
-  -- where the test holds of a closure for which s stands; offsets that fit into 32 bits do after the move
+  -- where the test holds of a closure that s represents; offsets that fit into 32 bits do after the move
   abbrev pub MakesIf : (test : Closure → Type 0) (a t : ℕ) → Type 0
   MakesIf test a t =
       (weight spent : ℕ) (b : Closure) → spent + 1 < 4294967295 → Represents script kinds starts weight spent s b → test b → Makes weight (spent + 1) a t b

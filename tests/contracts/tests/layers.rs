@@ -76,7 +76,7 @@ fn the_theory_has_no_code() {
 
 /// Whether a line is the text of a way, the line above being its type.
 fn is_way(above: &str, line: &str) -> bool {
-    let name = above.trim_start().strip_prefix("abbrev ").and_then(|rest| rest.split_whitespace().next());
+    let name = above.trim_start().strip_prefix("abbrev ").and_then(|rest| rest.split_whitespace().find(|word| *word != "pub"));
     name.is_some_and(|name| line.trim_start().starts_with(&format!("{name} ")))
 }
 
