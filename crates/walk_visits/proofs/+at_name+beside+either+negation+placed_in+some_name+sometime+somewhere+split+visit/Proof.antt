@@ -30,13 +30,13 @@ mod SometimeWord
 mod SomewhereWord
 mod SplitWord
 mod VisitWord
-use Measures.{μ-at-name, at-name-at, at-name-claims, μ-beside, beside-at, beside-claims, μ-either, either-at, either-claims, μ-negation, negation-at, negation-claims, μ-placed-in, placed-in-at, placed-in-claims, μ-some-name, some-name-at, some-name-claims, μ-sometime, sometime-at, sometime-claims, μ-somewhere, somewhere-at, somewhere-claims, μ-split, split-point, split-claims, μ-visit, visit-at, visit-claims}
+use Measures.{μ, at-name-at, at-name-claims, beside-at, beside-claims, either-at, either-claims, negation-at, negation-claims, placed-in-at, placed-in-claims, some-name-at, some-name-claims, sometime-at, sometime-claims, somewhere-at, somewhere-claims, μ-split, split-point, split-claims, visit-at, visit-claims}
 use Rattle.walk_visits.proofs.+at_name+beside+either+negation+placed_in+some_name+sometime+somewhere+split+visit.{statement}
 use Rattle.walk_visits.proofs.+at_name+beside+either+negation+placed_in+some_name+sometime+somewhere+split+visit.Tie.{close}
 
 pub +at-name+beside+either+negation+placed-in+some-name+sometime+somewhere+split+visit-spec : {M : Type 1} → statement M
 +at-name+beside+either+negation+placed-in+some-name+sometime+somewhere+split+visit-spec =
-    close μ-at-name μ-beside μ-either μ-negation μ-placed-in μ-some-name μ-sometime μ-somewhere μ-split μ-visit
+    close (μ 2) (μ 2) (μ 2) (μ 2) (μ 2) (μ 2) (μ 2) (μ 2) μ-split (μ 0)
     (λ t. at-name-lts.spec (at-name-claims t) (at-name-at t) at-name.Post (AtNameWord.is-single-requires t) (AtNameWord.first-requires t) (AtNameWord.mul-name-said t) (AtNameWord.element-copy-out-name-said t) (AtNameWord.name-said-requires t) (AtNameWord.is-called-requires t) (AtNameWord.add-inside t) (AtNameWord.mul-inside t) (AtNameWord.element-copy-out-inside t) (AtNameWord.visit-requires t) (AtNameWord.returns t) (AtNameWord.returns-2 t) (AtNameWord.returns-3 t))
     (λ t. beside-lts.spec (beside-claims t) (beside-at t) beside.Post BesideWord.Inv-loop BesideWord.μ-loop (BesideWord.loop-holds t) (BesideWord.split-requires t) (BesideWord.returns t) (BesideWord.enum-known-w t) (BesideWord.returns-2 t) (BesideWord.next-share-requires t) (BesideWord.loop-less t) (BesideWord.loop-again t))
     (λ t. either-lts.spec (either-claims t) (either-at t) either.Post (EitherWord.add-inner t) (EitherWord.visit-requires t) (EitherWord.enum-known-on-left t) (EitherWord.returns t) (EitherWord.add-wide t) (EitherWord.mul-wide t) (EitherWord.element-copy-out-wide t) (EitherWord.wide-requires t) (EitherWord.visit-requires-2 t) (EitherWord.returns-2 t))

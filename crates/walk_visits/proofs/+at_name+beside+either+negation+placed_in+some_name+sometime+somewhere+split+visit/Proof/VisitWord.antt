@@ -1,9 +1,10 @@
 -- `visit` meets its contract. Assumes nothing.
-use Prim.Native.Nat.{ℕ, _-_, _^_, _<_}
+use Prim.Native.Nat.{ℕ, _+_, _-_, _*_, _^_, _≤_, _<_}
 use mathlib.Core.Path.{refl}
 use native.Mathlib.Omega.{arith}
 use borrow.Author.Needs.{needs}
 use Rattle.base_slices.proofs.Tests.{none-below}
+use Rattle.walk_stages.specs.Visits.{Visitable}
 use Rattle.walk_stages.proofs.Members.{deep-visits, over-visits, outside-visits, counted-visits, truth-finds, void-finds, none-finds}
 use Rattle.walk_visits.proofs.+at_name+beside+either+negation+placed_in+some_name+sometime+somewhere+split+visit.Lts-visit as lts
 use Rattle.walk_visits.proofs.visit.Reads as reads
@@ -38,32 +39,40 @@ module _ (t : ℕ) where
   pub next-count-requires : lts.Need-next-count-requires (visit-claims t) (visit-at t) reads.Post
   next-count-requires c κs = search needs
 
+  abbrev start : lts.After-next-count (visit-claims t) (visit-at t) reads.Post → lts.Start (visit-claims t) (visit-at t) reads.Post
+  start c = c .before .before .before .before .before .before .before
+
+  -- what each member asks that walks a kind of word: one depth less is left, and the word stands in the rule
+  asked : (c : lts.After-next-count (visit-claims t) (visit-at t) reads.Post) → let x = start c .args in
+      (3 * (x .spot .left - 1) + 2 < t) × ((x .spot .at < 256) × (x .spot .left - 1 ≤ 255) × Visitable (x .script .now) (x .sets .now) (x .numbers .now) (x .spot .top) (x .spot .somes) (x .limits))
+  asked c = (omega (arith, start c .pre .0, c .before .before .before .before .before .if1 .left), (omega (arith, c .before .before .if3 .left), omega (arith, start c .pre .1 .0, c .before .before .before .before .before .if1 .left), start c .pre .1 .1))
+
   pub negation-requires : lts.Need-negation-requires (visit-claims t) (visit-at t) reads.Post
-  negation-requires c κs = (omega (arith, c .before .before .before .before .before .before .before .before .pre .0, c .before .before .before .before .before .before .if1 .left), (omega (arith, c .before .before .before .if3 .left), omega (arith, c .before .before .before .before .before .before .before .before .pre .1 .0, c .before .before .before .before .before .before .if1 .left), c .before .before .before .before .before .before .before .before .pre .1 .1))
+  negation-requires c κs = asked (c .before)
 
   pub either-requires : lts.Need-either-requires (visit-claims t) (visit-at t) reads.Post
-  either-requires c κs = (omega (arith, c .before .before .before .before .before .before .before .before .pre .0, c .before .before .before .before .before .before .if1 .left), (omega (arith, c .before .before .before .if3 .left), omega (arith, c .before .before .before .before .before .before .before .before .pre .1 .0, c .before .before .before .before .before .before .if1 .left), c .before .before .before .before .before .before .before .before .pre .1 .1))
+  either-requires c κs = asked (c .before)
 
   pub void-rule-requires : lts.Need-void-rule-requires (visit-claims t) (visit-at t) reads.Post
   void-rule-requires c κs = search needs
 
   pub at-name-requires : lts.Need-at-name-requires (visit-claims t) (visit-at t) reads.Post
-  at-name-requires c κs = (omega (arith, c .before .before .before .before .before .before .before .before .pre .0, c .before .before .before .before .before .before .if1 .left), (omega (arith, c .before .before .before .if3 .left), omega (arith, c .before .before .before .before .before .before .before .before .pre .1 .0, c .before .before .before .before .before .before .if1 .left), c .before .before .before .before .before .before .before .before .pre .1 .1))
+  at-name-requires c κs = asked (c .before)
 
   pub beside-requires : lts.Need-beside-requires (visit-claims t) (visit-at t) reads.Post
-  beside-requires c κs = (omega (arith, c .before .before .before .before .before .before .before .before .pre .0, c .before .before .before .before .before .before .if1 .left), (omega (arith, c .before .before .before .if3 .left), omega (arith, c .before .before .before .before .before .before .before .before .pre .1 .0, c .before .before .before .before .before .before .if1 .left), c .before .before .before .before .before .before .before .before .pre .1 .1))
+  beside-requires c κs = asked (c .before)
 
   pub some-name-requires : lts.Need-some-name-requires (visit-claims t) (visit-at t) reads.Post
-  some-name-requires c κs = (omega (arith, c .before .before .before .before .before .before .before .before .pre .0, c .before .before .before .before .before .before .if1 .left), (omega (arith, c .before .before .before .if3 .left), omega (arith, c .before .before .before .before .before .before .before .before .pre .1 .0, c .before .before .before .before .before .before .if1 .left), c .before .before .before .before .before .before .before .before .pre .1 .1))
+  some-name-requires c κs = asked (c .before)
 
   pub sometime-requires : lts.Need-sometime-requires (visit-claims t) (visit-at t) reads.Post
-  sometime-requires c κs = (omega (arith, c .before .before .before .before .before .before .before .before .pre .0, c .before .before .before .before .before .before .if1 .left), (omega (arith, c .before .before .before .if3 .left), omega (arith, c .before .before .before .before .before .before .before .before .pre .1 .0, c .before .before .before .before .before .before .if1 .left), c .before .before .before .before .before .before .before .before .pre .1 .1))
+  sometime-requires c κs = asked (c .before)
 
   pub somewhere-requires : lts.Need-somewhere-requires (visit-claims t) (visit-at t) reads.Post
-  somewhere-requires c κs = (omega (arith, c .before .before .before .before .before .before .before .before .pre .0, c .before .before .before .before .before .before .if1 .left), (omega (arith, c .before .before .before .if3 .left), omega (arith, c .before .before .before .before .before .before .before .before .pre .1 .0, c .before .before .before .before .before .before .if1 .left), c .before .before .before .before .before .before .before .before .pre .1 .1))
+  somewhere-requires c κs = asked (c .before)
 
   pub placed-in-requires : lts.Need-placed-in-requires (visit-claims t) (visit-at t) reads.Post
-  placed-in-requires c κs = (omega (arith, c .before .before .before .before .before .before .before .before .pre .0, c .before .before .before .before .before .before .if1 .left), (omega (arith, c .before .before .before .if3 .left), omega (arith, c .before .before .before .before .before .before .before .before .pre .1 .0, c .before .before .before .before .before .before .if1 .left), c .before .before .before .before .before .before .before .before .pre .1 .1))
+  placed-in-requires c κs = asked (c .before)
 
   pub returns-4 : lts.Need-returns-4 (visit-claims t) (visit-at t) reads.Post
   returns-4 c = let x = c .before .before .before .before .before .before .before .before .args in counted-visits (x .program .now) (x .script .now) (x .sets .now) (x .numbers .now) (x .chosen .now) (x .spot .top) (x .spot .somes) (x .spot .left) (x .spot .at) (x .limits) (x .c) (c .before .before .before .before .before .before .if1 .left) (c .before .before .before .before .before .before .before .before .pre .1 .0) (c .before .before .before .before .if2 .left) _ (c .before .next-count .ensures .0) (c .before .next-count .ensures .1) 0 (c .match .keys1) _ (truth-finds (x .program .now) (x .script .now) (x .sets .now) (x .numbers .now) (x .chosen .now) (x .spot .top) (x .spot .somes) (x .spot .left - 1) (x .spot .at) (x .limits) _)
