@@ -10,7 +10,7 @@ use lib.ListN.{length}
 use lib.Pow.{pow-mono}
 use borrow.Author.Tests.{eq-eqb, ne-eqb}
 use Rattle.base_sets.specs.Sets.{isOdd, keepIf, keep, members, elem, mask, RisingFrom, but}
-use Rattle.base_sets.specs.Shares.{putIf, picked, left, spread, shares}
+use Rattle.base_sets.specs.Shares.{putIf, picked, unpicked, spread, shares}
 use Rattle.base_sets.proofs.Places.{parity, odd-0, odd-1}
 use Rattle.base_sets.proofs.Members.{rising-down, members-empty}
 
@@ -23,13 +23,13 @@ module _ {A : Type 0} where
   unfolding picked
   picked-1 x l k e = ap (λ (t : Bool). putIf t x (picked l (k / 2))) (odd-1 k e)
 
-  pub left-0 : (x : A) (l : List A) (k : ℕ) → k % 2 ≡ 0 → left (x ∷ l) k ≡ x ∷ left l (k / 2)
-  unfolding left
-  left-0 x l k e = ap (λ (t : Bool). putIf (not t) x (left l (k / 2))) (odd-0 k e)
+  pub unpicked-0 : (x : A) (l : List A) (k : ℕ) → k % 2 ≡ 0 → unpicked (x ∷ l) k ≡ x ∷ unpicked l (k / 2)
+  unfolding unpicked
+  unpicked-0 x l k e = ap (λ (t : Bool). putIf (not t) x (unpicked l (k / 2))) (odd-0 k e)
 
-  pub left-1 : (x : A) (l : List A) (k : ℕ) → k % 2 ≡ 1 → left (x ∷ l) k ≡ left l (k / 2)
-  unfolding left
-  left-1 x l k e = ap (λ (t : Bool). putIf (not t) x (left l (k / 2))) (odd-1 k e)
+  pub unpicked-1 : (x : A) (l : List A) (k : ℕ) → k % 2 ≡ 1 → unpicked (x ∷ l) k ≡ unpicked l (k / 2)
+  unfolding unpicked
+  unpicked-1 x l k e = ap (λ (t : Bool). putIf (not t) x (unpicked l (k / 2))) (odd-1 k e)
 
   -- the first division has nothing on the left, and the last all of it
   pub picked-none : (l : List A) → picked l 0 ≡ []
@@ -39,7 +39,7 @@ module _ {A : Type 0} where
 
   -- division number k, and those from number k on, n of them
   abbrev pub share : List A → ℕ → List A × List A
-  share l k = (picked l k, left l k)
+  share l k = (picked l k, unpicked l k)
 
   unfoldable pub later : List A → ℕ → ℕ → List (List A × List A)
   later l k zero = []
@@ -53,16 +53,16 @@ module _ {A : Type 0} where
       let f : suc (suc (k * 2)) ≡ suc k * 2 = omega arith in
       let d0 : k * 2 / 2 ≡ k = omega arith in
       let d1 : suc (k * 2) / 2 ≡ k = omega arith in
-      let a : share (x ∷ l) (k * 2) ≡ (picked l k, x ∷ left l k) =
-      λ i. ((picked-0 x l (k * 2) (omega arith) ∙ ap (picked l) d0) i, (left-0 x l (k * 2) (omega arith) ∙ ap (λ (j : ℕ). x ∷ left l j) d0) i) in
-      let b : share (x ∷ l) (suc (k * 2)) ≡ (x ∷ picked l k, left l k) =
-      λ i. ((picked-1 x l (suc (k * 2)) (omega arith) ∙ ap (λ (j : ℕ). x ∷ picked l j) d1) i, (left-1 x l (suc (k * 2)) (omega arith) ∙ ap (left l) d1) i) in
+      let a : share (x ∷ l) (k * 2) ≡ (picked l k, x ∷ unpicked l k) =
+      λ i. ((picked-0 x l (k * 2) (omega arith) ∙ ap (picked l) d0) i, (unpicked-0 x l (k * 2) (omega arith) ∙ ap (λ (j : ℕ). x ∷ unpicked l j) d0) i) in
+      let b : share (x ∷ l) (suc (k * 2)) ≡ (x ∷ picked l k, unpicked l k) =
+      λ i. ((picked-1 x l (suc (k * 2)) (omega arith) ∙ ap (λ (j : ℕ). x ∷ picked l j) d1) i, (unpicked-1 x l (suc (k * 2)) (omega arith) ∙ ap (unpicked l) d1) i) in
       ap (later (x ∷ l) (k * 2)) e
       ∙ (λ i. a i ∷ b i ∷ (ap (λ (j : ℕ). later (x ∷ l) j (n * 2)) f ∙ later-spread x l n (suc k)) i)
 
   -- the divisions are those with the numbers from 0 up to 2 ^ length l
   pub shares-later : (l : List A) → shares l ≡ later l 0 (2 ^ length l)
-  unfolding later shares picked left
+  unfolding later shares picked unpicked
   shares-later [] = refl
   shares-later (x ∷ l) =
       ap (spread x) (shares-later l) ∙ sym (later-spread x l (2 ^ length l) 0)
@@ -98,12 +98,12 @@ picked-map f (x ∷ l) k = go (isOdd k) (picked-map f l (k / 2))
     go true ih = ap (_∷_ (f x)) ih
     go false ih = ih
 
-pub left-map : {A B : Type 0} (f : A → B) (l : List A) (k : ℕ) → left (map f l) k ≡ map f (left l k)
-unfolding left
-left-map f [] k = refl
-left-map f (x ∷ l) k = go (not (isOdd k)) (left-map f l (k / 2))
+pub unpicked-map : {A B : Type 0} (f : A → B) (l : List A) (k : ℕ) → unpicked (map f l) k ≡ map f (unpicked l k)
+unfolding unpicked
+unpicked-map f [] k = refl
+unpicked-map f (x ∷ l) k = go (not (isOdd k)) (unpicked-map f l (k / 2))
   where
-    go : (t : Bool) → left (map f l) (k / 2) ≡ map f (left l (k / 2)) → putIf t (f x) (left (map f l) (k / 2)) ≡ map f (putIf t x (left l (k / 2)))
+    go : (t : Bool) → unpicked (map f l) (k / 2) ≡ map f (unpicked l (k / 2)) → putIf t (f x) (unpicked (map f l) (k / 2)) ≡ map f (putIf t x (unpicked l (k / 2)))
     go true ih = ap (_∷_ (f x)) ih
     go false ih = ih
 
@@ -133,15 +133,15 @@ keep-above p q b (x ∷ l) r h =
     ap₂ (λ (t : Bool) (k : List ℕ). keepIf t x k) (h x g) (keep-above p q (suc x) l (r .1) (λ j u. h j (omega arith)))
 
 -- what a share leaves
-pub but-picked : (b : ℕ) (l : List ℕ) (k : ℕ) → RisingFrom b l → but l (picked l k) ≡ left l k
-unfolding keep left picked elem
+pub but-picked : (b : ℕ) (l : List ℕ) (k : ℕ) → RisingFrom b l → but l (picked l k) ≡ unpicked l k
+unfolding keep unpicked picked elem
 but-picked b [] k r = refl
 but-picked b (x ∷ l) k r = go (isOdd k) (but-picked (suc x) l (k / 2) (r .1))
   where
     P : List ℕ
     P = picked l (k / 2)
 
-    go : (t : Bool) → but l P ≡ left l (k / 2) → keepIf (not (elem x (putIf t x P))) x (but l (putIf t x P)) ≡ putIf (not t) x (left l (k / 2))
+    go : (t : Bool) → but l P ≡ unpicked l (k / 2) → keepIf (not (elem x (putIf t x P))) x (but l (putIf t x P)) ≡ putIf (not t) x (unpicked l (k / 2))
     go true ih =
         ap (λ (u : Bool). keepIf (not (u || elem x P)) x (but l (x ∷ P))) (eq-eqb x x refl)
         ∙ keep-above (λ j. not (elem j (x ∷ P))) (λ j. not (elem j P)) (suc x) l (r .1)

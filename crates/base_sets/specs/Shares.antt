@@ -16,9 +16,9 @@ module _ {A : Type 0} where
   picked (x ∷ l) k = putIf (isOdd k) x (picked l (k / 2))
 
   -- and the others
-  unfoldable pub left : List A → ℕ → List A
-  left [] k = []
-  left (x ∷ l) k = putIf (not (isOdd k)) x (left l (k / 2))
+  unfoldable pub unpicked : List A → ℕ → List A
+  unpicked [] k = []
+  unpicked (x ∷ l) k = putIf (not (isOdd k)) x (unpicked l (k / 2))
 
   -- each division with x on the right, then with x on the left
   unfoldable pub spread : A → List (List A × List A) → List (List A × List A)

@@ -17,7 +17,7 @@ use Rattle.engine_state_arrays.specs.Lent.{kindsIn, startsIn, ownState, LentRea
 use Rattle.engine_targets.specs.Targets.{isSome}
 use Rattle.engine_targets.specs.Makes.{Makes, MakesOrLeaves}
 use Rattle.theory_call.specs.Call.{actor, target, moveFits}
-use Rattle.theory_call.specs.ClosureCall.{halted, moved, afterMove, ifMade, closureRun}
+use Rattle.theory_call.specs.ClosureCall.{halted, completed, afterMove, ifMade, closureRun}
 use Rattle.call_lists.specs.Running.{endedOf, Left, Runs, ListRan}
 use Rattle.call_lists.specs.declared.Ended.{Ended}
 use Rattle.call_lists.specs.declared.Ended.the-variants.{Made, Halted}
@@ -66,7 +66,7 @@ module _ (script kinds starts : List ℕ) (n : ℕ) (moves : List ℕ) (s : Stat
     left : (weight spent : ℕ) (b : Closure) → Reached weight spent b i r → Left script kinds starts r weight (spent + i) (closureRun n 0 (take i moves) (from b))
     unfolding closureRun
     left weight spent b q =
-        let e : closureRun n 0 (take i moves) (from b) ≡ moved (q .machine) = ap (λ (ws : List ℕ). closureRun n 0 ws (from b)) (sym (append-nil (take i moves))) ∙ q .goes [] in
+        let e : closureRun n 0 (take i moves) (from b) ≡ completed (q .machine) = ap (λ (ws : List ℕ). closureRun n 0 ws (from b)) (sym (append-nil (take i moves))) ∙ q .goes [] in
         subst (Left script kinds starts r weight (spent + i)) (sym e) (q .stands, q .bound)
 
     -- the list is made
@@ -74,7 +74,7 @@ module _ (script kinds starts : List ℕ) (n : ℕ) (moves : List ℕ) (s : Stat
     unfolding closureRun endedOf
     going-ends m l weight spent b few R =
         let q = G weight spent b few R in
-        let e : closureRun n 0 moves (from b) ≡ moved (q .machine) = whole weight spent b q ∙ ap (λ (ws : List ℕ). closureRun n i ws (q .machine)) (drop-of-length-le moves m) in
+        let e : closureRun n 0 moves (from b) ≡ completed (q .machine) = whole weight spent b q ∙ ap (λ (ws : List ℕ). closureRun n i ws (q .machine)) (drop-of-length-le moves m) in
         let d : i ≡ length moves = omega arith in
         (sym (ap endedOf e), subst (λ (k : ℕ). Left script kinds starts r weight (spent + k) (closureRun n 0 (take k moves) (from b))) d (left weight spent b q))
 

@@ -7,14 +7,14 @@ use Rattle.theory_closures.specs.Closure.{Closure}
 use Rattle.engine_states.specs.Represents.{boundIn, Represents}
 use Rattle.engine_states.specs.declared.State.{State}
 use Rattle.engine_state_arrays.specs.Lent.{kindsIn, startsIn, ownState, LentReady}
-use Rattle.theory_call.specs.ClosureCall.{ClosureRan, halted, moved, closureRun}
+use Rattle.theory_call.specs.ClosureCall.{ClosureRan, halted, completed, closureRun}
 use Rattle.call_lists.specs.declared.Ended.{Ended}
 use Rattle.call_lists.specs.declared.Ended.the-variants.{Made, Halted}
 
 -- how a run ends
 unfoldable pub endedOf : ClosureRan → Ended
 endedOf (halted q i) = Halted q i
-endedOf (moved m) = Made
+endedOf (completed m) = Made
 
 -- how many moves of a list are made that ends so: all, or those before the place
 abbrev pub madeOf : List ℕ → Ended → ℕ
@@ -25,7 +25,7 @@ module _ (script kinds starts : List ℕ) where
   -- the state represents the machine that a run leaves
   abbrev pub Left : State → (weight spent : ℕ) → ClosureRan → Type 0
   Left r weight spent (halted q i) = ⊥
-  Left r weight spent (moved m) = Represents script kinds starts weight spent r (m .tree) × (boundIn script r ≡ m .bindings)
+  Left r weight spent (completed m) = Represents script kinds starts weight spent r (m .tree) × (boundIn script r ≡ m .bindings)
 
   -- For every closure that s represents, n being the script's parts: the list ends as the closure machine's, and r represents
   -- the machine that the moves made leave. Offsets that fit into 32 bits do after the list.

@@ -18,7 +18,7 @@ use Rattle.theory_call.proofs.Reducing.{reduces}
 use Rattle.theory_call.proofs.Leaving as leaving
 use Rattle.theory_call.proofs.Small.{PlaceWithin, Small, answer-small, weight-bounded}
 use Rattle.host_answer_words.specs.Told.{saidOf, placeOf, told, Tellable}
-use Rattle.capi.specs.Told.{returned, answered, written, Decided, ReducedBy, ReturnedBy, ReadmittedBy, left}
+use Rattle.capi.specs.Told.{returned, answered, written, Decided, ReducedBy, ReturnedBy, ReadmittedBy, treeWords}
 
 -- what is kept to where the call returns r, given words for its answer, and leaves these and those in the output buffer
 abbrev pub Keeps : Call → (r : ℕ) → (given words out : List ℕ) → Type 0
@@ -28,7 +28,7 @@ Keeps c r given words out =
     × ((r ≡ 1 → MovesBounded (c .script) (getD words 3 0))
     × ((WeightHolds c × (r ≡ 1 → WeightBounded (c .script) (getD words 6 0)))
     × ((r ≡ 1 → ReducedBy c (getD words 0 0) (getD words 3 0))
-    × ((r ≡ 1 → ReturnedBy c (getD words 0 0) (left words out)) × (r ≡ 1 → ReadmittedBy (getD words 0 0) (left words out)))))))
+    × ((r ≡ 1 → ReturnedBy c (getD words 0 0) (treeWords words out)) × (r ≡ 1 → ReadmittedBy (getD words 0 0) (treeWords words out)))))))
 
 one≢none : {B : Type 0} → _≡_ {A = ℕ} 0 1 → B
 one≢none e = absurd (let z : ⊥ = omega arith in z)

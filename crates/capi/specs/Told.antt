@@ -35,15 +35,15 @@ abbrev pub ReducedBy : Call → (said moves : ℕ) → Type 0
 ReducedBy c w k = (w ≡ 2 → Reduces c (accepted true) k) × (w ≡ 1 → Reduces c (accepted false) k) × (w ≡ 0 → (q i : ℕ) → Reduces c (refused q i) k)
 
 -- the words at the output buffer's start, as many as the eighth word of the answer says
-abbrev pub left : (words out : List ℕ) → List ℕ
-left words out = take (getD words 7 0) out
+abbrev pub treeWords : (words out : List ℕ) → List ℕ
+treeWords words out = take (getD words 7 0) out
 
 -- where the first word is 2 or 1, the tree that is left there is read again as the process that stands
-abbrev pub ReturnedBy : Call → (said : ℕ) → (left : List ℕ) → Type 0
+abbrev pub ReturnedBy : Call → (said : ℕ) → (tree : List ℕ) → Type 0
 ReturnedBy c w ws = (w ≡ 2 → Returned c (accepted true) ws) × (w ≡ 1 → Returned c (accepted false) ws)
 
 -- and only questions 1 and 4 can refuse it
-abbrev pub ReadmittedBy : (said : ℕ) → (left : List ℕ) → Type 0
+abbrev pub ReadmittedBy : (said : ℕ) → (tree : List ℕ) → Type 0
 ReadmittedBy w ws = (w ≡ 2 → Readmitted (accepted true) ws) × (w ≡ 1 → Readmitted (accepted false) ws)
 
 -- the words of the output buffer after the call

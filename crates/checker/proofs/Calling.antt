@@ -33,7 +33,7 @@ use Rattle.engine_states.specs.Represents.{boundIn, Ready, Represents}
 use Rattle.engine_states.specs.declared.State.{State}
 use Rattle.engine_state_arrays.specs.Lent.{kindsIn, startsIn, ownState, Small}
 use Rattle.theory_call.specs.Call.{Call, refusal, startOf, Question, question, asking, terms, door, answer}
-use Rattle.theory_call.specs.ClosureCall.{ClosureRan, halted, moved, closureRun, begun}
+use Rattle.theory_call.specs.ClosureCall.{ClosureRan, halted, completed, closureRun, begun}
 use Rattle.call_lists.specs.Running.{endedOf, madeOf, Left, Runs, Runnable, ListRan}
 use Rattle.checker.specs.Answering.{answerOf, askedOf, callOf}
 use Rattle.checker.specs.declared.Answer.{Answer}
@@ -172,14 +172,14 @@ module _ (k : ℕ) (ws : List ℕ) (r : RuleScan) (e : r ≡ rules.scanned rules
 -- ---- how a list ends
 
 module _ (script kinds starts : List ℕ) (r : State) (weight spent : ℕ) where
-  left-made : (x : ClosureRan) → Left script kinds starts r weight spent x → (m : ClosureMachine) × (x ≡ moved m) × Represents script kinds starts weight spent r (m .tree) × (boundIn script r ≡ m .bindings)
+  left-made : (x : ClosureRan) → Left script kinds starts r weight spent x → (m : ClosureMachine) × (x ≡ completed m) × Represents script kinds starts weight spent r (m .tree) × (boundIn script r ≡ m .bindings)
   left-made (halted q i) e = absurd e
-  left-made (moved m) e = (m, refl, e .0, e .1)
+  left-made (completed m) e = (m, refl, e .0, e .1)
 
 ends-halted : (q i : ℕ) (x : ClosureRan) → Halted q i ≡ endedOf x → x ≡ halted q i
 unfolding endedOf
 ends-halted q i (halted p j) e = let a : p ≡ q = cc in let b : j ≡ i = cc in λ k. halted (a k) (b k)
-ends-halted q i (moved m) e = let z : _≡_ {A = ℕ} 0 1 = cc in absurd (let w : ⊥ = omega arith in w)
+ends-halted q i (completed m) e = let z : _≡_ {A = ℕ} 0 1 = cc in absurd (let w : ⊥ = omega arith in w)
 
 -- ---- questions 7 to 16
 
@@ -251,22 +251,22 @@ module _ {script moves words : List ℕ} {patience : ℕ} {t : Table} {u : RuleT
     }
 
     module _ {sets₁ numbers₁ : List ℕ} {x : Ended} (R : ListRan script sets numbers moves (t .count) sets₁ numbers₁ x) where
-      abbrev left : State
-      left = ownState sets₁ numbers₁
+      abbrev stateLeft : State
+      stateLeft = ownState sets₁ numbers₁
 
-      ran : Ends x left
+      ran : Ends x stateLeft
       ran =
           let b = settleUnder [] (closureOf (L .both .held .read .0)) in
           let stands = subst (λ (k : ℕ). Represents script (t .kinds) (t .starts) k 0 s b) (sym (L .both .held .tabled .counted)) (B .first (t .count) (L .both .held .read .0) (L .both .held .tabled)) in
-          let g : Runs script (t .kinds) (t .starts) (t .count) moves s x left = transport (λ q. Runs script (B .kinds q) (B .starts q) (t .count) moves (B .state q) x left) (R .runs) in
-          subst (λ (σ : Bindings). (x ≡ endedOf (closureRun (t .count) 0 moves (record { tree = b; bindings = σ }))) × Left script (t .kinds) (t .starts) left (t .count) (0 + madeOf moves x) (closureRun (t .count) 0 (take (madeOf moves x) moves) (record { tree = b; bindings = σ }))) (B .none)
+          let g : Runs script (t .kinds) (t .starts) (t .count) moves s x stateLeft = transport (λ q. Runs script (B .kinds q) (B .starts q) (t .count) moves (B .state q) x stateLeft) (R .runs) in
+          subst (λ (σ : Bindings). (x ≡ endedOf (closureRun (t .count) 0 moves (record { tree = b; bindings = σ }))) × Left script (t .kinds) (t .starts) stateLeft (t .count) (0 + madeOf moves x) (closureRun (t .count) 0 (take (madeOf moves x) moves) (record { tree = b; bindings = σ }))) (B .none)
           (g (t .count) 0 b (omega (arith, short)) stands)
 
       pub list-refused : {q i : ℕ} (r : Answer) (buffer : List ℕ) → x ≡ Halted q i → ((out : List ℕ) → answerOf r out ≡ refusal q i i 0 out) → answerOf r buffer ≡ answer (callOf script moves words patience buffer)
-      list-refused {q} {i} r buffer d f = f buffer ∙ sym (list-halted buffer q i left (transport (λ z. Ends (d z) left) ran))
+      list-refused {q} {i} r buffer d f = f buffer ∙ sym (list-halted buffer q i stateLeft (transport (λ z. Ends (d z) stateLeft) ran))
 
       -- the state that is borrowed where all moves are made
-      module _ (d : x ≡ Made) {k l : List ℕ} {b : State} (f : Small numbers₁ → (k ≡ kindsIn numbers₁) × (l ≡ startsIn numbers₁) × (b ≡ left)) where
+      module _ (d : x ≡ Made) {k l : List ℕ} {b : State} (f : Small numbers₁ → (k ≡ kindsIn numbers₁) × (l ≡ startsIn numbers₁) × (b ≡ stateLeft)) where
         stood : StateHeld script moves words patience t u b
         stood = list-made b (transport (λ z. Ends (d z) (sym (f (R .lends .small) .2) z)) ran)
 

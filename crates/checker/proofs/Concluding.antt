@@ -24,7 +24,7 @@ use Rattle.walk_stages.specs.declared.Walked.{Walked}
 use Rattle.read_rule_words.proofs.Order.{rule-ordered}
 use Rattle.theory_call.specs.Call.{Call, Verdict, accepted, refused, leftBy, walked, startOf, setting, answer}
 use Rattle.theory_call.specs.Call as plain
-use Rattle.theory_call.specs.ClosureCall.{moved, closureRun, unfoldRan, begun}
+use Rattle.theory_call.specs.ClosureCall.{completed, closureRun, unfoldRan, begun}
 use Rattle.checker.specs.Answering.{verdictOf, answerOf, callOf}
 use Rattle.checker.specs.declared.Answer.{Answer}
 use Rattle.checker.specs.Calling.{StateHeld, Greatest, ComesTo}
@@ -57,8 +57,8 @@ module _ (buffer : List ℕ) {script moves words : List ℕ} {patience : ℕ} {t
   number : t .count ≡ n
   number = number-is (S .let-in .both .held)
 
-  made : closureRun n 0 moves (begun (script-read .0)) ≡ moved (S .machine)
-  made = subst (λ (k : ℕ). closureRun k 0 moves (begun (script-read .0)) ≡ moved (S .machine)) number (S .runs)
+  made : closureRun n 0 moves (begun (script-read .0)) ≡ completed (S .machine)
+  made = subst (λ (k : ℕ). closureRun k 0 moves (begun (script-read .0)) ≡ completed (S .machine)) number (S .runs)
 
   standing : Standing c
   unfolding unfoldRan

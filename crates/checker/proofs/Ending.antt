@@ -101,25 +101,25 @@ module _ (script kinds starts : List ℕ) (s : State) (moves : ℕ) (before afte
   Writes x = (weight spent : ℕ) (b : Closure) → Represents script kinds starts weight spent s b → Fitted (write [] 0 (unfolded (boundIn script s) b)) before after x
 
   module _ (x : Fitting) (yes : Bool) (visits deepest : ℕ) where
-    abbrev count : Count
-    count = record { visits = visits; deepest = deepest }
+    abbrev counts : Count
+    counts = record { visits = visits; deepest = deepest }
 
-    pub finishes-refused : (r : Answer) (q p : ℕ) → x ≡ Refused q p → Writes x → ((out : List ℕ) → answerOf r out ≡ refusal q p moves visits out) → ComesTo script kinds starts s moves before after r (says yes count)
+    pub finishes-refused : (r : Answer) (q p : ℕ) → x ≡ Refused q p → Writes x → ((out : List ℕ) → answerOf r out ≡ refusal q p moves visits out) → ComesTo script kinds starts s moves before after r (says yes counts)
     unfolding unfoldMachine walked
     finishes-refused r q p e f g = record {
       ends = λ list rule patience weight spent b em R.
           let w = f weight spent b R in
-          ends-refused (callOf script list rule patience before) (unfoldMachine (record { tree = b; bindings = boundIn script s })) yes count r after (w .left) q p moves em (sym e ∙ w .said) g;
+          ends-refused (callOf script list rule patience before) (unfoldMachine (record { tree = b; bindings = boundIn script s })) yes counts r after (w .left) q p moves em (sym e ∙ w .said) g;
     }
 
     pub finishes-words : (v : Verdict) (weighed words : ℕ) → x ≡ Words words → Writes x → verdictOf v ≡ accepted yes → length (s .bindings .variables) ≡ 32 → Ready script kinds starts s
         → ((script kinds starts : List ℕ) (weight spent : ℕ) (b : Closure) → Represents script kinds starts weight spent s b → weighed ≡ parts b + 2 * (32 - s .bindings .first))
-        → ComesTo script kinds starts s moves before after (record { verdict = v; moves = moves; visits = visits; deepest = deepest; weight = weighed; words = words }) (says yes count)
+        → ComesTo script kinds starts s moves before after (record { verdict = v; moves = moves; visits = visits; deepest = deepest; weight = weighed; words = words }) (says yes counts)
     unfolding unfoldMachine walked
     finishes-words v weighed words e f ev long ready h = record {
       ends = λ list rule patience weight spent b em R.
           let w = f weight spent b R in
-          ends-words (callOf script list rule patience before) (unfoldMachine (record { tree = b; bindings = boundIn script s })) yes count _ after (w .left) words (sym e ∙ w .said) ev em refl refl
+          ends-words (callOf script list rule patience before) (unfoldMachine (record { tree = b; bindings = boundIn script s })) yes counts _ after (w .left) words (sym e ∙ w .said) ev em refl refl
           (weighs-so script s b long (ready .bound) weighed (h script kinds starts weight spent b R)) refl;
     }
 

@@ -19,7 +19,7 @@ use Rattle.engine_states.specs.declared.State.{State}
 use Rattle.write_trees.specs.Bodies.{Scripted}
 use Rattle.theory_decision.specs.Walk.{Walked}
 use Rattle.theory_call.specs.Call.{asking, terms, walked}
-use Rattle.theory_call.specs.ClosureCall.{moved, closureRun, begun}
+use Rattle.theory_call.specs.ClosureCall.{completed, closureRun, begun}
 use Rattle.checker.specs.Answering.{answerOf, callOf}
 use Rattle.checker.specs.declared.Answer.{Answer}
 
@@ -53,7 +53,7 @@ pub record LetIn (script moves words : List ℕ) (patience : ℕ) (parts : Table
 pub record StateHeld (script moves words : List ℕ) (patience : ℕ) (parts : Table) (table : RuleTable) (s : State) : Type 0 where
   pub let-in : LetIn script moves words patience parts table
   pub machine : ClosureMachine
-  pub runs : closureRun (parts .count) 0 moves (begun (let-in .both .held .read .0)) ≡ moved machine
+  pub runs : closureRun (parts .count) 0 moves (begun (let-in .both .held .read .0)) ≡ completed machine
   pub stands : Represents script (parts .kinds) (parts .starts) (parts .count) (length moves) s (machine .tree)
   pub bound : boundIn script s ≡ machine .bindings
 

@@ -61,13 +61,13 @@ module _ (script sets numbers sets₁ sets₂ numbers₂ sets₃ : List ℕ) (L 
   inside : (i : ℕ) → i < 65 → i < length (s .kids)
   inside i l = omega (arith, length-set (stretch 0 65 sets) 64 (getD sets 64 0), length-stretch 0 65 sets)
 
-  abbrev then : (script′ starts′ : List ℕ) (weight spent : ℕ) (b : Closure) → Ready script′ (kindsIn numbers) starts′ (ownState sets₂ numbers₂) → spent < 4294967295 → Represents script′ (kindsIn numbers) starts′ weight spent (ownState sets₂ numbers₂) b
+  abbrev settledThen : (script′ starts′ : List ℕ) (weight spent : ℕ) (b : Closure) → Ready script′ (kindsIn numbers) starts′ (ownState sets₂ numbers₂) → spent < 4294967295 → Represents script′ (kindsIn numbers) starts′ weight spent (ownState sets₂ numbers₂) b
       → Represents script′ (kindsIn numbers) starts′ weight spent (ownState sets₃ numbers₂) (settleUnder (boundIn script′ (ownState sets₂ numbers₂)) b)
-  then script′ starts′ weight spent b = settled script′ (kindsIn numbers) starts′ weight spent b ek
+  settledThen script′ starts′ weight spent b = settled script′ (kindsIn numbers) starts′ weight spent b ek
 
   module _ (p t m : ℕ) (lp : p < 65) (lt : t < 65) (changed : sets₁ ≡ set sets p m) (em : members m ≡ joined (bodyIn sets t) (removed t (bodyIn sets p))) where
     pub opened : Opens script (kindsIn numbers) (startsIn numbers) s (ownState sets₃ numbers₂) p a t
-    opened = opens script (kindsIn numbers) (startsIn numbers) s (ownState sets₂ numbers₂) (ownState sets₃ numbers₂) refl ready then a bound within raised p t m (inside p lp)
+    opened = opens script (kindsIn numbers) (startsIn numbers) s (ownState sets₂ numbers₂) (ownState sets₃ numbers₂) refl ready settledThen a bound within raised p t m (inside p lp)
         (same ∙ ap (λ (l : List ℕ). ownState l numbers .kids) changed ∙ kids-set sets p m lp (L .sets-long))
         (em ∙ (λ q. joined (sym (body-in sets t lt) q) (removed t (sym (body-in sets p lp) q))))
 
@@ -83,10 +83,10 @@ module _ (script sets numbers sets₁ sets₂ numbers₂ sets₃ : List ℕ) (L 
     gained = gains ∙ ap (inserted p) (sym (body-in (set sets from m) into li) ∙ ap (λ (l : List ℕ). bodyIn l into) (kids-set sets from m lf (L .sets-long)))
 
     pub entered : Enters script (kindsIn numbers) (startsIn numbers) s (ownState sets₃ numbers₂) p from a into
-    entered = enters script (kindsIn numbers) (startsIn numbers) s (ownState sets₂ numbers₂) (ownState sets₃ numbers₂) refl ready then a bound within raised p from into m n (inside from lf) (inside into li) kids lost gained
+    entered = enters script (kindsIn numbers) (startsIn numbers) s (ownState sets₂ numbers₂) (ownState sets₃ numbers₂) refl ready settledThen a bound within raised p from into m n (inside from lf) (inside into li) kids lost gained
 
     pub left : Exits script (kindsIn numbers) (startsIn numbers) s (ownState sets₃ numbers₂) p from into a
-    left = exits script (kindsIn numbers) (startsIn numbers) s (ownState sets₂ numbers₂) (ownState sets₃ numbers₂) refl ready then a bound within raised p from into m n (inside from lf) (inside into li) kids lost gained li
+    left = exits script (kindsIn numbers) (startsIn numbers) s (ownState sets₂ numbers₂) (ownState sets₃ numbers₂) refl ready settledThen a bound within raised p from into m n (inside from lf) (inside into li) kids lost gained li
 
 -- ---- a receipt: `sets₁` and `numbers₁` with the variable bound, `sets₂` settled
 

@@ -34,68 +34,68 @@ module _ (σ : Bindings) (k : ℕ → List ℕ) (w : ℕ → ClosureHead) (a t :
   enter-alone e = rw (There .found, e)
 
   module _ (p : ℕ) (beside : elem p (tops here) ≡ true) (holds : elem a (k p) ≡ true) where
-    abbrev P : Found k w p here
-    P = found-in k w p here held beside
+    abbrev Mover : Found k w p here
+    Mover = found-in k w p here held beside
 
-    within : elem a (tops (P .room)) ≡ true
-    within = ap (elem a) (sym (P .own)) ∙ holds
+    within : elem a (tops (Mover .room)) ≡ true
+    within = ap (elem a) (sym (Mover .own)) ∙ holds
 
-    abbrev A : Found k w a (P .room)
-    A = found-in k w a (P .room) (P .held) within
+    abbrev Actor : Found k w a (Mover .room)
+    Actor = found-in k w a (Mover .room) (Mover .held) within
 
     abbrev allowed : Bool
     allowed = not (eqb p t) && (isNamed (headName (viewUnder σ) (w p)) && mayEnter σ (w a) (w t))
 
-    abbrev left : Closure
-    left = removePart p here
+    abbrev remaining : Closure
+    remaining = removePart p here
 
     abbrev inner : Closure
-    inner = spend (viewUnder σ) a (P .room)
+    inner = spend (viewUnder σ) a (Mover .room)
 
     abbrev pub entered : MoveMade Action
-    entered = quiet (alter t (λ e. e) (put p (w p) inner) left)
+    entered = quiet (alter t (λ e. e) (put p (w p) inner) remaining)
 
     module _ (once : (j : ℕ) → timesIn j here ≤ 1) where
       pub enter-not : allowed ≡ false → enterMove (viewUnder σ) a t here ≡ none
       unfolding enterMove _>>=_ check
-      enter-not e = rw (There .found, holder-is k w a p here held (once a) beside holds, P .found, A .found, e)
+      enter-not e = rw (There .found, holder-is k w a p here held (once a) beside holds, Mover .found, Actor .found, e)
 
       pub enter-is : allowed ≡ true → enterMove (viewUnder σ) a t here ≡ some entered
       unfolding enterMove _>>=_ check
-      enter-is e = rw (There .found, holder-is k w a p here held (once a) beside holds, P .found, A .found, e)
+      enter-is e = rw (There .found, holder-is k w a p here held (once a) beside holds, Mover .found, Actor .found, e)
 
     -- the part p goes from the body of b into that of t, and the actor's first item is spent
     module _ (once : (j : ℕ) → timesIn j here ≤ 1) (g : Closure → Option (MoveMade Action)) (needs : (s : Closure) → elem t (tops s) ≡ false → g s ≡ none)
         (b : ℕ) (own : k b ≡ tops here) (apart : timesIn b here ≡ 0) (k′ : ℕ → List ℕ) (w′ : ℕ → ClosureHead) (spent : Spent σ w w′ a)
         (bodies : (i : ℕ) → (i ≡ b → ⊥) → (i ≡ t → ⊥) → k i ≡ k′ i) (two : p ≡ t → ⊥) where
       -- sums over the parts
-      whole : (v : ℕ → ℕ) → numbersTotal v here ≡ v p + (numbersTotal v (P .room) + numbersTotal v left)
-      whole v = removePart-exact (λ i h. v i) p here (w p, P .room) (once p) (P .found)
+      whole : (v : ℕ → ℕ) → numbersTotal v here ≡ v p + (numbersTotal v (Mover .room) + numbersTotal v remaining)
+      whole v = removePart-exact (λ i h. v i) p here (w p, Mover .room) (once p) (Mover .found)
 
-      t-left : findPart t left ≡ some (w t, There .room)
+      t-left : findPart t remaining ≡ some (w t, There .room)
       t-left = find-removePart t p here (ne-eqb t p (λ e. two (sym e))) ∙ There .found
 
-      t-once : timesIn t left ≤ 1
+      t-once : timesIn t remaining ≤ 1
       t-once = omega (arith, whole (λ i. oneIf (eqb t i)), once t)
 
-      rest : (v : ℕ → ℕ) → numbersTotal v left ≡ v t + (numbersTotal v (There .room) + numbersTotal v (removePart t left))
-      rest v = removePart-exact (λ i h. v i) t left (w t, There .room) t-once t-left
+      rest : (v : ℕ → ℕ) → numbersTotal v remaining ≡ v t + (numbersTotal v (There .room) + numbersTotal v (removePart t remaining))
+      rest v = removePart-exact (λ i h. v i) t remaining (w t, There .room) t-once t-left
 
       -- the parts that a sum tells apart
       same-body : (i : ℕ) → 1 ≤ timesIn i here → (i ≡ t → ⊥) → k i ≡ k′ i
       same-body i m n = bodies i (numbers-differ i b here m apart) n
 
-      same-head : (i : ℕ) → timesIn i (P .room) ≡ 0 → w i ≡ w′ i
-      same-head i z = spent .others i (λ e. numbers-differ a i (P .room) (in-times a (P .room) within) z (sym e))
+      same-head : (i : ℕ) → timesIn i (Mover .room) ≡ 0 → w i ≡ w′ i
+      same-head i z = spent .others i (λ e. numbers-differ a i (Mover .room) (in-times a (Mover .room) within) z (sym e))
 
       held-inner : Held k′ w′ inner
-      held-inner = held-spend σ k k′ w w′ a (P .room) spent (P .held) within (omega (arith, whole (λ j. oneIf (eqb a j)), once a))
+      held-inner = held-spend σ k k′ w w′ a (Mover .room) spent (Mover .held) within (omega (arith, whole (λ j. oneIf (eqb a j)), once a))
           (λ i m. same-body i (omega (arith, whole (λ j. oneIf (eqb i j))))
-          (numbers-differ i t (P .room) m (omega (arith, whole (λ j. oneIf (eqb t j)), rest (λ j. oneIf (eqb t j)), once t, own-times t))))
+          (numbers-differ i t (Mover .room) m (omega (arith, whole (λ j. oneIf (eqb t j)), rest (λ j. oneIf (eqb t j)), once t, own-times t))))
 
       held-room : Held k′ w′ (put p (w p) inner (There .room))
       held-room = held-put k′ w′ p (w p) inner (There .room)
-          (sym (same-body p (in-times p here beside) two) ∙ P .own ∙ sym (tops-alter a (spentHead (viewUnder σ)) (λ s. s) (P .room)))
+          (sym (same-body p (in-times p here beside) two) ∙ Mover .own ∙ sym (tops-alter a (spentHead (viewUnder σ)) (λ s. s) (Mover .room)))
           (sym (same-head p (omega (arith, whole (λ j. oneIf (eqb p j)), once p, own-times p))))
           held-inner
           (frame k k′ w w′ (There .room) (There .held)
@@ -107,11 +107,11 @@ module _ (σ : Bindings) (k : ℕ → List ℕ) (w : ℕ → ClosureHead) (a t :
 
       pub enter-change : k′ b ≡ removed p (k b) → k′ t ≡ inserted p (k t) → Change σ k w t g needs b here k′ w′ entered
       enter-change loses gains = record {
-        own = loses ∙ ap (removed p) own ∙ sym (tops-removePart p here) ∙ sym (tops-alter t (λ e. e) (put p (w p) inner) left);
-        held = held-alter k k′ w w′ t (λ e. e) (put p (w p) inner) left (There .room) t-left t-once (held-removePart k w p here held)
+        own = loses ∙ ap (removed p) own ∙ sym (tops-removePart p here) ∙ sym (tops-alter t (λ e. e) (put p (w p) inner) remaining);
+        held = held-alter k k′ w w′ t (λ e. e) (put p (w p) inner) remaining (There .room) t-left t-once (held-removePart k w p here held)
             (λ i m. (
               same-body i (omega (arith, whole (λ j. oneIf (eqb i j)), rest (λ j. oneIf (eqb i j))))
-                  (numbers-differ i t (removePart t left) m (omega (arith, rest (λ j. oneIf (eqb t j)), t-once, own-times t))),
+                  (numbers-differ i t (removePart t remaining) m (omega (arith, rest (λ j. oneIf (eqb t j)), t-once, own-times t))),
               same-head i (omega (arith, whole (λ j. oneIf (eqb i j)), rest (λ j. oneIf (eqb i j)), once i)),
             ))
             (gains ∙ ap (inserted p) (There .own) ∙ sym (tops-put p (w p) inner (There .room)))

@@ -31,35 +31,35 @@ module _ (σ : Bindings) (k : ℕ → List ℕ) (w : ℕ → ClosureHead) (a t :
   abbrev on-top : elem p (tops (There .room)) ≡ true
   on-top = ap (elem p) (sym (There .own)) ∙ inside
 
-  abbrev P : Found k w p (There .room)
-  P = found-in k w p (There .room) (There .held) on-top
+  abbrev Mover : Found k w p (There .room)
+  Mover = found-in k w p (There .room) (There .held) on-top
 
-  within : elem a (tops (P .room)) ≡ true
-  within = ap (elem a) (sym (P .own)) ∙ holds
+  within : elem a (tops (Mover .room)) ≡ true
+  within = ap (elem a) (sym (Mover .own)) ∙ holds
 
-  abbrev A : Found k w a (P .room)
-  A = found-in k w a (P .room) (P .held) within
+  abbrev Actor : Found k w a (Mover .room)
+  Actor = found-in k w a (Mover .room) (Mover .held) within
 
   abbrev inner : Closure
-  inner = spend (viewUnder σ) a (P .room)
+  inner = spend (viewUnder σ) a (Mover .room)
 
-  abbrev left : Closure
-  left = alter t (λ e. e) (removePart p) here
+  abbrev remaining : Closure
+  remaining = alter t (λ e. e) (removePart p) here
 
   abbrev pub exited : MoveMade Action
-  exited = quiet (put p (w p) inner left)
+  exited = quiet (put p (w p) inner remaining)
 
   -- sums over the parts
   module _ (once : (j : ℕ) → timesIn j here ≤ 1) where
     whole : (v : ℕ → ℕ) → numbersTotal v here ≡ v t + (numbersTotal v (There .room) + numbersTotal v (removePart t here))
     whole v = removePart-exact (λ i h. v i) t here (w t, There .room) (once t) (There .found)
 
-    each : (v : ℕ → ℕ) → numbersTotal v (There .room) ≡ v p + (numbersTotal v (P .room) + numbersTotal v (removePart p (There .room)))
-    each v = removePart-exact (λ i h. v i) p (There .room) (w p, P .room) (omega (arith, whole (λ i. oneIf (eqb p i)), once p)) (P .found)
+    each : (v : ℕ → ℕ) → numbersTotal v (There .room) ≡ v p + (numbersTotal v (Mover .room) + numbersTotal v (removePart p (There .room)))
+    each v = removePart-exact (λ i h. v i) p (There .room) (w p, Mover .room) (omega (arith, whole (λ i. oneIf (eqb p i)), once p)) (Mover .found)
 
     pub exit-is : (isNamed (headName (viewUnder σ) (w p)) && mayExit σ (w a) (w t)) ≡ true → exitMove (viewUnder σ) a t here ≡ some exited
     unfolding exitMove _>>=_ check
-    exit-is e = rw (There .found, holder-is k w a p (There .room) (There .held) (omega (arith, whole (λ i. oneIf (eqb a i)), once a)) on-top holds, P .found, A .found, e)
+    exit-is e = rw (There .found, holder-is k w a p (There .room) (There .held) (omega (arith, whole (λ i. oneIf (eqb a i)), once a)) on-top holds, Mover .found, Actor .found, e)
 
     -- the part p goes from the body of t into that of b, and the actor's first item is spent
     module _ (g : Closure → Option (MoveMade Action)) (needs : (s : Closure) → elem t (tops s) ≡ false → g s ≡ none)
@@ -72,14 +72,14 @@ module _ (σ : Bindings) (k : ℕ → List ℕ) (w : ℕ → ClosureHead) (a t :
       in-room : (i : ℕ) → 1 ≤ timesIn i (There .room) → k i ≡ k′ i
       in-room i m = same-body i (omega (arith, whole (λ j. oneIf (eqb i j)))) (numbers-differ i t (There .room) m (omega (arith, whole (λ j. oneIf (eqb t j)), once t, own-times t)))
 
-      same-head : (i : ℕ) → timesIn i (P .room) ≡ 0 → w i ≡ w′ i
-      same-head i z = spent .others i (λ e. numbers-differ a i (P .room) (in-times a (P .room) within) z (sym e))
+      same-head : (i : ℕ) → timesIn i (Mover .room) ≡ 0 → w i ≡ w′ i
+      same-head i z = spent .others i (λ e. numbers-differ a i (Mover .room) (in-times a (Mover .room) within) z (sym e))
 
       held-inner : Held k′ w′ inner
-      held-inner = held-spend σ k k′ w w′ a (P .room) spent (P .held) within (omega (arith, whole (λ j. oneIf (eqb a j)), each (λ j. oneIf (eqb a j)), once a))
+      held-inner = held-spend σ k k′ w w′ a (Mover .room) spent (Mover .held) within (omega (arith, whole (λ j. oneIf (eqb a j)), each (λ j. oneIf (eqb a j)), once a))
           (λ i m. in-room i (omega (arith, each (λ j. oneIf (eqb i j)))))
 
-      held-left : Held k′ w′ (removePart p (There .room)) → k′ t ≡ removed p (k t) → Held k′ w′ left
+      held-left : Held k′ w′ (removePart p (There .room)) → k′ t ≡ removed p (k t) → Held k′ w′ remaining
       held-left rest loses = held-alter k k′ w w′ t (λ e. e) (removePart p) here (There .room) (There .found) (once t) held
           (λ i m. (
             same-body i (omega (arith, whole (λ j. oneIf (eqb i j)))) (numbers-differ i t (removePart t here) m (omega (arith, whole (λ j. oneIf (eqb t j)), once t, own-times t))),
@@ -98,9 +98,9 @@ module _ (σ : Bindings) (k : ℕ → List ℕ) (w : ℕ → ClosureHead) (a t :
 
       pub exit-change : k′ t ≡ removed p (k t) → k′ b ≡ inserted p (k b) → Change σ k w t g needs b here k′ w′ exited
       exit-change loses gains = record {
-        own = gains ∙ ap (inserted p) (own ∙ sym (tops-alter t (λ e. e) (removePart p) here)) ∙ sym (tops-put p (w p) inner left);
-        held = held-put k′ w′ p (w p) inner left
-            (sym (in-room p (in-times p (There .room) on-top)) ∙ P .own ∙ sym (tops-alter a (spentHead (viewUnder σ)) (λ s. s) (P .room)))
+        own = gains ∙ ap (inserted p) (own ∙ sym (tops-alter t (λ e. e) (removePart p) here)) ∙ sym (tops-put p (w p) inner remaining);
+        held = held-put k′ w′ p (w p) inner remaining
+            (sym (in-room p (in-times p (There .room) on-top)) ∙ Mover .own ∙ sym (tops-alter a (spentHead (viewUnder σ)) (λ s. s) (Mover .room)))
             (sym (same-head p (omega (arith, whole (λ j. oneIf (eqb p j)), each (λ j. oneIf (eqb p j)), once p, own-times p))))
             held-inner
             (held-left held-rest loses);

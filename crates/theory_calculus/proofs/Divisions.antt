@@ -7,7 +7,7 @@ use mathlib.Core.Logic.{inl, inr}
 use native.Mathlib.Omega.{arith}
 use Rattle.read_messages.specs.Message.{Message, emptyMessage, items}
 use Rattle.read_scripts.specs.Tree.{Head, close, part, PlainHead, Plain}
-use Rattle.theory_calculus.specs.Satisfaction.{Divided, nothing, left, right}
+use Rattle.theory_calculus.specs.Satisfaction.{Divided, nothing, toLeft, toRight}
 use Rattle.theory_calculus.specs.Calculus.{occurs, Process, 𝟎, _‖_, ambient, _≅_, StructRefl, StructSymm, StructTrans, StructParAssoc, StructZeroPar}
 use Rattle.theory_calculus.specs.TreeProcess.{prefix, piece, process}
 use Rattle.theory_calculus.proofs.Shapes.{Tag, amb, can, hear, say, Shape, noCells, cell, _⧺_, chain, Same, done, match, same-sym, pick-sum}
@@ -111,9 +111,9 @@ module _ (n : ℕ) where
       → (s t : Shape) → Same (cell (tag n h) (coreOf n h (process b)) (flattened n r)) (s ⧺ t) → Division (part k h b r) s t
   divide-part k h b r w ih s t (match p a e) = elim (pick-sum s t p) [
     | inl x ↦ let y = ih (x .0) t (subst (Same (flattened n r)) (x .2) e) in
-        (part k h b (y .0), y .1, left (y .2), subst (λ u. Same u s) (sym (flat-part n k h b (y .0) w)) (match (x .1) a (y .3)), y .4)
+        (part k h b (y .0), y .1, toLeft (y .2), subst (λ u. Same u s) (sym (flat-part n k h b (y .0) w)) (match (x .1) a (y .3)), y .4)
     | inr x ↦ let y = ih s (x .0) (subst (Same (flattened n r)) (x .2) e) in
-        (y .0, part k h b (y .1), right (y .2), y .3, subst (λ u. Same u t) (sym (flat-part n k h b (y .1) w)) (match (x .1) a (y .4)))
+        (y .0, part k h b (y .1), toRight (y .2), y .3, subst (λ u. Same u t) (sym (flat-part n k h b (y .1) w)) (match (x .1) a (y .4)))
   ]
 
   divide : (b : Plain) → Settled b → (s t : Shape) → Same (flattened n b) (s ⧺ t) → Division b s t
@@ -145,8 +145,8 @@ module _ (n : ℕ) where
 divided-occurs : (v : ℕ) {b c d : Plain} → Divided b c d → occurs v (process b) ≡ occurs v (process c) + occurs v (process d)
 unfolding process occurs
 divided-occurs v nothing = omega arith
-divided-occurs v (left x) = omega (arith, divided-occurs v x)
-divided-occurs v (right x) = omega (arith, divided-occurs v x)
+divided-occurs v (toLeft x) = omega (arith, divided-occurs v x)
+divided-occurs v (toRight x) = omega (arith, divided-occurs v x)
 
 -- 000, proposition 3.1: what is congruent to 0, and to P | Q
 pub as-nothing : (b : Plain) → Settled b → process b ≅ 𝟎 → b ≡ close
@@ -169,10 +169,10 @@ as-both b w p q h =
 pub divided-congruent : {b c d : Plain} → Divided b c d → process b ≅ process c ‖ process d
 unfolding process
 divided-congruent nothing = StructSymm StructZeroPar
-divided-congruent (left x) = StructTrans (par-both StructRefl (divided-congruent x)) (StructSymm StructParAssoc)
-divided-congruent (right x) = StructTrans (par-both StructRefl (divided-congruent x)) par-swap
+divided-congruent (toLeft x) = StructTrans (par-both StructRefl (divided-congruent x)) (StructSymm StructParAssoc)
+divided-congruent (toRight x) = StructTrans (par-both StructRefl (divided-congruent x)) par-swap
 
 pub divided-settled : {b c d : Plain} → Divided b c d → Settled b → Settled c × Settled d
 divided-settled nothing w = (closed, closed)
-divided-settled (left x) w = let y = divided-settled x (settled-rest w) in (settled-join (settled-part w) (y .0), y .1)
-divided-settled (right x) w = let y = divided-settled x (settled-rest w) in (y .0, settled-join (settled-part w) (y .1))
+divided-settled (toLeft x) w = let y = divided-settled x (settled-rest w) in (settled-join (settled-part w) (y .0), y .1)
+divided-settled (toRight x) w = let y = divided-settled x (settled-rest w) in (y .0, settled-join (settled-part w) (y .1))

@@ -7,7 +7,7 @@ use mathlib.Core.Logic.{_⊎_, inl, inr}
 use native.Mathlib.Omega.{arith}
 use Rattle.read_messages.specs.Message.{Message, items}
 use Rattle.read_scripts.specs.Tree.{Head, close, part, totalOver, PlainHead, Plain}
-use Rattle.theory_calculus.specs.Satisfaction.{Divided, nothing, left, right}
+use Rattle.theory_calculus.specs.Satisfaction.{Divided, nothing, toLeft, toRight}
 use Rattle.theory_calculus.specs.Order.{HasPart, front, behind}
 use Rattle.theory_calculus.specs.Calculus.{occurs, Process, 𝟎, _‖_, ambient, action, input, output, _≅_, StructRefl, StructSymm, StructTrans, StructZeroPar}
 use Rattle.theory_calculus.specs.TreeProcess.{prefix, piece, process}
@@ -23,13 +23,13 @@ part-total f (behind p) = omega (arith, part-total f p)
 pub divided-total : (f : ℕ → PlainHead → ℕ) {b c d : Plain} → Divided b c d → totalOver f b ≡ totalOver f c + totalOver f d
 unfolding totalOver
 divided-total f nothing = omega arith
-divided-total f (left x) = omega (arith, divided-total f x)
-divided-total f (right x) = omega (arith, divided-total f x)
+divided-total f (toLeft x) = omega (arith, divided-total f x)
+divided-total f (toRight x) = omega (arith, divided-total f x)
 
 pub part-divided : {b c d i q : Plain} {k : ℕ} {h : PlainHead} → Divided b c d → HasPart c k h i q → (r : Plain) × HasPart b k h i r × Divided r q d
-part-divided (left x) front = (_, front, x)
-part-divided (left x) (behind p) = let y = part-divided x p in (_, behind (y .1), left (y .2))
-part-divided (right x) p = let y = part-divided x p in (_, behind (y .1), right (y .2))
+part-divided (toLeft x) front = (_, front, x)
+part-divided (toLeft x) (behind p) = let y = part-divided x p in (_, behind (y .1), toLeft (y .2))
+part-divided (toRight x) p = let y = part-divided x p in (_, behind (y .1), toRight (y .2))
 
 -- two parts of one body, in either order
 pub part-swap : {b c d i j : Plain} {k l : ℕ} {h g : PlainHead} → HasPart b k h i c → HasPart c l g j d → (e : Plain) × HasPart b l g j e × HasPart e k h i d
@@ -167,16 +167,16 @@ occurs-action v i is p = omega arith
 
 module _ (b : Plain) (w : Settled b) where
   -- a number above every variable of b and of q
-  abbrev above : Process → ℕ
-  above q = highest (process b) + highest q
+  abbrev highestOf : Process → ℕ
+  highestOf q = highest (process b) + highest q
 
-  tree-low : (q : Process) → BelowAll (above q) (process b)
-  tree-low q = top-below (process b) (above q) (omega arith)
+  tree-low : (q : Process) → BelowAll (highestOf q) (process b)
+  tree-low q = top-below (process b) (highestOf q) (omega arith)
 
   pub has-ambient : (m : Message) (p q : Process) → process b ≅ ambient m p ‖ q → (x : Has b (Head.ambient m) q) × (process (x .inside) ≅ p) × Settled (x .inside)
   unfolding processShape _⧺_ coreOf highest
   has-ambient m p q h =
-      let n : ℕ = above (p ‖ q) in
+      let n : ℕ = highestOf (p ‖ q) in
       let y = prime n b w (tree-low (p ‖ q)) (amb m) (processShape n own p) q (top-below q n (omega arith))
       (same-sym (subst (λ (u : Message). Same (flattened n b) (cell (amb u) (processShape n own p) (processShape n own q))) (renamed-own m) (tree-sound n b h))) in
       let z : Cored n b q (processShape n own p) (Head.ambient m) = subst (Cored n b q (processShape n own p)) (tag-amb n (y .0) m (y .1)) (y .2) in (
@@ -188,7 +188,7 @@ module _ (b : Plain) (w : Settled b) where
   pub has-receipt : (v : ℕ) (p q : Process) → process b ≅ input v p ‖ q → (u : ℕ) × (x : Has b (Head.receipt u) q) × (input u (process (x .inside)) ≅ input v p)
   unfolding processShape _⧺_ coreOf piece highest
   has-receipt v p q h =
-      let n : ℕ = above (input v p ‖ q) in
+      let n : ℕ = highestOf (input v p ‖ q) in
       let s : Shape = processShape (suc n) (bound own v n) p in
       let y = prime n b w (tree-low (input v p ‖ q)) (hear n) s q (top-below q n (omega arith)) (same-sym (tree-sound n b h)) in
       let f = tag-hear n (y .0) (y .1) in
@@ -201,14 +201,14 @@ module _ (b : Plain) (w : Settled b) where
   pub has-output : (m : Message) (q : Process) → process b ≅ output m ‖ q → Has b (Head.output m) q
   unfolding processShape _⧺_
   has-output m q h =
-      let n : ℕ = above q in
+      let n : ℕ = highestOf q in
       let y = prime n b w (tree-low q) (say m) noCells q (top-below q n (omega arith)) (same-sym (subst (λ (u : Message). Same (flattened n b) (cell (say u) noCells (processShape n own q))) (renamed-own m) (tree-sound n b h))) in
       subst (λ g. Has b g q) (tag-say n (y .0) m (y .1)) (y .2 .0)
 
   pub has-action : (i : Message) → Item i → (p q : Process) → process b ≅ action i p ‖ q → (is : List Message) × (x : Has b (Head.action (i ∷ is)) q) × (prefix is (process (x .inside)) ≅ p)
   unfolding processShape _⧺_ coreOf chain highest
   has-action i u p q h =
-      let n : ℕ = above (p ‖ q) in
+      let n : ℕ = highestOf (p ‖ q) in
       let y = prime n b w (tree-low (p ‖ q)) (can i) (processShape n own p) q (top-below q n (omega arith))
       (same-sym (subst (λ l. Same (flattened n b) (chain l (processShape n own p) ⧺ processShape n own q)) (ap items (renamed-own i) ∙ u) (tree-sound n b h))) in
       let f = tag-can n (y .0) (y .2 .0 .inside) i (y .2 .2) (y .1) in

@@ -15,8 +15,8 @@ use Rattle.read_rule_words.specs.Rule.{Names, termName, Rule, truth, negation, 
 -- "some division of the top parts": the parts of the first body are divided into those of the other two
 pub data Divided : Plain → Plain → Plain → Type 0 where
   nothing : Divided close close close
-  left : {k : ℕ} {h : PlainHead} {i b c d : Plain} → Divided b c d → Divided (part k h i b) (part k h i c) d
-  right : {k : ℕ} {h : PlainHead} {i b c d : Plain} → Divided b c d → Divided (part k h i b) c (part k h i d)
+  toLeft : {k : ℕ} {h : PlainHead} {i b c d : Plain} → Divided b c d → Divided (part k h i b) (part k h i c) d
+  toRight : {k : ℕ} {h : PlainHead} {i b c d : Plain} → Divided b c d → Divided (part k h i b) c (part k h i d)
 
 -- the second body stands directly inside a named ambient of the first
 pub data Inside : Plain → Plain → Type 0 where

@@ -10,9 +10,9 @@ use Rattle.read_messages.proofs.Readings.{got-inj}
 use Rattle.base_slices.proofs.Tests.{byTest}
 use Rattle.read_rule_words.specs.Rule.{Rule}
 use Rattle.theory_decision.specs.Walk.{Count, Walked, stopped, says}
-use Rattle.theory_call.specs.Call.{Call, Answer, accepted, refused, refusal, Ran, halted, moved, run, finish, walked, Start, partsOf, walkedOn, ruleRun, starting, door, opened, onward, begins, answer, roomy, accepting}
+use Rattle.theory_call.specs.Call.{Call, Answer, accepted, refused, refusal, Ran, halted, completed, run, finish, walked, Start, partsOf, walkedOn, ruleRun, starting, door, opened, onward, begins, answer, roomy, accepting}
 use Rattle.theory_call.specs.Standing.{Standing}
-use Rattle.theory_call.proofs.Runs.{moved-is}
+use Rattle.theory_call.proofs.Runs.{completed-is}
 
 -- the walk of a call that stands
 abbrev pub walkOf : (c : Call) → Standing c → Walked
@@ -46,7 +46,7 @@ module _ (c : Call) (P : Answer → Type 0) (E : Endings c P) where
     run-ends : (r : Rule × Cursor) → door c s ≡ got r → (x : Ran) → run (partsOf s) 0 (c .moves) (s .machine) ≡ x → P (ruleRun c s r x)
     unfolding ruleRun
     run-ends r er (halted q i) e = E .stuck s es r er q i e
-    run-ends r er (moved m) e = walked-ends (record { start = s; rule = r; machine = m; starts = es; enters = er; moves-made = e }) (walkedOn c s r m) refl
+    run-ends r er (completed m) e = walked-ends (record { start = s; rule = r; machine = m; starts = es; enters = er; moves-made = e }) (walkedOn c s r m) refl
 
     opened-ends : (x : Reading (Rule × Cursor)) → door c s ≡ x → P (opened c s x)
     unfolding opened
@@ -120,5 +120,5 @@ same c s t =
     record {
       start = e;
       rule = got-inj (sym (s .enters) ∙ ap (λ (x : Start). door c x) e ∙ t .enters);
-      machine = moved-is (sym (s .moves-made) ∙ ap (λ (x : Start). run (partsOf x) 0 (c .moves) (x .machine)) e ∙ t .moves-made);
+      machine = completed-is (sym (s .moves-made) ∙ ap (λ (x : Start). run (partsOf x) 0 (c .moves) (x .machine)) e ∙ t .moves-made);
     }

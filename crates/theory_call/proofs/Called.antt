@@ -16,7 +16,7 @@ use Rattle.theory_decision.specs.Walk.{walkFrom}
 use Rattle.theory_decision.specs.ClosureWalk.{closureSpace}
 use Rattle.theory_decision.proofs.Closures.{walk-unfolded}
 use Rattle.theory_call.specs.Call.{Call, actor, target, moveFits, refusal, walked, Start, partsOf, startOf, setting, ruleRun, door, answer}
-use Rattle.theory_call.specs.ClosureCall.{ClosureRan, halted, moved, afterMove, ifMade, closureRun, unfoldRan, begun}
+use Rattle.theory_call.specs.ClosureCall.{ClosureRan, halted, completed, afterMove, ifMade, closureRun, unfoldRan, begun}
 use Rattle.theory_call.proofs.Entering.{starting-got, starting-refused}
 use Rattle.theory_call.proofs.Answers.{answer-unread, answer-shut, answer-run}
 use Rattle.theory_call.proofs.ClosureRuns.{GoodMachine, started-unfolded}
@@ -26,7 +26,7 @@ use Rattle.theory_call.proofs.ClosureRuns.{GoodMachine, started-unfolde
 -- a machine that is left has the property
 abbrev Leaves : (ClosureMachine → Type 0) → ClosureRan → Type 0
 Leaves Q (halted q i) = Unit {0}
-Leaves Q (moved m) = Q m
+Leaves Q (completed m) = Q m
 
 made-good : (i : ℕ) (m : ClosureMachine) (x : Option (MoveMade Action)) (k : ClosureMachine → ClosureRan) → ((s : MoveMade Action) → x ≡ some s → Leaves GoodMachine (k (afterMove m s)))
     → Leaves GoodMachine (ifMade i m x k)
@@ -42,7 +42,7 @@ run-good n i (w ∷ ws) m G = byTest (moveFits n w)
     (λ s e. run-good n (suc i) ws (afterMove m s) (move-good (m .bindings) (actor w) (target w) (m .tree) s e G))))
     (λ t. rw t tt)
 
-pub run-leaves-good : (ws : List ℕ) (p : Script × Cursor) → readScript ws ≡ got p → (n : ℕ) (moves : List ℕ) (m : ClosureMachine) → closureRun n 0 moves (begun (p .0)) ≡ moved m → GoodMachine m
+pub run-leaves-good : (ws : List ℕ) (p : Script × Cursor) → readScript ws ≡ got p → (n : ℕ) (moves : List ℕ) (m : ClosureMachine) → closureRun n 0 moves (begun (p .0)) ≡ completed m → GoodMachine m
 run-leaves-good ws p e n moves m d = subst (Leaves GoodMachine) d (run-good n 0 moves (begun (p .0)) (started-good ws p e))
 
 -- ---- the questions in their order
@@ -70,7 +70,7 @@ module _ (c : Call) where
       answers-halted q i e = goes-run ∙ rw e
 
       -- THEOREM: behind the moves, the answer is that of the walk over the closure that they left.
-      pub answers-walked : (m : ClosureMachine) → closureRun n 0 (c .moves) (begun (p .0)) ≡ moved m
+      pub answers-walked : (m : ClosureMachine) → closureRun n 0 (c .moves) (begun (p .0)) ≡ completed m
           → answer c ≡ walked c (unfoldMachine m) (walkFrom (closureSpace (n + r .1 .number)) (setting c s) (r .0) m)
       unfolding ruleRun unfoldRan unfoldMachine
       answers-walked m e =

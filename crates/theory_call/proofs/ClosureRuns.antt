@@ -22,7 +22,7 @@ use Rattle.theory_closures.proofs.Started.{closure-started, started-good}
 use Rattle.theory_closures.proofs.Bound.{budget, Bounded, move-costs, started-bounded, started-budget}
 use Rattle.theory_call.specs.Call.{Call, Ran, actor, target, moveFits, run, refusal, Start, partsOf, startOf, starting, answer}
 use Rattle.theory_call.specs.Call as plain
-use Rattle.theory_call.specs.ClosureCall.{ClosureRan, halted, moved, afterMove, ifMade, closureRun, unfoldRan, begun}
+use Rattle.theory_call.specs.ClosureCall.{ClosureRan, halted, completed, afterMove, ifMade, closureRun, unfoldRan, begun}
 use Rattle.theory_call.specs.Standing.{Standing, BoundHolds, MovesBounded}
 use Rattle.theory_call.proofs.Entering.{starting-got}
 use Rattle.theory_call.proofs.Answers.{answer-ends}
@@ -71,11 +71,11 @@ started-unfolded ws p e n moves =
 -- the moves made, of a list of l words from the index i on, are at most x
 abbrev pub Paid : (i l x : ℕ) → Ran → Type 0
 Paid i l x (plain.halted q j) = j ≤ i + x
-Paid i l x (plain.moved m) = l ≤ x
+Paid i l x (plain.completed m) = l ≤ x
 
 paid-more : (i l x y : ℕ) (r : Ran) → y + 1 ≤ x → Paid (suc i) l y r → Paid i (suc l) x r
 paid-more i l x y (plain.halted q j) h p = omega arith
-paid-more i l x y (plain.moved m) h p = omega arith
+paid-more i l x y (plain.completed m) h p = omega arith
 
 made-paid : (i l x : ℕ) (m : ClosureMachine) (o : Option (MoveMade Action)) (k : ClosureMachine → ClosureRan) →
     ((s : MoveMade Action) → o ≡ some s → Paid i l x (unfoldRan (k (afterMove m s)))) → Paid i l x (unfoldRan (ifMade i m o k))
@@ -96,7 +96,7 @@ module _ (s r n : ℕ) where
 
 paid-within : (i l x y : ℕ) (r : Ran) → x ≤ y → Paid i l x r → Paid i l y r
 paid-within i l x y (plain.halted q j) h p = omega arith
-paid-within i l x y (plain.moved m) h p = omega arith
+paid-within i l x y (plain.completed m) h p = omega arith
 
 -- THEOREM: a list halts at an index that is at most the bound, or is made and has at most so many moves.
 pub moves-paid : (ws : List ℕ) (p : Script × Cursor) → readScript ws ≡ got p → (n : ℕ) (moves : List ℕ) →
@@ -109,7 +109,7 @@ moves-paid ws p e n moves =
 -- THEOREM (the bound).
 pub bound-holds : (c : Call) → BoundHolds c
 bound-holds c p e k m l a =
-    let h : Paid 0 (length (take k (c .moves))) (movesBound (p .0)) (plain.moved m) =
+    let h : Paid 0 (length (take k (c .moves))) (movesBound (p .0)) (plain.completed m) =
     subst (Paid 0 (length (take k (c .moves))) (movesBound (p .0))) a (moves-paid (c .script) p e (p .1 .number) (take k (c .moves))) in
     omega (arith, h, length-take k (c .moves))
 

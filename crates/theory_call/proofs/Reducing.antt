@@ -23,7 +23,7 @@ use Rattle.theory_calculus.proofs.Writings.{leads-congruent, leads-step}
 use Rattle.theory_calculus.proofs.Reductions.{move-reduces}
 use Rattle.theory_calculus.proofs.Kept.{Good, good-move}
 use Rattle.theory_calculus.proofs.Agreement.{congruent-satisfies}
-use Rattle.theory_call.specs.Call.{Call, Verdict, accepted, refused, Ran, halted, moved, actor, target, moveFits, afterMove, ifMade, run, begun, refusal, Start, partsOf, starting, answer}
+use Rattle.theory_call.specs.Call.{Call, Verdict, accepted, refused, Ran, halted, completed, actor, target, moveFits, afterMove, ifMade, run, begun, refusal, Start, partsOf, starting, answer}
 use Rattle.theory_call.specs.Standing.{Standing, After, Reduced, Reduces}
 use Rattle.theory_call.proofs.Runs.{run-none, run-step}
 use Rattle.theory_call.proofs.Begun.{script-written, script-good}
@@ -34,7 +34,7 @@ use Rattle.theory_call.proofs.Verdicts.{answer-stands, verdict-yes, ver
 -- ---- a list that is made
 
 -- every word of a list that is made is one reduction
-pub run-leads : (n : ℕ) (i : ℕ) (ws : List ℕ) (m l : Machine) → Good n (m .tree) → run n i ws m ≡ moved l → Leads (length ws) (process (m .tree)) (process (l .tree))
+pub run-leads : (n : ℕ) (i : ℕ) (ws : List ℕ) (m l : Machine) → Good n (m .tree) → run n i ws m ≡ completed l → Leads (length ws) (process (m .tree)) (process (l .tree))
 run-leads n i [] m l g e = subst (λ (k : Machine). Leads 0 (process (m .tree)) (process (k .tree))) (run-none n i m l e) (process (m .tree), stop, StructRefl)
 run-leads n i (w ∷ ws) m l g e =
     let s = run-step n i w ws m l e in
@@ -43,7 +43,7 @@ run-leads n i (w ∷ ws) m l g e =
 
 -- THEOREM: a list that is made leads from the script as written to the process of the tree that stands, in as many reductions
 -- as it has words.
-pub list-leads : (ws : List ℕ) (p : Script × Cursor) → readScript ws ≡ got p → (moves : List ℕ) (m : Machine) → run (p .1 .number) 0 moves (begun (p .0)) ≡ moved m
+pub list-leads : (ws : List ℕ) (p : Script × Cursor) → readScript ws ≡ got p → (moves : List ℕ) (m : Machine) → run (p .1 .number) 0 moves (begun (p .0)) ≡ completed m
     → Leads (length moves) (calculus.written (p .0)) (process (m .tree))
 list-leads ws p e moves m d = leads-congruent (StructSymm (script-written ws p e)) (run-leads (p .1 .number) 0 moves (begun (p .0)) m (script-good ws p e) d)
 
@@ -58,12 +58,12 @@ first-reduced c p e k m l a =
 
 -- the first k words are made
 abbrev Begins : (n i : ℕ) → List ℕ → Machine → (k : ℕ) → Type 0
-Begins n i ws m k = (k ≤ length ws) × (l : Machine) × (run n i (take k ws) m ≡ moved l)
+Begins n i ws m k = (k ≤ length ws) × (l : Machine) × (run n i (take k ws) m ≡ completed l)
 
 -- the words before the one at which a list from the index i on halts
 abbrev Before : (n i : ℕ) → List ℕ → Machine → Ran → Type 0
 Before n i ws m (halted q j) = (k : ℕ) × (j ≡ i + k) × Begins n i ws m k
-Before n i ws m (moved l) = Unit {0}
+Before n i ws m (completed l) = Unit {0}
 
 none-before : (n i q : ℕ) (ws : List ℕ) (m : Machine) → Before n i ws m (halted q i)
 unfolding run
@@ -73,7 +73,7 @@ one-before : (n i w : ℕ) (ws : List ℕ) (m : Machine) (s : MoveMade (List Mes
     → (x : Ran) → Before n (suc i) ws (afterMove m s) x → Before n i (w ∷ ws) m x
 unfolding run ifMade
 one-before n i w ws m s t e (halted q j) (k, d, (l, r, h)) = (suc k, omega arith, (omega arith, r, rw (t, e) h))
-one-before n i w ws m s t e (moved l) x = tt
+one-before n i w ws m s t e (completed l) x = tt
 
 made-before : (n i w : ℕ) (ws : List ℕ) (m : Machine) → moveFits n w ≡ true → ((s : MoveMade (List Message)) → Before n (suc i) ws (afterMove m s) (run n (suc i) ws (afterMove m s)))
     → (o : Option (MoveMade (List Message))) → move (actor w) (target w) (m .tree) ≡ o → Before n i (w ∷ ws) m (ifMade i m o (λ l. run n (suc i) ws l))
@@ -98,8 +98,8 @@ halted-begins n ws m q i e =
     let z : k ≡ i = omega arith in
     subst (Begins n 0 ws m) z x
 
-moved-begins : (n : ℕ) (ws : List ℕ) (m l : Machine) → run n 0 ws m ≡ moved l → Begins n 0 ws m (length ws)
-moved-begins n ws m l e =
+completed-begins : (n : ℕ) (ws : List ℕ) (m l : Machine) → run n 0 ws m ≡ completed l → Begins n 0 ws m (length ws)
+completed-begins n ws m l e =
     let all : take (length ws) ws ≡ ws = take-all (length ws) ws (omega arith) in
     (omega arith, l, ap (λ (k : List ℕ). run n 0 k m) all ∙ e)
 
@@ -116,7 +116,7 @@ module _ (c : Call) where
       let own : (s : Start) → starting c ≡ got s → (k : ℕ) → Begins (partsOf s) 0 (c .moves) (s .machine) k → Begins (p .1 .number) 0 (c .moves) (begun (p .0)) k =
       λ s d k x. subst (λ (s : Start). Begins (partsOf s) 0 (c .moves) (s .machine) k) (got-inj (sym d ∙ starting-got c p e)) x in
       let all : (s : Standing c) → Begins (p .1 .number) 0 (c .moves) (begun (p .0)) (length (c .moves)) =
-      λ s. own (s .start) (s .starts) (length (c .moves)) (moved-begins (partsOf (s .start)) (c .moves) (s .start .machine) (s .machine) (s .moves-made)) in
+      λ s. own (s .start) (s .starts) (length (c .moves)) (completed-begins (partsOf (s .start)) (c .moves) (s .start .machine) (s .machine) (s .moves-made)) in
       answer-ends c (λ a. Begins (p .1 .number) 0 (c .moves) (begun (p .0)) (a .moves)) (record {
         unread = λ q i d. unmoved;
         shut = λ s d q i h. unmoved;

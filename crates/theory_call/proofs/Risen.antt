@@ -11,7 +11,7 @@ use Rattle.read_scripts.proofs.Tabled.{script-tabled}
 use Rattle.theory_machine.specs.PlainMachine.{Machine}
 use Rattle.theory_decision.specs.Rising.{Rises}
 use Rattle.theory_decision.proofs.Risen.{numbered-rises, map-rises, settle-rises, move-rises, Taken, all-rise}
-use Rattle.theory_call.specs.Call.{Call, moved, run, begun, Start, partsOf}
+use Rattle.theory_call.specs.Call.{Call, completed, run, begun, Start, partsOf}
 use Rattle.theory_call.specs.Standing.{Standing, After}
 use Rattle.theory_call.proofs.Runs.{run-keeps}
 use Rattle.theory_call.proofs.Entering.{start-reads}
@@ -22,7 +22,7 @@ unfolding started withItems settle
 script-rises ws p e = settle-rises 0 bare (withItems (p .0)) (map-rises 0 (λ (w : Written). headWithItems (w .head)) (p .0) (numbered-rises 0 (p .0) (script-tabled ws p e .numbered)))
 
 -- THEOREM: and so after every list that is made.
-pub list-rises : (ws : List ℕ) (p : Script × Cursor) → readScript ws ≡ got p → (n : ℕ) (moves : List ℕ) (m : Machine) → run n 0 moves (begun (p .0)) ≡ moved m → Rises 0 (m .tree)
+pub list-rises : (ws : List ℕ) (p : Script × Cursor) → readScript ws ≡ got p → (n : ℕ) (moves : List ℕ) (m : Machine) → run n 0 moves (begun (p .0)) ≡ completed m → Rises 0 (m .tree)
 list-rises ws p e n moves m d = run-keeps (λ k. Rises 0 (k .tree)) (λ a t k s x y. move-rises a t (k .tree) s y x) n 0 moves (begun (p .0)) m (script-rises ws p e) d
 
 -- THEOREM: so before the first move of a call and after each, of a refused list too.

@@ -27,7 +27,7 @@ use Rattle.theory_machine.specs.PlainMachine.{move, Machine, weightOf}
 use Rattle.base_slices.proofs.Tests.{byTest}
 use Rattle.theory_decision.specs.Walk.{Space, Count, Walked, stopped, says, Setting, onYes, onNo, turned, ifAny, firstYes, look, counted, walk, walkFrom}
 use Rattle.theory_decision.specs.PlainWalk.{plainSpace}
-use Rattle.theory_call.specs.Call.{Call, Verdict, accepted, refused, Answer, refusal, Ran, halted, moved, actor, target, moveFits, ifMade, run, Start, partsOf, setting, starting, answer}
+use Rattle.theory_call.specs.Call.{Call, Verdict, accepted, refused, Answer, refusal, Ran, halted, completed, actor, target, moveFits, ifMade, run, Start, partsOf, setting, starting, answer}
 use Rattle.theory_call.specs.Standing.{Standing, WeightBounded}
 use Rattle.theory_call.proofs.Runs.{run-weighed}
 use Rattle.theory_call.proofs.Entering.{starting-got, start-all, door-inv, door-few, door-within}
@@ -126,7 +126,7 @@ whole-stops space s n ws p e b =
 
 abbrev Halts : ℕ → Ran → Type 0
 Halts x (halted q i) = i ≤ x
-Halts x (moved m) = Unit {0}
+Halts x (completed m) = Unit {0}
 
 made-halts : (x i : ℕ) (m : Machine) (o : Option (MoveMade (List Message))) (k : Machine → Ran) → i ≤ x → ((l : Machine) → Halts x (k l)) → Halts x (ifMade i m o k)
 unfolding ifMade
@@ -168,7 +168,7 @@ module _ (c : Call) where
 
   pub standing-weight : (s : Standing c) → weightOf (s .machine) ≤ parts (s .start .read .0)
   standing-weight s =
-      start-all c (λ t. run (partsOf t) 0 (c .moves) (t .machine) ≡ moved (s .machine) → weightOf (s .machine) ≤ parts (t .read .0))
+      start-all c (λ t. run (partsOf t) 0 (c .moves) (t .machine) ≡ completed (s .machine) → weightOf (s .machine) ≤ parts (t .read .0))
       (λ p e x. run-weighed (p .1 .number) (c .moves) (p .0) (s .machine) x) (s .start) (s .starts) (s .moves-made)
 
   few : (s : Standing c) → length (c .moves) ≤ 4096

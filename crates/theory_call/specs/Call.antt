@@ -54,7 +54,7 @@ refusal q i m v b = record { verdict = refused q i; moves = m; visits = v; deepe
 -- a list of moves stops by question 15 or 16 at a place, or is made
 pub data Ran : Type 0 where
   halted : (question place : ℕ) → Ran
-  moved : Machine → Ran
+  completed : Machine → Ran
 
 -- "A move word has kind 1, the actor in bits 8 to 15, the target in bits 0 to 7, the rest zero."
 abbrev pub actor : ℕ → ℕ
@@ -79,7 +79,7 @@ ifMade i m (some s) k = k (afterMove m s)
 -- "Each word of the list, in turn, is asked its questions on the tree that the moves before it left": i is the index of the
 -- first word
 unfoldable pub run : (n i : ℕ) → List ℕ → Machine → Ran
-run n i [] m = moved m
+run n i [] m = completed m
 run n i (w ∷ ws) m = cond (moveFits n w) (ifMade i m (move (actor w) (target w) (m .tree)) (λ l. run n (suc i) ws l)) (halted 15 i)
 
 -- "Its tree starts as the script's, with no receipt made."
@@ -142,7 +142,7 @@ walkedOn c s r m = walkFrom (plainSpace (partsOf s + r .1 .number)) (setting c s
 -- after the moves
 unfoldable pub ruleRun : Call → Start → Rule × Cursor → Ran → Answer
 ruleRun c s r (halted q i) = refusal q i i 0 (c .buffer)
-ruleRun c s r (moved m) = walked c m (walkedOn c s r m)
+ruleRun c s r (completed m) = walked c m (walkedOn c s r m)
 
 -- Questions 1 to 6.
 unfoldable pub starting : Call → Reading Start

@@ -12,7 +12,7 @@ use Rattle.theory_call.specs.Call as plain
 
 pub data ClosureRan : Type 0 where
   halted : (question place : ℕ) → ClosureRan
-  moved : ClosureMachine → ClosureRan
+  completed : ClosureMachine → ClosureRan
 
 -- the machine after a move that was made: its receipt is the newest binding
 abbrev pub afterMove : ClosureMachine → MoveMade Action → ClosureMachine
@@ -23,14 +23,14 @@ ifMade i m none k = halted 16 i
 ifMade i m (some s) k = k (afterMove m s)
 
 unfoldable pub closureRun : (n i : ℕ) → List ℕ → ClosureMachine → ClosureRan
-closureRun n i [] m = moved m
+closureRun n i [] m = completed m
 closureRun n i (w ∷ ws) m =
     cond (moveFits n w) (ifMade i m (closureMove (m .bindings) (actor w) (target w) (m .tree)) (λ l. closureRun n (suc i) ws l)) (halted 15 i)
 
 -- what the plain machine makes of the same list
 unfoldable pub unfoldRan : ClosureRan → Ran
 unfoldRan (halted q i) = plain.halted q i
-unfoldRan (moved m) = plain.moved (unfoldMachine m)
+unfoldRan (completed m) = plain.completed (unfoldMachine m)
 
 -- the closure machine as a script begins it
 abbrev pub begun : Script → ClosureMachine

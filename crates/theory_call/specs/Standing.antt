@@ -17,7 +17,7 @@ use Rattle.theory_calculus.specs.Satisfaction.{Sat}
 use Rattle.theory_calculus.specs.Calculus.{Process, _≅_, Satisfies}
 use Rattle.theory_calculus.specs.TreeProcess.{process}
 use Rattle.theory_calculus.specs.Written.{written, Steps}
-use Rattle.theory_call.specs.Call.{Call, Verdict, accepted, refused, moved, run, begun, Start, partsOf, starting, door}
+use Rattle.theory_call.specs.Call.{Call, Verdict, accepted, refused, completed, run, begun, Start, partsOf, starting, door}
 use Rattle.theory_call.specs.Call as call
 use Rattle.theory_call.specs.Nesting.{nesting}
 
@@ -28,7 +28,7 @@ pub record Standing (c : Call) : Type 0 where
   pub machine : Machine
   pub starts : starting c ≡ got start
   pub enters : door c start ≡ got rule
-  pub moves-made : run (partsOf start) 0 (c .moves) (start .machine) ≡ moved machine
+  pub moves-made : run (partsOf start) 0 (c .moves) (start .machine) ≡ completed machine
 
 -- the tree that stands meets the rule, read on normal forms
 abbrev pub Meets : (c : Call) → Standing c → Type 0
@@ -46,7 +46,7 @@ Decides c (refused q i) = Unit {0}
 
 -- the machine after the first k moves of the list
 abbrev pub After : (c : Call) → Script × Cursor → ℕ → Machine → Type 0
-After c p k m = run (p .1 .number) 0 (take k (c .moves)) (begun (p .0)) ≡ moved m
+After c p k m = run (p .1 .number) 0 (take k (c .moves)) (begun (p .0)) ≡ completed m
 
 -- the first k moves of the list are made and are k reductions of the paper's, one after the other: they lead from the script
 -- as it is written to a process that is, up to structural congruence, the process of the tree that then stands

@@ -13,7 +13,7 @@ use Rattle.base_slices.proofs.Tests.{byTest}
 use Rattle.theory_machine.proofs.Naturality.{mapHead}
 use Rattle.theory_machine.proofs.Everywhere.{Everywhere, map-everywhere, still-everywhere, more-everywhere, Keeps, move-everywhere}
 use Rattle.read_rule_words.specs.Rule.{Term, constant, chosen, Rule, truth, negation, either, void, at, beside, some-name, sometime, somewhere, placed, Names, chosenName, termName}
-use Rattle.theory_calculus.specs.Satisfaction.{Divided, nothing, left, right, Inside, first, later, Alone, wrapped}
+use Rattle.theory_calculus.specs.Satisfaction.{Divided, nothing, toLeft, toRight, Inside, first, later, Alone, wrapped}
 use Rattle.theory_decision.proofs.Renaming.{renameMessage, renameItems, renameHead, renameTree, renameTerm, renameRule, renameNames}
 
 -- every name of a message has P
@@ -136,8 +136,8 @@ module _ (K P : ℕ → Type 0) where
 
   pub divided-fits : {b c d : Plain} → Divided b c d → Fits K P b → Fits K P c × Fits K P d
   divided-fits nothing x = (tt, tt)
-  divided-fits (left d) x = let y = divided-fits d (x .2) in ((x .0, x .1, y .0), y .1)
-  divided-fits (right d) x = let y = divided-fits d (x .2) in (y .0, (x .0, x .1, y .1))
+  divided-fits (toLeft d) x = let y = divided-fits d (x .2) in ((x .0, x .1, y .0), y .1)
+  divided-fits (toRight d) x = let y = divided-fits d (x .2) in (y .0, (x .0, x .1, y .1))
 
   pub alone-fits : {n : ℕ} {b c : Plain} → Alone n b c → Fits K P b → Fits K P c
   alone-fits a x = subst (Fits K P) (a .only) x .1

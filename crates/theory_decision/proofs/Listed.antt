@@ -17,7 +17,7 @@ use Rattle.theory_machine.specs.PlainMachine.{plain, move}
 use Rattle.base_slices.proofs.Tests.{byTest}
 use Rattle.theory_machine.proofs.Options.{some-is, none≢some, cond-inv}
 use Rattle.theory_machine.proofs.Inversion.{isNamed-inv, sameName-inv}
-use Rattle.theory_calculus.specs.Satisfaction.{Divided, nothing, left, right, Inside, first, later, Alone}
+use Rattle.theory_calculus.specs.Satisfaction.{Divided, nothing, toLeft, toRight, Inside, first, later, Alone}
 use Rattle.theory_decision.specs.Divisions.{withEither, divisions}
 use Rattle.theory_decision.specs.Walk.{keep, movesTo, movesFrom, inOrder}
 use Rattle.theory_decision.specs.PlainWalk.{only, insides, bodyAfter, nexts}
@@ -137,8 +137,8 @@ in-right k h b c d (x ∷ l) m = elim (List·Memᴰ·cases-cons m) [
 pub in-divisions : {b c d : Plain} → Divided b c d → List·Memᴰ (c, d) (divisions b)
 unfolding divisions
 in-divisions nothing = List·Memᴰ·head refl
-in-divisions (left p) = in-left _ _ _ _ _ _ (in-divisions p)
-in-divisions (right p) = in-right _ _ _ _ _ _ (in-divisions p)
+in-divisions (toLeft p) = in-left _ _ _ _ _ _ (in-divisions p)
+in-divisions (toRight p) = in-right _ _ _ _ _ _ (in-divisions p)
 
 -- a division of a body with the part k in front comes from one of the rest
 of-either : (k : ℕ) (h : PlainHead) (i b : Plain) (l : List (Plain × Plain)) → ((y : Plain × Plain) → List·Memᴰ y l → Divided b (y .0) (y .1)) →
@@ -146,9 +146,9 @@ of-either : (k : ℕ) (h : PlainHead) (i b : Plain) (l : List (Plain × Plain)) 
 unfolding withEither
 of-either k h i b [] f y m = absurd (List·Memᴰ·not-nil m)
 of-either k h i b (x ∷ l) f y m = elim (List·Memᴰ·cases-cons m) [
-  | inl q ↦ subst (λ (z : Plain × Plain). Divided (part k h i b) (z .0) (z .1)) (sym q) (right (f x (List·Memᴰ·head refl)))
+  | inl q ↦ subst (λ (z : Plain × Plain). Divided (part k h i b) (z .0) (z .1)) (sym q) (toRight (f x (List·Memᴰ·head refl)))
   | inr t ↦ elim (List·Memᴰ·cases-cons t) [
-    | inl q ↦ subst (λ (z : Plain × Plain). Divided (part k h i b) (z .0) (z .1)) (sym q) (left (f x (List·Memᴰ·head refl)))
+    | inl q ↦ subst (λ (z : Plain × Plain). Divided (part k h i b) (z .0) (z .1)) (sym q) (toLeft (f x (List·Memᴰ·head refl)))
     | inr u ↦ of-either k h i b l (λ z p. f z (List·Memᴰ·tail p)) y u
   ]
 ]

@@ -15,7 +15,7 @@ use Rattle.theory_machine.specs.PlainMachine.{rest, substituteHead, substituteB
 use Rattle.base_slices.proofs.Tests.{byTest}
 use Rattle.theory_machine.proofs.Naturality.{mapHeads-twice, mapHeads-same, settle-map, renamed, asked, NamesApart, mapHead, isAmbient-map, Translates, headName-map, mapMoved, moved-map}
 use Rattle.read_rule_words.specs.Rule.{Term, constant, chosen, Rule, truth, negation, either, void, at, beside, some-name, sometime, somewhere, placed, Names, chosenName, termName}
-use Rattle.theory_calculus.specs.Satisfaction.{Divided, nothing, left, right, Inside, first, later, Within, here, deeper, Reaches, stay, go, Alone, wrapped, Sat}
+use Rattle.theory_calculus.specs.Satisfaction.{Divided, nothing, toLeft, toRight, Inside, first, later, Within, here, deeper, Reaches, stay, go, Alone, wrapped, Sat}
 
 -- names changed by f
 module _ (f : ℕ → ℕ) where
@@ -185,8 +185,8 @@ module _ (f : ℕ → ℕ) where
   divided-rename : {b c d : Plain} → Divided b c d → Divided (renameTree f b) (renameTree f c) (renameTree f d)
   unfolding mapHeads
   divided-rename nothing = nothing
-  divided-rename (left d) = left (divided-rename d)
-  divided-rename (right d) = right (divided-rename d)
+  divided-rename (toLeft d) = toLeft (divided-rename d)
+  divided-rename (toRight d) = toRight (divided-rename d)
 
   close-rename : (b : Plain) → (b ≡ close) ↔ (renameTree f b ≡ close)
   unfolding mapHeads

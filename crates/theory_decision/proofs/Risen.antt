@@ -21,7 +21,7 @@ use Rattle.theory_machine.specs.PlainMachine.{substituteHead, substituteBody, p
 use Rattle.base_slices.proofs.Tests.{byTest}
 use Rattle.theory_machine.proofs.Options.{some-is, none≢some, cond-inv, orElse-inv, onward-inv}
 use Rattle.theory_machine.proofs.Inversion.{Here, by-open, by-receive, by-enter, by-exit, here-inv}
-use Rattle.theory_calculus.specs.Satisfaction.{Divided, nothing, left, right, Inside, first, later, Within, here, deeper, Reaches, stay, go, Alone, wrapped}
+use Rattle.theory_calculus.specs.Satisfaction.{Divided, nothing, toLeft, toRight, Inside, first, later, Within, here, deeper, Reaches, stay, go, Alone, wrapped}
 use Rattle.theory_decision.specs.Divisions.{withEither, divisions}
 use Rattle.theory_decision.specs.PlainWalk.{only, insides, nexts}
 use Rattle.theory_decision.specs.Rising.{Rises, sumOf, shareSums}
@@ -166,11 +166,11 @@ move-rises a t b m e x =
 -- THEOREM: a share and the rest rise.
 pub divided-rises : {b c d : Plain} → Divided b c d → (n : ℕ) → Rises n b → Rises n c × Rises n d
 divided-rises nothing n x = (tt, tt)
-divided-rises (left {k = k} {d = d} p) n x =
+divided-rises (toLeft {k = k} {d = d} p) n x =
     let y = divided-rises p (suc k) (x .2) in
     let l : n ≤ k = x .0 in
     ((x .0, x .1, y .0), rises-down n (suc k) d (omega arith) (y .1))
-divided-rises (right {k = k} {c = c} p) n x =
+divided-rises (toRight {k = k} {c = c} p) n x =
     let y = divided-rises p (suc k) (x .2) in
     let l : n ≤ k = x .0 in
     (rises-down n (suc k) c (omega arith) (y .0), (x .0, x .1, y .1))

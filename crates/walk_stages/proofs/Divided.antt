@@ -7,9 +7,9 @@ use mathlib.Core.Path.{_≡_, refl, sym, ap, _∙_, subst}
 use native.Mathlib.Omega.{arith}
 use lib.ListN.{length, length-map}
 use Rattle.base_sets.specs.Sets.{isOdd, members, but}
-use Rattle.base_sets.specs.Shares.{putIf, picked, left, spread, shares}
+use Rattle.base_sets.specs.Shares.{putIf, picked, unpicked, spread, shares}
 use Rattle.base_sets.proofs.Shares.{share-more, share-last, share-rises}
-use Rattle.base_sets.proofs.Divisions.{picked-map, left-map, from, from-zero, from-one, from-end, but-picked}
+use Rattle.base_sets.proofs.Divisions.{picked-map, unpicked-map, from, from-zero, from-one, from-end, but-picked}
 use Rattle.base_sets.proofs.Members.{members-rising}
 use Rattle.read_scripts.specs.Tree.{close, part, tops, totalOver}
 use Rattle.read_scripts.specs.Represents.{Held}
@@ -61,8 +61,8 @@ module _ (k : ℕ → List ℕ) (w : ℕ → ClosureHead) where
   abbrev Halved : (b taken rest : Closure) → Type 0
   Halved b taken rest = Held k w taken × Held k w rest × ((f : ℕ → ClosureHead → ℕ) → totalOver f taken + totalOver f rest ≡ totalOver f b)
 
-  halved : (b : Closure) (n : ℕ) → Held k w b → Halved b (bodyOf (picked (cells b) n)) (bodyOf (left (cells b) n))
-  unfolding cells picked left bodyOf totalOver
+  halved : (b : Closure) (n : ℕ) → Held k w b → Halved b (bodyOf (picked (cells b) n)) (bodyOf (unpicked (cells b) n))
+  unfolding cells picked unpicked bodyOf totalOver
   halved close n h = (tt, tt, λ f. refl)
   halved (part i g b r) n h = go (isOdd n) (halved r (n / 2) (h .3))
     where
@@ -70,7 +70,7 @@ module _ (k : ℕ → List ℕ) (w : ℕ → ClosureHead) where
       P = picked (cells r) (n / 2)
 
       L : List Cell
-      L = left (cells r) (n / 2)
+      L = unpicked (cells r) (n / 2)
 
       go : (t : Bool) → Halved r (bodyOf P) (bodyOf L) → Halved (part i g b r) (bodyOf (putIf t (i, g, b) P)) (bodyOf (putIf (not t) (i, g, b) L))
       go true (p, q, e) = ((h .0, h .1, h .2, p), q, λ f. omega (arith, e f))
@@ -114,17 +114,17 @@ module _ (b : Closure) (top share : ℕ) (S : Shared top share) (e : members top
       let q = halved k w b n h in
       let l : n < 2 ^ length (cells b) = subst (λ (x : ℕ). n < 2 ^ x) (sym as-many) (S .below) in
       let whole : map number (cells b) ≡ members top = numbers b ∙ sym e in (
-        (bodyOf (picked (cells b) n), bodyOf (left (cells b) n)),
+        (bodyOf (picked (cells b) n), bodyOf (unpicked (cells b) n)),
         ap (map halves) (from-one (cells b) n l),
         record {
           taken = sym (tops-of (picked (cells b) n) ∙ sym (picked-map number (cells b) n) ∙ ap (λ (l : List ℕ). picked l n) whole ∙ sym (S .is));
-          others = but-told ∙ sym (tops-of (left (cells b) n) ∙ sym (left-map number (cells b) n) ∙ ap (λ (l : List ℕ). left l n) whole);
+          others = but-told ∙ sym (tops-of (unpicked (cells b) n) ∙ sym (unpicked-map number (cells b) n) ∙ ap (λ (l : List ℕ). unpicked l n) whole);
           piece = record { held = q .0; less = λ f. omega (arith, q .2 f) };
           rest = record { held = q .1; less = λ f. omega (arith, q .2 f) };
         },
       )
     where
-      but-told : but (members top) (members share) ≡ left (members top) (S .rank)
+      but-told : but (members top) (members share) ≡ unpicked (members top) (S .rank)
       but-told = ap (but (members top)) (S .is) ∙ but-picked 0 (members top) (S .rank) (members-rising top)
 
   pub remaining-none : 2 ^ length (members top) ≤ suc (S .rank) → remaining b (suc (S .rank)) ≡ []

@@ -56,8 +56,8 @@ module _ (t : ℕ) where
   abbrev k : Start → ℕ → List ℕ
   k s = bodyIn (s .args .sets .now)
 
-  abbrev left : Start → List ℕ
-  left s = members (s .args .left)
+  abbrev unseen : Start → List ℕ
+  unseen s = members (s .args .left)
 
   abbrev start : First → Start
   start c = c .before .before .before .before
@@ -65,11 +65,11 @@ module _ (t : ℕ) where
   not-empty : (c : First) → start c .args .left ≡ 0 → ⊥
   not-empty c = some-busy (start c .args .left) (start c .args .busy) (c .before .before .before .intersection .result) (c .before .before .before .intersection .ok) (c .before .before .before .intersection .ensures) (c .before .before .if1 .left)
 
-  first-then-rest : (c : First) → left (start c) ≡ c .first .result ∷ tail (left (start c))
+  first-then-rest : (c : First) → unseen (start c) ≡ c .first .result ∷ tail (unseen (start c))
   first-then-rest c = first-is (start c .args .left) (c .first .result) (start c .fits .left .fits) (not-empty c) (c .first .ensures)
 
   first-low : (c : First) → c .first .result < 64
-  first-low c = first-below (start c .args .left) (c .first .result) (tail (left (start c))) (first-then-rest c)
+  first-low c = first-below (start c .args .left) (c .first .result) (tail (unseen (start c))) (first-then-rest c)
 
   abbrev first : Beside → First
   first c = c .before .before .before
@@ -81,7 +81,7 @@ module _ (t : ℕ) where
   others c = members (c .settle-below .result)
 
   beside : (c : Beside) (σ : Bindings) (w : ℕ → ClosureHead) → Busy σ w (members (start (first c) .args .busy)) → Ambients w (start (first c) .args .numbers .now)
-      → Settles σ (k (start (first c))) (k₁ c) w (tail (left (start (first c)))) (others c) (start (first c) .args .fuel - 1)
+      → Settles σ (k (start (first c))) (k₁ c) w (tail (unseen (start (first c)))) (others c) (start (first c) .args .fuel - 1)
   beside c σ w busy ambients = subst
       (λ (l : List ℕ). Settles σ (k (start (first c))) (k₁ c) w l (others c) (start (first c) .args .fuel - 1))
       (c .before .before .rest .ensures) (c .settle-below .ensures .1 .1 σ w busy ambients)
@@ -90,10 +90,10 @@ module _ (t : ℕ) where
   settle-below-intersection-requires c κs = search needs
 
   settle-below-returns : settle-below-lts.Need-returns (claims t) (settle-below-at t) settle-below.Post
-  settle-below-returns c = (c .before .before .pre .1, (λ j l. refl, λ σ w busy ambients. settle-quiet σ (k (c .before .before)) (k (c .before .before)) w (left (c .before .before)) (left (c .before .before)) (c .before .before .args .fuel) (members-rising (c .before .before .args .left)) (none-busy (c .before .before .args .left) (c .before .before .args .busy) (c .before .intersection .result) (c .before .intersection .ok) (c .before .intersection .ensures) σ w busy (c .if1 .taken)) refl (λ j. refl)))
+  settle-below-returns c = (c .before .before .pre .1, (λ j l. refl, λ σ w busy ambients. settle-quiet σ (k (c .before .before)) (k (c .before .before)) w (unseen (c .before .before)) (unseen (c .before .before)) (c .before .before .args .fuel) (members-rising (c .before .before .args .left)) (none-busy (c .before .before .args .left) (c .before .before .args .busy) (c .before .intersection .result) (c .before .intersection .ok) (c .before .intersection .ensures) σ w busy (c .if1 .taken)) refl (λ j. refl)))
 
   settle-below-returns-2 : settle-below-lts.Need-returns-2 (claims t) (settle-below-at t) settle-below.Post
-  settle-below-returns-2 c = (c .before .before .before .pre .1, (λ j l. refl, λ σ w busy ambients. settle-no-fuel σ (k (c .before .before .before)) (k (c .before .before .before)) w (left (c .before .before .before)) (members 0) (c .before .before .before .args .fuel) _ _ (first-and-rest (c .before .before .before .args .left) (c .before .before .before .fits .left .fits) (some-busy (c .before .before .before .args .left) (c .before .before .before .args .busy) (c .before .before .intersection .result) (c .before .before .intersection .ok) (c .before .before .intersection .ensures) (c .before .if1 .left))) (c .if2 .taken)))
+  settle-below-returns-2 c = (c .before .before .before .pre .1, (λ j l. refl, λ σ w busy ambients. settle-no-fuel σ (k (c .before .before .before)) (k (c .before .before .before)) w (unseen (c .before .before .before)) (members 0) (c .before .before .before .args .fuel) _ _ (first-and-rest (c .before .before .before .args .left) (c .before .before .before .fits .left .fits) (some-busy (c .before .before .before .args .left) (c .before .before .before .args .busy) (c .before .before .intersection .result) (c .before .before .intersection .ok) (c .before .before .intersection .ensures) (c .before .if1 .left))) (c .if2 .taken)))
 
   settle-below-first-requires : settle-below-lts.Need-first-requires (claims t) (settle-below-at t) settle-below.Post
   settle-below-first-requires c κs = search needs
@@ -147,7 +147,7 @@ module _ (t : ℕ) where
           λ j l. getD-set-other (y .last .0) i j (y .result) 0 (λ e. let z : ⊥ = omega (arith, first-low (first c₁)) in z) ∙ y .ensures .1 .0 j l ∙ c₁ .settle-below .ensures .1 .0 j l,
           λ σ w busy ambients.
               let a : isAmbient (w i) ≡ true = sym (ambients i (first-low (c .before .before .before .before .before .before .before .before .before .before .before))) ∙ eq-eqb _ 1 (c .before .if4 .taken) in
-              settle-enters σ (k (c .before .before .before .before .before .before .before .before .before .before .before .before .before .before .before)) (k₁ (c .before .before .before .before .before .before .before .before)) w (left (c .before .before .before .before .before .before .before .before .before .before .before .before .before .before .before)) (others (c .before .before .before .before .before .before .before .before)) (c .before .before .before .before .before .before .before .before .before .before .before .before .before .before .before .args .fuel) i (tail (left (c .before .before .before .before .before .before .before .before .before .before .before .before .before .before .before))) (members (c .with .result)) (first-then-rest (c .before .before .before .before .before .before .before .before .before .before .before)) (beside (c .before .before .before .before .before .before .before .before) σ w busy ambients)
+              settle-enters σ (k (c .before .before .before .before .before .before .before .before .before .before .before .before .before .before .before)) (k₁ (c .before .before .before .before .before .before .before .before)) w (unseen (c .before .before .before .before .before .before .before .before .before .before .before .before .before .before .before)) (others (c .before .before .before .before .before .before .before .before)) (c .before .before .before .before .before .before .before .before .before .before .before .before .before .before .before .args .fuel) i (tail (unseen (c .before .before .before .before .before .before .before .before .before .before .before .before .before .before .before))) (members (c .with .result)) (first-then-rest (c .before .before .before .before .before .before .before .before .before .before .before)) (beside (c .before .before .before .before .before .before .before .before) σ w busy ambients)
               (bodyIn (y .last .0)) (members (y .result)) (y .ensures .1 .1 σ w busy ambients) (bodyIn (set (y .last .0) i (y .result))) (busy-ambient σ (w i) a) a (c .with .ensures)
               (ap members (getD-set-same (y .last .0) i (y .result) 0 (omega (arith, y .ensures .0, first-low (c .before .before .before .before .before .before .before .before .before .before .before))))) (λ j d. sym (ap members (getD-set-other (y .last .0) i j (y .result) 0 d))),
         ),
@@ -167,7 +167,7 @@ module _ (t : ℕ) where
           λ σ w busy ambients.
               let b : busyUnder σ (w i) ≡ true = sym (busy i (first-low (c .before .before .before .before .before .before .before .before .before .before .before))) ∙ sym (c .before .before .before .before .before .before .before .has .ensures) ∙ c .before .before .before .before .before .before .if3 .taken in
               let n : isAmbient (w i) ≡ false = sym (ambients i (first-low (c .before .before .before .before .before .before .before .before .before .before .before))) ∙ ne-eqb _ 1 (c .before .if4 .left) in
-              settle-melts σ (k (c .before .before .before .before .before .before .before .before .before .before .before .before .before .before .before)) (k₁ (c .before .before .before .before .before .before .before .before)) w (left (c .before .before .before .before .before .before .before .before .before .before .before .before .before .before .before)) (others (c .before .before .before .before .before .before .before .before)) (c .before .before .before .before .before .before .before .before .before .before .before .before .before .before .before .args .fuel) i (tail (left (c .before .before .before .before .before .before .before .before .before .before .before .before .before .before .before))) (members (c .union .result)) (first-then-rest (c .before .before .before .before .before .before .before .before .before .before .before)) (beside (c .before .before .before .before .before .before .before .before) σ w busy ambients)
+              settle-melts σ (k (c .before .before .before .before .before .before .before .before .before .before .before .before .before .before .before)) (k₁ (c .before .before .before .before .before .before .before .before)) w (unseen (c .before .before .before .before .before .before .before .before .before .before .before .before .before .before .before)) (others (c .before .before .before .before .before .before .before .before)) (c .before .before .before .before .before .before .before .before .before .before .before .before .before .before .before .args .fuel) i (tail (unseen (c .before .before .before .before .before .before .before .before .before .before .before .before .before .before .before))) (members (c .union .result)) (first-then-rest (c .before .before .before .before .before .before .before .before .before .before .before)) (beside (c .before .before .before .before .before .before .before .before) σ w busy ambients)
               (bodyIn (y .last .0)) (members (y .result)) (y .ensures .1 .1 σ w busy ambients) (busy-spent σ (w i) b n) (c .union .ensures),
         ),
       )
@@ -183,7 +183,7 @@ module _ (t : ℕ) where
           λ j l. c .before .before .before .settle-below .ensures .1 .0 j l,
           λ σ w busy ambients.
               let (bare, amb) = not-busy σ (w i) (sym (busy i (first-low (c .before .before .before .before .before .before))) ∙ sym (c .before .before .has .ensures) ∙ c .before .if3 .left) in
-              settle-keeps σ (k (c .before .before .before .before .before .before .before .before .before .before)) (k₁ (c .before .before .before)) w (left (c .before .before .before .before .before .before .before .before .before .before)) (others (c .before .before .before)) (c .before .before .before .before .before .before .before .before .before .before .args .fuel) i (tail (left (c .before .before .before .before .before .before .before .before .before .before))) (members (c .with2 .result)) (first-then-rest (c .before .before .before .before .before .before)) (beside (c .before .before .before) σ w busy ambients) bare amb (c .with2 .ensures),
+              settle-keeps σ (k (c .before .before .before .before .before .before .before .before .before .before)) (k₁ (c .before .before .before)) w (unseen (c .before .before .before .before .before .before .before .before .before .before)) (others (c .before .before .before)) (c .before .before .before .before .before .before .before .before .before .before .args .fuel) i (tail (unseen (c .before .before .before .before .before .before .before .before .before .before))) (members (c .with2 .result)) (first-then-rest (c .before .before .before .before .before .before)) (beside (c .before .before .before) σ w busy ambients) bare amb (c .with2 .ensures),
         ),
       )
 

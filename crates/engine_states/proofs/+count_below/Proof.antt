@@ -45,26 +45,26 @@ module _ (t : ℕ) where
   abbrev k : Start → ℕ → List ℕ
   k s = bodyIn (s .args .kids .now)
 
-  abbrev left : Start → List ℕ
-  left s = members (s .args .left)
+  abbrev unseen : Start → List ℕ
+  unseen s = members (s .args .left)
 
   abbrev start : First → Start
   start c = c .before .before .before
 
-  first-then-rest : (c : First) → left (start c) ≡ c .first .result ∷ tail (left (start c))
+  first-then-rest : (c : First) → unseen (start c) ≡ c .first .result ∷ tail (unseen (start c))
   first-then-rest c = first-is (start c .args .left) (c .first .result) (start c .fits .left .fits) (c .before .before .if1 .left) (c .first .ensures)
 
   first-low : (c : First) → c .first .result < 64
-  first-low c = first-below (start c .args .left) (c .first .result) (tail (left (start c))) (first-then-rest c)
+  first-low c = first-below (start c .args .left) (c .first .result) (tail (unseen (start c))) (first-then-rest c)
 
-  others : (c : Counted) → c .before .before .before .before .before .before .before .args .fuel - 1 ≤ 64 → CountsParts (k (c .before .before .before .before .before .before .before)) (tail (left (c .before .before .before .before .before .before .before))) (c .before .before .before .before .before .before .before .args .fuel - 1) (c .count-below2 .result)
+  others : (c : Counted) → c .before .before .before .before .before .before .before .args .fuel - 1 ≤ 64 → CountsParts (k (c .before .before .before .before .before .before .before)) (tail (unseen (c .before .before .before .before .before .before .before))) (c .before .before .before .before .before .before .before .args .fuel - 1) (c .count-below2 .result)
   others c few = subst (λ (l : List ℕ). CountsParts (k (c .before .before .before .before .before .before .before)) l (c .before .before .before .before .before .before .before .args .fuel - 1) (c .count-below2 .result)) (c .before .before .before .rest .ensures) (c .count-below2 .ensures .1 few)
 
   count-below-returns : count-below-lts.Need-returns (claims t) (count-below-at t) count-below.Post
-  count-below-returns c = (omega arith, λ few. count-none (k (c .before)) (left (c .before)) (c .before .args .fuel) (ap members (c .if1 .taken) ∙ members-empty))
+  count-below-returns c = (omega arith, λ few. count-none (k (c .before)) (unseen (c .before)) (c .before .args .fuel) (ap members (c .if1 .taken) ∙ members-empty))
 
   count-below-returns-2 : count-below-lts.Need-returns-2 (claims t) (count-below-at t) count-below.Post
-  count-below-returns-2 c = (omega arith, λ few. count-no-fuel (k (c .before .before)) (left (c .before .before)) (c .before .before .args .fuel) (c .if2 .taken))
+  count-below-returns-2 c = (omega arith, λ few. count-no-fuel (k (c .before .before)) (unseen (c .before .before)) (c .before .before .args .fuel) (c .if2 .taken))
 
   count-below-first-requires : count-below-lts.Need-first-requires (claims t) (count-below-at t) count-below.Post
   count-below-first-requires c κs = search needs
@@ -94,7 +94,7 @@ module _ (t : ℕ) where
   count-below-add-if3 c = omega (arith, c .before .count-below .ensures .0, c .count-below2 .ensures .0)
 
   count-below-returns-3 : count-below-lts.Need-returns-3 (claims t) (count-below-at t) count-below.Post
-  count-below-returns-3 c = (omega arith, λ few. count-many (k (c .before .before .before .before .before .before .before .before)) (left (c .before .before .before .before .before .before .before .before)) (c .before .before .before .before .before .before .before .before .args .fuel) (c .before .before .before .before .before .first .result) (c .before .before .count-below .result) (c .before .count-below2 .result) (tail (left (c .before .before .before .before .before .before .before .before))) (first-then-rest (c .before .before .before .before .before)) (c .before .before .count-below .ensures .1 (omega arith)) (others (c .before) (omega arith)) few (c .if3 .taken))
+  count-below-returns-3 c = (omega arith, λ few. count-many (k (c .before .before .before .before .before .before .before .before)) (unseen (c .before .before .before .before .before .before .before .before)) (c .before .before .before .before .before .before .before .before .args .fuel) (c .before .before .before .before .before .first .result) (c .before .before .count-below .result) (c .before .count-below2 .result) (tail (unseen (c .before .before .before .before .before .before .before .before))) (first-then-rest (c .before .before .before .before .before)) (c .before .before .count-below .ensures .1 (omega arith)) (others (c .before) (omega arith)) few (c .if3 .taken))
 
   count-below-add-result : count-below-lts.Need-add-result (claims t) (count-below-at t) count-below.Post
   count-below-add-result c = omega (arith, c .if3 .left)
@@ -103,7 +103,7 @@ module _ (t : ℕ) where
   count-below-add-result-2 c = omega (arith, c .if3 .left)
 
   count-below-returns-4 : count-below-lts.Need-returns-4 (claims t) (count-below-at t) count-below.Post
-  count-below-returns-4 c = (omega (arith, c .if3 .left), λ few. count-part (k (c .before .before .before .before .before .before .before .before)) (left (c .before .before .before .before .before .before .before .before)) (c .before .before .before .before .before .before .before .before .args .fuel) (c .before .before .before .before .before .first .result) (c .before .before .count-below .result) (c .before .count-below2 .result) (tail (left (c .before .before .before .before .before .before .before .before))) (first-then-rest (c .before .before .before .before .before)) (c .before .before .count-below .ensures .1 (omega arith)) (others (c .before) (omega arith)))
+  count-below-returns-4 c = (omega (arith, c .if3 .left), λ few. count-part (k (c .before .before .before .before .before .before .before .before)) (unseen (c .before .before .before .before .before .before .before .before)) (c .before .before .before .before .before .before .before .before .args .fuel) (c .before .before .before .before .before .first .result) (c .before .before .count-below .result) (c .before .count-below2 .result) (tail (unseen (c .before .before .before .before .before .before .before .before))) (first-then-rest (c .before .before .before .before .before)) (c .before .before .count-below .ensures .1 (omega arith)) (others (c .before) (omega arith)))
 
 pub +count-below-spec : {M : Type 1} → statement M
 +count-below-spec =

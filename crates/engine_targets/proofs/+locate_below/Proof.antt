@@ -48,8 +48,8 @@ module _ (t : ℕ) where
   abbrev First : Type 0
   First = locate-below-lts.After-first (claims t) (locate-below-at t) locate-below.Post
 
-  abbrev Rest : Type 0
-  Rest = locate-below-lts.After-rest (claims t) (locate-below-at t) locate-below.Post
+  abbrev AtRest : Type 0
+  AtRest = locate-below-lts.After-rest (claims t) (locate-below-at t) locate-below.Post
 
   abbrev Joined : Type 0
   Joined = locate-below-lts.Joined3 (claims t) (locate-below-at t) locate-below.Post
@@ -57,23 +57,23 @@ module _ (t : ℕ) where
   abbrev k : Start → ℕ → List ℕ
   k s = bodyIn (s .args .kids .now)
 
-  abbrev left : Start → List ℕ
-  left s = members (s .args .left)
+  abbrev unseen : Start → List ℕ
+  unseen s = members (s .args .left)
 
   abbrev start : First → Start
   start c = c .before .before .before
 
-  first-then-rest : (c : First) → left (start c) ≡ c .first .result ∷ tail (left (start c))
+  first-then-rest : (c : First) → unseen (start c) ≡ c .first .result ∷ tail (unseen (start c))
   first-then-rest c = first-is (start c .args .left) (c .first .result) (start c .fits .left .fits) (c .before .before .if1 .left) (c .first .ensures)
 
   first-low : (c : First) → c .first .result < 64
-  first-low c = first-below (start c .args .left) (c .first .result) (tail (left (start c))) (first-then-rest c)
+  first-low c = first-below (start c .args .left) (c .first .result) (tail (unseen (start c))) (first-then-rest c)
 
-  abbrev found₁ : Rest → List ℕ
+  abbrev found₁ : AtRest → List ℕ
   found₁ c = set (start (c .before) .args .found .now) (c .before .first .result) (start (c .before) .args .at)
 
   -- l has the homes when those in the body of the first are written, if it has a name
-  abbrev Through : Rest → List ℕ → Type 0
+  abbrev Through : AtRest → List ℕ → Type 0
   Through c l = (length l ≡ 64) × ((σ : Bindings) (w : ℕ → ClosureHead) → Names σ w (members (start (c .before) .args .named))
       → Enters σ (k (start (c .before))) w (c .before .first .result) (start (c .before) .args .fuel - 1) (placed (found₁ c)) (placed l))
 
@@ -85,7 +85,7 @@ module _ (t : ℕ) where
 
   through : (c : Joined) → Through (c .before .before) (c .if3 .found)
   through c =
-      let r : Rest = c .before .before in
+      let r : AtRest = c .before .before in
       let s : Start = start (r .before) in
       let i : ℕ = r .before .first .result in
       elim (c .if3 .came) [
@@ -94,10 +94,10 @@ module _ (t : ℕ) where
       ]
 
   locate-below-returns : locate-below-lts.Need-returns (claims t) (locate-below-at t) locate-below.Post
-  locate-below-returns c = (c .before .pre .1 .0, λ σ w names. locates-none σ (k (c .before)) w (left (c .before)) (c .before .args .at) (c .before .args .fuel) (placed (c .before .args .found .now)) (ap members (c .if1 .taken) ∙ members-empty))
+  locate-below-returns c = (c .before .pre .1 .0, λ σ w names. locates-none σ (k (c .before)) w (unseen (c .before)) (c .before .args .at) (c .before .args .fuel) (placed (c .before .args .found .now)) (ap members (c .if1 .taken) ∙ members-empty))
 
   locate-below-returns-2 : locate-below-lts.Need-returns-2 (claims t) (locate-below-at t) locate-below.Post
-  locate-below-returns-2 c = (c .before .before .pre .1 .0, λ σ w names. locates-no-fuel σ (k (c .before .before)) w (left (c .before .before)) (c .before .before .args .at) (c .before .before .args .fuel) (placed (c .before .before .args .found .now)) (c .if2 .taken))
+  locate-below-returns-2 c = (c .before .before .pre .1 .0, λ σ w names. locates-no-fuel σ (k (c .before .before)) w (unseen (c .before .before)) (c .before .before .args .at) (c .before .before .args .fuel) (placed (c .before .before .args .found .now)) (c .if2 .taken))
 
   locate-below-first-requires : locate-below-lts.Need-first-requires (claims t) (locate-below-at t) locate-below.Post
   locate-below-first-requires c κs = search needs
@@ -134,12 +134,12 @@ module _ (t : ℕ) where
 
   locate-below-returns-3 : locate-below-lts.Need-returns-3 (claims t) (locate-below-at t) locate-below.Post
   locate-below-returns-3 c =
-      let r : Rest = c .before .before .before .before in
+      let r : AtRest = c .before .before .before .before in
       let s : Start = start (r .before) in
       let i : ℕ = r .before .first .result in
       let after : List ℕ = c .before .before .if3 .found in (
         c .locate-below2 .ensures .0,
-        λ σ w names. locates-first σ (k s) w (left s) (s .args .at) (s .args .fuel) (placed (s .args .found .now)) i (tail (left s)) (placed (found₁ r)) (placed after) (placed (c .locate-below2 .last .0)) (first-then-rest (r .before)) (s .pre .1 .1)
+        λ σ w names. locates-first σ (k s) w (unseen s) (s .args .at) (s .args .fuel) (placed (s .args .found .now)) i (tail (unseen s)) (placed (found₁ r)) (placed after) (placed (c .locate-below2 .last .0)) (first-then-rest (r .before)) (s .pre .1 .1)
             (set-home (s .args .found .now) i (s .args .at) (omega (arith, first-low (r .before), s .pre .1 .0)))
             (through (c .before .before) .1 σ w names)
             (subst (λ (l : List ℕ). Locates σ (k s) w l (s .args .at) (s .args .fuel - 1) (placed after) (placed (c .locate-below2 .last .0))) (r .rest .ensures) (c .locate-below2 .ensures .1 σ w names)),

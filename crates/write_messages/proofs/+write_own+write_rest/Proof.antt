@@ -64,50 +64,50 @@ module _ (t : ℕ) where
 
   -- ---- write_own: the points of the code, and the way from each to those before it
 
-  abbrev Own : (own-lts.Claims → In 8 own-kinds.ps → Out 8 own-kinds.ps own-kinds.r → Type 0) → Type 0
-  Own place = place own-claims own-at write-own.Post
+  abbrev AtOwn : (own-lts.Claims → In 8 own-kinds.ps → Out 8 own-kinds.ps own-kinds.r → Type 0) → Type 0
+  AtOwn place = place own-claims own-at write-own.Post
 
   -- the first word is looked up
-  abbrev own-start : Own own-lts.After-bound → Own own-lts.Start
+  abbrev own-start : AtOwn own-lts.After-bound → AtOwn own-lts.Start
   own-start c = c .before .before .before .before .before .before .before .before .before .before
 
   -- it has a binding: the message of the binding, and the older bindings
-  abbrev older-given : Own own-lts.After-tail3 → Own own-lts.After-given
+  abbrev older-given : AtOwn own-lts.After-tail3 → AtOwn own-lts.After-given
   older-given c = c .before .before .before
 
-  abbrev older-tail : Own own-lts.After-tail3 → Own own-lts.After-tail
+  abbrev older-tail : AtOwn own-lts.After-tail3 → AtOwn own-lts.After-tail
   older-tail c = c .before .before
 
-  abbrev older-found : Own own-lts.After-tail3 → Own own-lts.After-bound
+  abbrev older-found : AtOwn own-lts.After-tail3 → AtOwn own-lts.After-bound
   older-found c = older-given c .before .before
 
-  abbrev end-given : Own own-lts.After-slice-known2 → Own own-lts.After-write-rest
+  abbrev end-given : AtOwn own-lts.After-slice-known2 → AtOwn own-lts.After-write-rest
   end-given c = c .before .before
 
-  abbrev given-older : Own own-lts.After-write-rest → Own own-lts.After-tail3
+  abbrev given-older : AtOwn own-lts.After-write-rest → AtOwn own-lts.After-tail3
   given-older c = c .before .before
 
   -- it has none: PATH is written, and then the word's message
-  abbrev link-else : Own own-lts.After-write-link → Own own-lts.Else1
+  abbrev link-else : AtOwn own-lts.After-write-link → AtOwn own-lts.Else1
   link-else c = c .before .before
 
-  abbrev behind-link : Own own-lts.After-slice-known3 → Own own-lts.After-write-link
+  abbrev behind-link : AtOwn own-lts.After-slice-known3 → AtOwn own-lts.After-write-link
   behind-link c = c .before .before
 
-  abbrev end-more : Own own-lts.After-slice-known4 → Own own-lts.After-write-from
+  abbrev end-more : AtOwn own-lts.After-slice-known4 → AtOwn own-lts.After-write-from
   end-more c = c .before .before
 
-  abbrev more-link : Own own-lts.After-write-from → Own own-lts.After-write-link
+  abbrev more-link : AtOwn own-lts.After-write-from → AtOwn own-lts.After-write-link
   more-link c = behind-link (c .before .before)
 
   -- ---- write_own: what is known at each
 
-  partly-link : (c : Own own-lts.After-write-link) → Partly (own-start (link-else c .before) .args .out .now) (c .write-link .last .1 .0) (c .write-link .result)
+  partly-link : (c : AtOwn own-lts.After-write-link) → Partly (own-start (link-else c .before) .args .out .now) (c .write-link .last .1 .0) (c .write-link .result)
   partly-link c = record { long = omega (arith, own-start (link-else c .before) .good); within = c .write-link .ensures .within; kept = c .write-link .kept .1 .0 }
 
   -- ---- write_own: the needs
 
-  given-requires : Own own-lts.Need-write-rest-requires
+  given-requires : AtOwn own-lts.Need-write-rest-requires
   given-requires c κs =
       let o = c .before in
       let f = older-found o in
@@ -117,7 +117,7 @@ module _ (t : ℕ) where
       let fewer = fewer-older (a .variables .now) (f .bound .result) (older-tail o .tail .ensures) (older-given o .before .if1 .taken) in
       (rank-older _ _ _ _ _ (s .pre .0) fewer (omega (arith, few)), (few, record { counted = older-kept (s .pre .1 .0 .counted) (f .bound .result + 1) (older-tail o .tail .ensures) (o .before .tail2 .ensures) (o .tail3 .ensures); indexed = s .pre .1 .0 .indexed; small = s .pre .1 .0 .small }))
 
-  given-returns : Own own-lts.Need-returns
+  given-returns : AtOwn own-lts.Need-returns
   given-returns c =
       let g = end-given c in
       let o = given-older g in
@@ -127,13 +127,13 @@ module _ (t : ℕ) where
       let own = given-own (a .script .now) (a .variables .now) (a .sources .now) (s .pre .1 .0 .counted .aligned) _ (older-given o .before .if1 .taken) (a .words .now) (first-bound _ _ (f .before .first-word .ensures) (f .bound .ensures)) (older-tail o .tail .ensures) (o .before .tail2 .ensures) (older-given o .given .ensures) in
       wrote-as (ap (λ (l : List Message). strung (indicesIn (a .receipts .now) (a .indices .now)) (a .left) (drop (a .offset) l)) own) (g .write-rest .ensures)
 
-  single-requires : Own own-lts.Need-write-from-requires
+  single-requires : AtOwn own-lts.Need-write-from-requires
   single-requires c κs = let s = own-start (link-else (behind-link (c .before)) .before) in record { room = omega (arith, s .good .1 .0); aligned = s .pre .1 .0 .counted .aligned; indexed = s .pre .1 .0 .indexed }
 
-  single-length : Own own-lts.Need-same-length-2
+  single-length : AtOwn own-lts.Need-same-length-2
   single-length c = let m = end-more c in partly-kept (partly-link (more-link m)) (m .write-from .last .1 .1 .1 .1 .1 .1 .1 .0) (m .write-from .kept .1 .1 .1 .1 .1 .1 .1 .0)
 
-  single-returns : Own own-lts.Need-returns-2
+  single-returns : AtOwn own-lts.Need-returns-2
   single-returns c =
       let m = end-more c in
       let w = more-link m in
@@ -152,73 +152,73 @@ module _ (t : ℕ) where
 
   -- ---- write_rest: the points of the code, and the way from each to those before it
 
-  abbrev Rest : (rest-lts.Claims → In 8 rest-kinds.ps → Out 8 rest-kinds.ps rest-kinds.r → Type 0) → Type 0
-  Rest place = place rest-claims rest-at write-rest.Post
+  abbrev AtRest : (rest-lts.Claims → In 8 rest-kinds.ps → Out 8 rest-kinds.ps rest-kinds.r → Type 0) → Type 0
+  AtRest place = place rest-claims rest-at write-rest.Post
 
-  abbrev known-start : Rest rest-lts.After-slice-known → Rest rest-lts.Start
+  abbrev known-start : AtRest rest-lts.After-slice-known → AtRest rest-lts.Start
   known-start c = c .before .before .before .before .before .before .before .before
 
   -- the items that the first word has of its own are counted, and what stands behind it is found
-  abbrev counted-start : Rest rest-lts.After-own → Rest rest-lts.Start
+  abbrev counted-start : AtRest rest-lts.After-own → AtRest rest-lts.Start
   counted-start c = known-start (c .before .before)
 
-  abbrev rest-start : Rest rest-lts.After-after-own → Rest rest-lts.Start
+  abbrev rest-start : AtRest rest-lts.After-after-own → AtRest rest-lts.Start
   rest-start c = counted-start (c .before)
 
   -- they stand before the offset
-  abbrev end-past : Rest rest-lts.After-slice-known2 → Rest rest-lts.After-write-rest
+  abbrev end-past : AtRest rest-lts.After-slice-known2 → AtRest rest-lts.After-write-rest
   end-past c = c .before .before
 
-  abbrev past-tail : Rest rest-lts.After-write-rest → Rest rest-lts.After-tail
+  abbrev past-tail : AtRest rest-lts.After-write-rest → AtRest rest-lts.After-tail
   past-tail c = c .before .before
 
-  abbrev tail-after : Rest rest-lts.After-tail → Rest rest-lts.After-after-own
+  abbrev tail-after : AtRest rest-lts.After-tail → AtRest rest-lts.After-after-own
   tail-after c = c .before .before
 
   -- they do not: those from the offset on are written
-  abbrev own-else : Rest rest-lts.After-write-own → Rest rest-lts.Else2
+  abbrev own-else : AtRest rest-lts.After-write-own → AtRest rest-lts.Else2
   own-else c = c .before .before
 
-  abbrev else-start : Rest rest-lts.Else2 → Rest rest-lts.Start
+  abbrev else-start : AtRest rest-lts.Else2 → AtRest rest-lts.Start
   else-start c = rest-start (c .before)
 
-  abbrev known-own : Rest rest-lts.After-slice-known3 → Rest rest-lts.After-write-own
+  abbrev known-own : AtRest rest-lts.After-slice-known3 → AtRest rest-lts.After-write-own
   known-own c = c .before .before
 
-  abbrev behind-own : Rest rest-lts.After-tail2 → Rest rest-lts.After-write-own
+  abbrev behind-own : AtRest rest-lts.After-tail2 → AtRest rest-lts.After-write-own
   behind-own c = known-own (c .before .before)
 
-  abbrev end-rest : Rest rest-lts.After-slice-known4 → Rest rest-lts.After-write-rest2
+  abbrev end-rest : AtRest rest-lts.After-slice-known4 → AtRest rest-lts.After-write-rest2
   end-rest c = c .before .before
 
-  abbrev more-behind : Rest rest-lts.After-write-rest2 → Rest rest-lts.After-tail2
+  abbrev more-behind : AtRest rest-lts.After-write-rest2 → AtRest rest-lts.After-tail2
   more-behind c = c .before .before
 
   -- ---- write_rest: what is known at each
 
-  abbrev σ : Rest rest-lts.Start → List (ℕ × Message)
+  abbrev σ : AtRest rest-lts.Start → List (ℕ × Message)
   σ s = bindingsIn (s .args .script .now) (s .args .variables .now) (s .args .sources .now)
 
-  abbrev own-items : Rest rest-lts.After-after-own → List Message
+  abbrev own-items : AtRest rest-lts.After-after-own → List Message
   own-items c = let s = rest-start c in ownItems (σ s) (s .args .words .now)
 
-  counted : (c : Rest rest-lts.After-after-own) → c .before .own .result ≡ capped (length (own-items c))
+  counted : (c : AtRest rest-lts.After-after-own) → c .before .own .result ≡ capped (length (own-items c))
   counted c = let s = rest-start c in c .before .own .ensures (s .args .script .now) (s .args .sources .now) (s .pre .1 .1 .counted)
 
   -- what is pending is the word's own items and those behind them
-  pending-after : (c : Rest rest-lts.After-after-own) {ws : List ℕ} → ws ≡ drop (c .after-own .result .used) (rest-start c .args .words .now)
+  pending-after : (c : AtRest rest-lts.After-after-own) {ws : List ℕ} → ws ≡ drop (c .after-own .result .used) (rest-start c .args .words .now)
       → let s = rest-start c in allItems (σ s) (firsts (s .args .pending) (spelled (s .args .words .now))) ≡ own-items c ++ allItems (σ s) (firsts (c .after-own .result .left) (spelled ws))
   pending-after c e = rw e (c .after-own .ensures .split (σ (rest-start c)))
 
-  partly-own : (c : Rest rest-lts.After-write-own) → Partly (else-start (own-else c) .args .out .now) (c .write-own .last .1 .1 .1 .1 .1 .1 .1 .1 .1 .0) (c .write-own .result)
+  partly-own : (c : AtRest rest-lts.After-write-own) → Partly (else-start (own-else c) .args .out .now) (c .write-own .last .1 .1 .1 .1 .1 .1 .1 .1 .1 .0) (c .write-own .result)
   partly-own c = record { long = omega (arith, else-start (own-else c) .good); within = c .write-own .ensures .within; kept = c .write-own .kept .1 .1 .1 .1 .1 .1 .1 .1 .1 .0 }
 
   -- ---- write_rest: the needs
 
-  none-returns : Rest rest-lts.Need-returns
+  none-returns : AtRest rest-lts.Need-returns
   none-returns c = let s = known-start (c .before) in wrote-none (strung-none _ (s .args .left) (s .args .offset) _ (none-pending (σ s) (s .args .pending) (spelled (s .args .words .now)) (c .if1 .taken)))
 
-  past-requires : Rest rest-lts.Need-write-rest-requires
+  past-requires : AtRest rest-lts.Need-write-rest-requires
   past-requires c κs =
       let n = tail-after (c .before) in
       let s = rest-start n in
@@ -226,17 +226,17 @@ module _ (t : ℕ) where
       let p = n .after-own .ensures in
       (rank-less _ _ _ _ (s .pre .0) (omega (arith, l, p .less)), (omega (arith, l, p .room, s .pre .1 .0), record { counted = s .pre .1 .1 .counted; indexed = s .pre .1 .1 .indexed; small = omega (arith, s .pre .1 .1 .small) }))
 
-  past-returns : Rest rest-lts.Need-returns-2
+  past-returns : AtRest rest-lts.Need-returns-2
   past-returns c =
       let l = past-tail (end-past c) in
       let n = tail-after l in
       let s = rest-start n in
       wrote-as (ap (strung _ (s .args .left)) (drop-past _ (own-items n) _ (s .args .offset) (n .before .own .result) (pending-after n (l .tail .ensures)) (counted n) (l .before .if2 .taken) (omega (arith, s .pre .1 .1 .small)))) (end-past c .write-rest .ensures)
 
-  own-requires : Rest rest-lts.Need-write-own-requires
+  own-requires : AtRest rest-lts.Need-write-own-requires
   own-requires c κs = let e = c .before in let s = else-start e in (rank-less _ _ _ _ (s .pre .0) (omega arith), (s .pre .1 .1, below-count _ _ _ (counted (e .before)) (e .if2 .left)))
 
-  behind-requires : Rest rest-lts.Need-write-rest-requires-2
+  behind-requires : AtRest rest-lts.Need-write-rest-requires-2
   behind-requires c κs =
       let w = behind-own (c .before) in
       let s = else-start (own-else w) in
@@ -244,10 +244,10 @@ module _ (t : ℕ) where
       let p = own-else w .before .after-own .ensures in
       (rank-less _ _ _ _ (s .pre .0) (omega (arith, l, p .less)), (omega (arith, l, p .room, s .pre .1 .0), record { counted = s .pre .1 .1 .counted; indexed = s .pre .1 .1 .indexed; small = omega (arith, s .pre .1 .1 .small, partly-lent (partly-own w)) }))
 
-  behind-length : Rest rest-lts.Need-same-length-2
+  behind-length : AtRest rest-lts.Need-same-length-2
   behind-length c = let m = end-rest c in partly-kept (partly-own (behind-own (more-behind m))) (m .write-rest2 .last .1 .1 .1 .1 .1 .1 .1 .1 .1 .1 .0) (m .write-rest2 .kept .1 .1 .1 .1 .1 .1 .1 .1 .1 .1 .0)
 
-  behind-returns : Rest rest-lts.Need-returns-3
+  behind-returns : AtRest rest-lts.Need-returns-3
   behind-returns c =
       let m = end-rest c in
       let l = more-behind m in

@@ -51,60 +51,60 @@ module _ (t : ℕ) where
 
   -- ---- count_body: the points of the code, and the way from each to those before it
 
-  abbrev Body : (body-lts.Claims → In 1 body-kinds.ps → Out 1 body-kinds.ps body-kinds.r → Type 0) → Type 0
-  Body place = place body-claims body-at count-body.Post
+  abbrev AtBody : (body-lts.Claims → In 1 body-kinds.ps → Out 1 body-kinds.ps body-kinds.r → Type 0) → Type 0
+  AtBody place = place body-claims body-at count-body.Post
 
-  abbrev known-start : Body body-lts.After-shared-slice-known6 → Body body-lts.Start
+  abbrev known-start : AtBody body-lts.After-shared-slice-known6 → AtBody body-lts.Start
   known-start c = c .before .before .before .before .before .before
 
-  abbrev fuel-start : Body body-lts.Then2 → Body body-lts.Start
+  abbrev fuel-start : AtBody body-lts.Then2 → AtBody body-lts.Start
   fuel-start c = known-start (c .before .before)
 
   -- the first part is found
-  abbrev first-else : Body body-lts.After-first → Body body-lts.Else1
+  abbrev first-else : AtBody body-lts.After-first → AtBody body-lts.Else1
   first-else c = c .before .before
 
-  abbrev first-start : Body body-lts.After-first → Body body-lts.Start
+  abbrev first-start : AtBody body-lts.After-first → AtBody body-lts.Start
   first-start c = known-start (first-else c .before)
 
   -- it is counted, and those beside it are left
-  abbrev rest-first : Body body-lts.After-rest → Body body-lts.After-first
+  abbrev rest-first : AtBody body-lts.After-rest → AtBody body-lts.After-first
   rest-first c = c .before .before
 
-  abbrev sum-rest : Body body-lts.After-sum → Body body-lts.After-rest
+  abbrev sum-rest : AtBody body-lts.After-sum → AtBody body-lts.After-rest
   sum-rest c = c .before .before
 
   -- ---- count_body: what is known at each
 
-  abbrev body-heads : Body body-lts.Start → ℕ → ClosureHead
+  abbrev body-heads : AtBody body-lts.Start → ℕ → ClosureHead
   body-heads s = heads (s .args .script .now) (s .args .kinds .now) (s .args .starts .now) (s .args .offsets .now)
 
-  fuel-left : (c : Body body-lts.After-first) → 0 < first-start c .args .fuel
+  fuel-left : (c : AtBody body-lts.After-first) → 0 < first-start c .args .fuel
   fuel-left c = omega (arith, c .before .if2 .left)
 
-  first-then : (c : Body body-lts.After-first) → let m = members (first-start c .args .left) in m ≡ c .first .result ∷ tail m
+  first-then : (c : AtBody body-lts.After-first) → let m = members (first-start c .args .left) in m ≡ c .first .result ∷ tail m
   first-then c = let s = first-start c in first-is (s .args .left) (c .first .result) (s .fits .left .fits) (first-else c .if1 .left) (c .first .ensures)
 
   -- ---- count_body: the needs
 
-  none-returns : Body body-lts.Need-returns
+  none-returns : AtBody body-lts.Need-returns
   none-returns c = let s = known-start (c .before) in counts-none _ (bodyIn (s .args .kids .now)) (body-heads s) _ (s .args .fuel) (ap members (c .if1 .taken) ∙ members-empty)
 
-  fuel-returns : Body body-lts.Need-returns-2
+  fuel-returns : AtBody body-lts.Need-returns-2
   fuel-returns c = let s = fuel-start c in counts-end _ (bodyIn (s .args .kids .now)) (body-heads s) _ (s .args .fuel) (c .if2 .taken)
 
-  part-requires : Body body-lts.Need-count-part-requires
+  part-requires : AtBody body-lts.Need-count-part-requires
   part-requires c κs =
       let s = first-start c in
       (omega (arith, s .pre .0, fuel-left c), (s .pre .1 .0, s .pre .1 .1, first-below (s .args .left) (c .first .result) (tail (members (s .args .left))) (first-then c)))
 
-  rest-requires : Body body-lts.Need-rest-requires
+  rest-requires : AtBody body-lts.Need-rest-requires
   rest-requires c κs = let f = c .before in let s = first-start f in not-none (s .args .left) (s .fits .left .fits) (first-else f .if1 .left)
 
-  beside-requires : Body body-lts.Need-count-body-requires
+  beside-requires : AtBody body-lts.Need-count-body-requires
   beside-requires c κs = let f = rest-first c in let s = first-start f in (omega (arith, s .pre .0, fuel-left f), s .pre .1)
 
-  beside-returns : Body body-lts.Need-returns-3
+  beside-returns : AtBody body-lts.Need-returns-3
   beside-returns c =
       let r = sum-rest c in
       let f = rest-first r in
@@ -117,42 +117,42 @@ module _ (t : ℕ) where
 
   -- ---- count_part: the points of the code, and the way from each to those before it
 
-  abbrev Part : (part-lts.Claims → In 1 part-kinds.ps → Out 1 part-kinds.ps part-kinds.r → Type 0) → Type 0
-  Part place = place part-claims part-at count-part.Post
+  abbrev AtPart : (part-lts.Claims → In 1 part-kinds.ps → Out 1 part-kinds.ps part-kinds.r → Type 0) → Type 0
+  AtPart place = place part-claims part-at count-part.Post
 
-  abbrev kind-start : Part part-lts.After-kind → Part part-lts.Start
+  abbrev kind-start : AtPart part-lts.After-kind → AtPart part-lts.Start
   kind-start c = c .before .before .before .before .before .before .before
 
-  abbrev offset-start : Part part-lts.After-offset → Part part-lts.Start
+  abbrev offset-start : AtPart part-lts.After-offset → AtPart part-lts.Start
   offset-start c = kind-start (c .before .before)
 
   -- the head is counted
-  abbrev has-start : Part part-lts.After-has-body → Part part-lts.Start
+  abbrev has-start : AtPart part-lts.After-has-body → AtPart part-lts.Start
   has-start c = offset-start (c .before .before)
 
   -- the part has a body
-  abbrev inside-start : Part part-lts.After-inside → Part part-lts.Start
+  abbrev inside-start : AtPart part-lts.After-inside → AtPart part-lts.Start
   inside-start c = has-start (c .before .before)
 
-  abbrev sum-then : Part part-lts.After-sum → Part part-lts.Then1
+  abbrev sum-then : AtPart part-lts.After-sum → AtPart part-lts.Then1
   sum-then c = c .before .before .before
 
   -- ---- count_part: the needs
 
-  abbrev part-heads : Part part-lts.Start → ℕ → ClosureHead
+  abbrev part-heads : AtPart part-lts.Start → ℕ → ClosureHead
   part-heads s = heads (s .args .script .now) (s .args .kinds .now) (s .args .starts .now) (s .args .offsets .now)
 
-  head-requires : Part part-lts.Need-count-head-requires
+  head-requires : AtPart part-lts.Need-count-head-requires
   head-requires c κs = let s = offset-start c in (s .pre .1 .0, s .pre .1 .1 .placed (s .args .i), omega (arith, s .pre .1 .1 .spent (s .args .i)))
 
-  inside-returns : Part part-lts.Need-returns
+  inside-returns : AtPart part-lts.Need-returns
   inside-returns c =
       let e = sum-then c in
       let h = e .before in
       let s = has-start h in
       counts-inside _ (bodyIn (s .args .kids .now)) (part-heads s) _ (s .args .fuel) (part-heads s (s .args .i)) (h .before .count-head .ensures) (sym (h .has-body .ensures (s .args .script .now) _ _) ∙ e .if1 .taken) (c .before .count-body .ensures) (c .sum .ensures)
 
-  only-returns : Part part-lts.Need-returns-2
+  only-returns : AtPart part-lts.Need-returns-2
   only-returns c =
       let h = c .before in
       let s = has-start h in

@@ -51,74 +51,74 @@ module _ (t : ℕ) where
 
   -- ---- write_body: the points of the code, and the way from each to those before it
 
-  abbrev Body : (body-lts.Claims → In 2 body-kinds.ps → Out 2 body-kinds.ps body-kinds.r → Type 0) → Type 0
-  Body place = place body-claims body-at write-body.Post
+  abbrev AtBody : (body-lts.Claims → In 2 body-kinds.ps → Out 2 body-kinds.ps body-kinds.r → Type 0) → Type 0
+  AtBody place = place body-claims body-at write-body.Post
 
   -- no part is left, or no fuel: one CLOSE
-  abbrev end-none : Body body-lts.After-slice-known2 → Body body-lts.After-write-word
+  abbrev end-none : AtBody body-lts.After-slice-known2 → AtBody body-lts.After-write-word
   end-none c = c .before .before
 
-  abbrev none-then : Body body-lts.After-write-word → Body body-lts.Then2
+  abbrev none-then : AtBody body-lts.After-write-word → AtBody body-lts.Then2
   none-then c = c .before .before
 
-  abbrev end-fuel : Body body-lts.After-slice-known3 → Body body-lts.After-write-word2
+  abbrev end-fuel : AtBody body-lts.After-slice-known3 → AtBody body-lts.After-write-word2
   end-fuel c = c .before .before
 
-  abbrev fuel-then : Body body-lts.After-write-word2 → Body body-lts.Then3
+  abbrev fuel-then : AtBody body-lts.After-write-word2 → AtBody body-lts.Then3
   fuel-then c = c .before .before
 
   -- the first part is found
-  abbrev first-some : Body body-lts.After-first → Body body-lts.Else2
+  abbrev first-some : AtBody body-lts.After-first → AtBody body-lts.Else2
   first-some c = c .before .before
 
-  abbrev first-start : Body body-lts.After-first → Body body-lts.Start
+  abbrev first-start : AtBody body-lts.After-first → AtBody body-lts.Start
   first-start c = first-some c .before .before .before .before .before .before .before
 
   -- it is written, and those beside it are left
-  abbrev part-first : Body body-lts.After-write-part → Body body-lts.After-first
+  abbrev part-first : AtBody body-lts.After-write-part → AtBody body-lts.After-first
   part-first c = c .before .before
 
-  abbrev body-start : Body body-lts.After-write-part → Body body-lts.Start
+  abbrev body-start : AtBody body-lts.After-write-part → AtBody body-lts.Start
   body-start c = first-start (part-first c)
 
-  abbrev known-part : Body body-lts.After-slice-known4 → Body body-lts.After-write-part
+  abbrev known-part : AtBody body-lts.After-slice-known4 → AtBody body-lts.After-write-part
   known-part c = c .before .before
 
-  abbrev rest-part : Body body-lts.After-rest → Body body-lts.After-write-part
+  abbrev rest-part : AtBody body-lts.After-rest → AtBody body-lts.After-write-part
   rest-part c = known-part (c .before)
 
   -- they are written
-  abbrev end-more : Body body-lts.After-slice-known5 → Body body-lts.After-write-body
+  abbrev end-more : AtBody body-lts.After-slice-known5 → AtBody body-lts.After-write-body
   end-more c = c .before .before
 
-  abbrev more-rest : Body body-lts.After-write-body → Body body-lts.After-rest
+  abbrev more-rest : AtBody body-lts.After-write-body → AtBody body-lts.After-rest
   more-rest c = c .before .before
 
   -- ---- write_body: what is known at each
 
-  fuel-left : (c : Body body-lts.After-first) → 0 < first-start c .args .fuel
+  fuel-left : (c : AtBody body-lts.After-first) → 0 < first-start c .args .fuel
   fuel-left c = omega (arith, c .before .if3 .left)
 
-  first-then : (c : Body body-lts.After-first) → let m = members (first-start c .args .left) in m ≡ c .first .result ∷ tail m
+  first-then : (c : AtBody body-lts.After-first) → let m = members (first-start c .args .left) in m ≡ c .first .result ∷ tail m
   first-then c = let s = first-start c in first-is (s .args .left) (c .first .result) (s .fits .left .fits) (first-some c .if2 .left) (c .first .ensures)
 
-  partly-part : (c : Body body-lts.After-write-part) → Partly (body-start c .args .out .now) (c .write-part .last .1 .1 .1 .1 .1 .1 .1 .1 .1 .1 .1 .1 .0) (c .write-part .result)
+  partly-part : (c : AtBody body-lts.After-write-part) → Partly (body-start c .args .out .now) (c .write-part .last .1 .1 .1 .1 .1 .1 .1 .1 .1 .1 .1 .1 .0) (c .write-part .result)
   partly-part c = record { long = omega (arith, body-start c .good); within = c .write-part .ensures .within; kept = c .write-part .kept .1 .1 .1 .1 .1 .1 .1 .1 .1 .1 .1 .1 .0 }
 
   -- ---- write_body: the needs
 
-  full-returns : Body body-lts.Need-returns
+  full-returns : AtBody body-lts.Need-returns
   full-returns c = writes-full (c .if1 .taken)
 
-  none-returns : Body body-lts.Need-returns-2
+  none-returns : AtBody body-lts.Need-returns-2
   unfolding word
   none-returns c = let w = end-none c in writes-none (ap members (none-then w .if2 .taken) ∙ members-empty) (w .write-word .ensures)
 
-  fuel-returns : Body body-lts.Need-returns-3
+  fuel-returns : AtBody body-lts.Need-returns-3
   unfolding word
   fuel-returns c = let w = end-fuel c in writes-end (fuel-then w .if3 .taken) (w .write-word2 .ensures)
 
-  part-requires : Body body-lts.Need-write-part-requires
+  part-requires : AtBody body-lts.Need-write-part-requires
   part-requires c κs =
       let f = c .before in
       let s = first-start f in
@@ -127,19 +127,19 @@ module _ (t : ℕ) where
         record { counted = s .pre .1 .counted; scripted = s .pre .1 .scripted; right = s .pre .1 .right; deep = omega (arith, s .pre .1 .deep, fuel-left f); part = low; some = omega (arith, first-some f .before .if1 .left); small = s .pre .1 .small },
       )
 
-  rest-requires : Body body-lts.Need-rest-requires
+  rest-requires : AtBody body-lts.Need-rest-requires
   rest-requires c κs = let f = part-first (known-part c) in let s = first-start f in not-none (s .args .left) (s .fits .left .fits) (first-some f .if2 .left)
 
-  beside-requires : Body body-lts.Need-write-body-requires
+  beside-requires : AtBody body-lts.Need-write-body-requires
   beside-requires c κs =
       let p = rest-part (c .before) in
       let s = body-start p in
       (omega (arith, s .pre .0, fuel-left (part-first p)), record { counted = s .pre .1 .counted; scripted = s .pre .1 .scripted; right = s .pre .1 .right; deep = omega (arith, s .pre .1 .deep); small = omega (arith, s .pre .1 .small, partly-lent (partly-part p)) })
 
-  beside-length : Body body-lts.Need-same-length-3
+  beside-length : AtBody body-lts.Need-same-length-3
   beside-length c = let m = end-more c in partly-kept (partly-part (rest-part (more-rest m))) (m .write-body .last .1 .1 .1 .1 .1 .1 .1 .1 .1 .1 .1 .1 .0) (m .write-body .kept .1 .1 .1 .1 .1 .1 .1 .1 .1 .1 .1 .1 .0)
 
-  beside-returns : Body body-lts.Need-returns-4
+  beside-returns : AtBody body-lts.Need-returns-4
   beside-returns c =
       let m = end-more c in
       let r = more-rest m in
@@ -156,68 +156,68 @@ module _ (t : ℕ) where
 
   -- ---- write_part: the points of the code, and the way from each to those before it
 
-  abbrev Part : (part-lts.Claims → In 2 part-kinds.ps → Out 2 part-kinds.ps part-kinds.r → Type 0) → Type 0
-  Part place = place part-claims part-at write-part.Post
+  abbrev AtPart : (part-lts.Claims → In 2 part-kinds.ps → Out 2 part-kinds.ps part-kinds.r → Type 0) → Type 0
+  AtPart place = place part-claims part-at write-part.Post
 
-  abbrev known-start : Part part-lts.After-slice-known → Part part-lts.Start
+  abbrev known-start : AtPart part-lts.After-slice-known → AtPart part-lts.Start
   known-start c = c .before .before .before .before .before
 
-  abbrev read-start : Part part-lts.After-start → Part part-lts.Start
+  abbrev read-start : AtPart part-lts.After-start → AtPart part-lts.Start
   read-start c = known-start (c .before .before)
 
-  abbrev asked-start : Part part-lts.After-write-head-arg → Part part-lts.Start
+  abbrev asked-start : AtPart part-lts.After-write-head-arg → AtPart part-lts.Start
   asked-start c = read-start (c .before .before)
 
   -- the head is written
-  abbrev head-start : Part part-lts.After-write-head → Part part-lts.Start
+  abbrev head-start : AtPart part-lts.After-write-head → AtPart part-lts.Start
   head-start c = asked-start (c .before)
 
-  abbrev has-head : Part part-lts.After-has-body → Part part-lts.After-write-head
+  abbrev has-head : AtPart part-lts.After-has-body → AtPart part-lts.After-write-head
   has-head c = c .before .before .before
 
   -- the part has a body
-  abbrev then-head : Part part-lts.Then1 → Part part-lts.After-write-head
+  abbrev then-head : AtPart part-lts.Then1 → AtPart part-lts.After-write-head
   then-head c = has-head (c .before)
 
-  abbrev around-then : Part part-lts.After-around-body → Part part-lts.Then1
+  abbrev around-then : AtPart part-lts.After-around-body → AtPart part-lts.Then1
   around-then c = c .before .before
 
-  abbrev around-head : Part part-lts.After-around-body → Part part-lts.After-write-head
+  abbrev around-head : AtPart part-lts.After-around-body → AtPart part-lts.After-write-head
   around-head c = then-head (around-then c)
 
-  abbrev end-body : Part part-lts.After-slice-known3 → Part part-lts.After-write-body
+  abbrev end-body : AtPart part-lts.After-slice-known3 → AtPart part-lts.After-write-body
   end-body c = c .before .before
 
-  abbrev body-around : Part part-lts.After-write-body → Part part-lts.After-around-body
+  abbrev body-around : AtPart part-lts.After-write-body → AtPart part-lts.After-around-body
   body-around c = c .before .before
 
   -- ---- write_part: what is known at each
 
-  small : (s : Part part-lts.Start) → s .args .index < 268435456
+  small : (s : AtPart part-lts.Start) → s .args .index < 268435456
   small s = omega (arith, s .pre .1 .some, s .pre .1 .small)
 
-  partly-head : (c : Part part-lts.After-write-head) → Partly (head-start c .args .out .now) (c .write-head .last .1 .1 .1 .1 .1 .1 .1 .1 .0) (c .write-head .result)
+  partly-head : (c : AtPart part-lts.After-write-head) → Partly (head-start c .args .out .now) (c .write-head .last .1 .1 .1 .1 .1 .1 .1 .1 .0) (c .write-head .result)
   partly-head c = record { long = omega (arith, head-start c .good); within = c .write-head .ensures .within; kept = c .write-head .kept .1 .1 .1 .1 .1 .1 .1 .1 .0 }
 
   -- ---- write_part: the needs
 
-  head-requires : Part part-lts.Need-write-head-requires
+  head-requires : AtPart part-lts.Need-write-head-requires
   head-requires c κs = let s = asked-start c in record { counted = s .pre .1 .counted; right = s .pre .1 .right; placed = s .pre .1 .scripted .placed (s .args .i); small = omega (arith, s .pre .1 .scripted .spent (s .args .i), s .pre .1 .small) }
 
-  around-requires : Part part-lts.Need-around-body-requires
+  around-requires : AtPart part-lts.Need-around-body-requires
   around-requires c κs = let s = head-start (then-head (c .before)) in record { right = s .pre .1 .right; room = omega (arith, s .pre .1 .deep); small = small s; placed = s .pre .1 .scripted .placed (s .args .i) }
 
-  body-requires : Part part-lts.Need-write-body-requires
+  body-requires : AtPart part-lts.Need-write-body-requires
   body-requires c κs =
       let e = c .before .around-body .ensures in
       let h = around-head (c .before) in
       let s = head-start h in
       (omega (arith, s .pre .0), record { counted = s .pre .1 .counted; scripted = s .pre .1 .scripted; right = e .right; deep = omega (arith, s .pre .1 .deep, e .room); small = omega (arith, s .pre .1 .small, partly-lent (partly-head h)) })
 
-  body-length : Part part-lts.Need-same-length
+  body-length : AtPart part-lts.Need-same-length
   body-length c = let m = end-body c in partly-kept (partly-head (around-head (body-around m))) (m .write-body .last .1 .1 .1 .1 .1 .1 .1 .1 .1 .1 .1 .1 .0) (m .write-body .kept .1 .1 .1 .1 .1 .1 .1 .1 .1 .1 .1 .1 .0)
 
-  body-returns : Part part-lts.Need-returns
+  body-returns : AtPart part-lts.Need-returns
   body-returns c =
       let m = end-body c in
       let x = body-around m in
@@ -225,7 +225,7 @@ module _ (t : ℕ) where
       let e = around-then x in
       writes-inside (h .write-head .ensures) (sym (e .before .has-body .ensures _ _ _) ∙ e .if1 .taken) (x .around-body .ensures .indices _ _ _) (partly-head h) (m .write-body .ensures)
 
-  only-returns : Part part-lts.Need-returns-2
+  only-returns : AtPart part-lts.Need-returns-2
   only-returns c = writes-only (has-head (c .before) .write-head .ensures) (sym (c .before .has-body .ensures _ _ _) ∙ c .if1 .left)
 
   part-met : {M : Type 1} → part-lts.Closed part-claims part-at write-part.Post M
