@@ -1,5 +1,7 @@
 // What the words of a rule ask of the process that a state represents (document 01, "The rule and its walk"), a state
 // being lent as two arrays and made only where a move or PLACED changes it.
+use base_arrays::put_numbers;
+use base_arrays::put_sets;
 use engine_moves::make_move;
 use engine_settling::place_part;
 use engine_state_arrays::bodies;
@@ -90,7 +92,8 @@ pub fn all_targets<'a>(sets: &'a [u64; 131], numbers: &'a [u32; 481], top: u64) 
     };
     let mut a: usize = 0;
     while a < 64 {
-        found.targets[a] = targets(&kids, numbers[256 + a], sets[65 + a], &homes, a);
+        let aims = targets(&kids, numbers[256 + a], sets[65 + a], &found.homes, a);
+        found.targets[a] = aims;
         a += 1;
     }
     found
@@ -141,45 +144,39 @@ pub fn as_arrays(kinds: [u8; 64], starts: [u32; 64], state: State) -> LentState
     }
 }
 
-// The state after the move of the actor a to its target t, for lending.
-fn after_move<'a>(
+// The lent state, with top as the set of its top parts, after the move of the actor a to its target t; the set of the top parts then.
+fn after_move<'a, 'b>(
     script: &'a [u32],
-    sets: &'a [u64; 131],
-    numbers: &'a [u32; 481],
+    sets: &'b mut [u64; 131],
+    numbers: &'b mut [u32; 481],
     top: u64,
     homes: &'a [usize; 64],
     a: usize,
     t: usize,
-) -> LentState
+) -> u64
     requires { ⌜ (a < 64) × (t < 64) × Lendable (now script) (now sets) (now numbers) top ⌝ }
-    ensures lends { λ r. ⌜ Lendable (now (script .entry)) (r .sets) (r .numbers) (r .top) ⌝ }
-    ensures table { λ r. ⌜ (kindsIn (r .numbers) ≡ kindsIn (now (numbers .entry))) × (startsIn (r .numbers) ≡ startsIn (now (numbers .entry))) ⌝ }
-    ensures made { λ r. ⌜ Moves (now (script .entry)) (kindsIn (now (numbers .entry))) (startsIn (now (numbers .entry))) (stateIn (now (sets .entry)) (now (numbers .entry)) top) (stateIn (r .sets) (r .numbers) (r .top)) (λ i. getD (now (homes .entry)) i 0) a t ⌝ }
+    ensures lends { λ r. ⌜ Lendable (now (script .entry)) (now (sets .exit)) (now (numbers .exit)) r ⌝ }
+    ensures table { λ r. ⌜ (kindsIn (now (numbers .exit)) ≡ kindsIn (now (numbers .entry))) × (startsIn (now (numbers .exit)) ≡ startsIn (now (numbers .entry))) ⌝ }
+    ensures made { λ r. ⌜ Moves (now (script .entry)) (kindsIn (now (numbers .entry))) (startsIn (now (numbers .entry))) (stateIn (now (sets .entry)) (now (numbers .entry)) top) (stateIn (now (sets .exit)) (now (numbers .exit)) r) (λ i. getD (now (homes .entry)) i 0) a t ⌝ }
 {
-    let mut next_sets = *sets;
-    let mut next_numbers = *numbers;
-    next_sets[64] = top;
-    make_move(script, &mut next_sets, &mut next_numbers, homes, a, t);
-    LentState {
-        sets: next_sets,
-        numbers: next_numbers,
-        top: next_sets[64],
-    }
+    sets[64] = top;
+    make_move(script, sets, numbers, homes, a, t);
+    sets[64]
 }
 
-// The state with its top parts as the body of a new part i, an ambient of that name, for lending.
-fn place_within<'a>(
+// The lent state with top as the body of a new part i, an ambient of that name; the set of its top parts then.
+fn place_within<'a, 'b>(
     script: &'a [u32],
-    sets: &'a [u64; 131],
-    numbers: &'a [u32; 481],
+    sets: &'b mut [u64; 131],
+    numbers: &'b mut [u32; 481],
     top: u64,
     i: usize,
     name: u32,
-) -> LentState
+) -> u64
     requires { ⌜ (i < 64) × (name < 536870912) × Lendable (now script) (now sets) (now numbers) top ⌝ }
-    ensures lends { λ r. ⌜ Lendable (now (script .entry)) (r .sets) (r .numbers) (r .top) ⌝ }
-    ensures bound { λ r. ⌜ boundIn (now (script .entry)) (stateIn (r .sets) (r .numbers) (r .top)) ≡ boundIn (now (script .entry)) (stateIn (now (sets .entry)) (now (numbers .entry)) top) ⌝ }
-    ensures placed { λ r. ⌜ ((weight spent : ℕ) (b : Closure) → Represents (now (script .entry)) (kindsIn (now (numbers .entry))) (startsIn (now (numbers .entry))) weight spent (stateIn (now (sets .entry)) (now (numbers .entry)) top) b → timesIn i b ≡ 0 → weight < 64 → Represents (now (script .entry)) (kindsIn (r .numbers)) (startsIn (r .numbers)) (weight + 1) spent (stateIn (r .sets) (r .numbers) (r .top)) (part i (ambient (called name)) b close)) ⌝ }
+    ensures lends { λ r. ⌜ Lendable (now (script .entry)) (now (sets .exit)) (now (numbers .exit)) r ⌝ }
+    ensures bound { λ r. ⌜ boundIn (now (script .entry)) (stateIn (now (sets .exit)) (now (numbers .exit)) r) ≡ boundIn (now (script .entry)) (stateIn (now (sets .entry)) (now (numbers .entry)) top) ⌝ }
+    ensures placed { λ r. ⌜ ((weight spent : ℕ) (b : Closure) → Represents (now (script .entry)) (kindsIn (now (numbers .entry))) (startsIn (now (numbers .entry))) weight spent (stateIn (now (sets .entry)) (now (numbers .entry)) top) b → timesIn i b ≡ 0 → weight < 64 → Represents (now (script .entry)) (kindsIn (now (numbers .exit))) (startsIn (now (numbers .exit))) (weight + 1) spent (stateIn (now (sets .exit)) (now (numbers .exit)) r) (part i (ambient (called name)) b close)) ⌝ }
 {
     let b = from_arrays(sets, numbers, top);
     let kinds = b.kinds;
@@ -187,22 +184,28 @@ fn place_within<'a>(
     let p = place_part(script, kinds, starts, b.state, i, name);
     let with_kind = p.kinds;
     let with_start = p.starts;
-    as_arrays(with_kind, with_start, p.state)
+    let l = as_arrays(with_kind, with_start, p.state);
+    let new_sets = l.sets;
+    let new_numbers = l.numbers;
+    put_sets(sets, 0, &new_sets);
+    put_numbers(numbers, 0, &new_numbers);
+    l.top
 }
 
-// The state after that step, for lending. Moves and PLACED share it, so that it is not put into the frames of a deep walk.
-pub fn next_state<'a>(
+// The lent state, with top as the set of its top parts, after that step; the set of the top parts then. Moves and PLACED
+// share it, so that it is not put into the frames of a deep walk; and it changes what it is lent, which costs no copy.
+pub fn next_state<'a, 'b>(
     script: &'a [u32],
-    sets: &'a [u64; 131],
-    numbers: &'a [u32; 481],
+    sets: &'b mut [u64; 131],
+    numbers: &'b mut [u32; 481],
     top: u64,
     homes: &'a [usize; 64],
     step: Step,
-) -> LentState
+) -> u64
     requires { ⌜ ((a t : ℕ) → step ≡ Move a t → (a < 64) × (t < 64)) × ((i n : ℕ) → step ≡ Place i n → (i < 64) × (n < 536870912)) × Lendable (now script) (now sets) (now numbers) top ⌝ }
-    ensures lends { λ r. ⌜ Lendable (now (script .entry)) (r .sets) (r .numbers) (r .top) ⌝ }
-    ensures made { λ r. ⌜ ((a t : ℕ) → step ≡ Move a t → (kindsIn (r .numbers) ≡ kindsIn (now (numbers .entry))) × (startsIn (r .numbers) ≡ startsIn (now (numbers .entry))) × Moves (now (script .entry)) (kindsIn (now (numbers .entry))) (startsIn (now (numbers .entry))) (stateIn (now (sets .entry)) (now (numbers .entry)) top) (stateIn (r .sets) (r .numbers) (r .top)) (λ i. getD (now (homes .entry)) i 0) a t) ⌝ }
-    ensures placed { λ r. ⌜ ((i n : ℕ) → step ≡ Place i n → (boundIn (now (script .entry)) (stateIn (r .sets) (r .numbers) (r .top)) ≡ boundIn (now (script .entry)) (stateIn (now (sets .entry)) (now (numbers .entry)) top)) × ((weight spent : ℕ) (b : Closure) → Represents (now (script .entry)) (kindsIn (now (numbers .entry))) (startsIn (now (numbers .entry))) weight spent (stateIn (now (sets .entry)) (now (numbers .entry)) top) b → timesIn i b ≡ 0 → weight < 64 → Represents (now (script .entry)) (kindsIn (r .numbers)) (startsIn (r .numbers)) (weight + 1) spent (stateIn (r .sets) (r .numbers) (r .top)) (part i (ambient (called n)) b close))) ⌝ }
+    ensures lends { λ r. ⌜ Lendable (now (script .entry)) (now (sets .exit)) (now (numbers .exit)) r ⌝ }
+    ensures made { λ r. ⌜ ((a t : ℕ) → step ≡ Move a t → (kindsIn (now (numbers .exit)) ≡ kindsIn (now (numbers .entry))) × (startsIn (now (numbers .exit)) ≡ startsIn (now (numbers .entry))) × Moves (now (script .entry)) (kindsIn (now (numbers .entry))) (startsIn (now (numbers .entry))) (stateIn (now (sets .entry)) (now (numbers .entry)) top) (stateIn (now (sets .exit)) (now (numbers .exit)) r) (λ i. getD (now (homes .entry)) i 0) a t) ⌝ }
+    ensures placed { λ r. ⌜ ((i n : ℕ) → step ≡ Place i n → (boundIn (now (script .entry)) (stateIn (now (sets .exit)) (now (numbers .exit)) r) ≡ boundIn (now (script .entry)) (stateIn (now (sets .entry)) (now (numbers .entry)) top)) × ((weight spent : ℕ) (b : Closure) → Represents (now (script .entry)) (kindsIn (now (numbers .entry))) (startsIn (now (numbers .entry))) weight spent (stateIn (now (sets .entry)) (now (numbers .entry)) top) b → timesIn i b ≡ 0 → weight < 64 → Represents (now (script .entry)) (kindsIn (now (numbers .exit))) (startsIn (now (numbers .exit))) (weight + 1) spent (stateIn (now (sets .exit)) (now (numbers .exit)) r) (part i (ambient (called n)) b close))) ⌝ }
 {
     match step {
         Step::Move(a, t) => after_move(script, sets, numbers, top, homes, a, t),

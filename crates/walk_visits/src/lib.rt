@@ -25,7 +25,7 @@ ghost use Rattle.engine_states.specs.Represents.{Ready};
 ghost use Rattle.walk_stages.specs.Visits.{Visitable, Visits as Answers, Looks as Finds, Splits, Walks};
 
 // A visit at the word of the spot, whose depth is among the depths left.
-fn visit<'a>(
+pub fn visit<'a>(
     program: &'a [u32; 768],
     script: &'a [u32],
     sets: &'a [u64; 131],
@@ -260,9 +260,9 @@ fn sometime<'a>(
     requires { ⌜ (spot .at < 256) × (spot .left ≤ 255) × Visitable (now script) (now sets) (now numbers) (spot .top) (spot .somes) limits ⌝ }
     ensures { λ r. ⌜ Finds (now (program .entry)) (now (script .entry)) (now (sets .entry)) (now (numbers .entry)) (now (chosen .entry)) (spot .top) (spot .somes) (spot .left) (spot .at) limits c r 7 ⌝ }
 {
-    let mut unmoved = spot;
-    unmoved.at = spot.at + 1;
-    let w = visit(program, script, sets, numbers, chosen, unmoved, limits, c);
+    let mut there = spot;
+    there.at = spot.at + 1;
+    let w = visit(program, script, sets, numbers, chosen, there, limits, c);
     let Walked::No(c2) = w else {
         return w;
     };
@@ -273,19 +273,11 @@ fn sometime<'a>(
         let a = turn.outer;
         let t = base_sets::first(turn.rest);
         let step = Step::Move(a, t);
-        let s = next_state(script, sets, numbers, spot.top, &found.homes, step);
-        let mut moved = spot;
-        moved.top = s.top;
-        let w2 = visit(
-            program,
-            script,
-            &s.sets,
-            &s.numbers,
-            chosen,
-            moved,
-            limits,
-            now,
-        );
+        let mut s = *sets;
+        let mut n = *numbers;
+        there = spot;
+        there.top = next_state(script, &mut s, &mut n, spot.top, &found.homes, step);
+        let w2 = visit(program, script, &s, &n, chosen, there, limits, now);
         let Walked::No(c3) = w2 else {
             return w2;
         };
@@ -361,20 +353,12 @@ fn placed_in<'a>(
     }
     let nowhere: [usize; 64] = [65; 64];
     let step = Step::Place(i, name);
-    let s = next_state(script, sets, numbers, spot.top, &nowhere, step);
+    let mut s = *sets;
+    let mut n = *numbers;
     let mut inner = spot;
     inner.at = at + 1;
-    inner.top = s.top;
-    visit(
-        program,
-        script,
-        &s.sets,
-        &s.numbers,
-        chosen,
-        inner,
-        limits,
-        c,
-    )
+    inner.top = next_state(script, &mut s, &mut n, spot.top, &nowhere, step);
+    visit(program, script, &s, &n, chosen, inner, limits, c)
 }
 
 // The whole walk of the rule over the process that the state represents.

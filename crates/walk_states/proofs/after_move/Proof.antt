@@ -1,4 +1,4 @@
--- `after_move` meets its contract: the arrays are copied, their top parts set, and the move is made on them. Assumes nothing.
+-- `after_move` meets its contract: the top parts are set, and the move is made. Assumes nothing.
 use mathlib.Core.Path.{refl, subst}
 use native.Mathlib.Omega.{arith}
 use lib.ListN.{getD}
@@ -14,12 +14,13 @@ use Rattle.walk_states.proofs.after_move.Tie as tie
 
 make-move-requires : tie.Need-make-move-requires
 make-move-requires c κs =
-    let x = c .before .before .before .before .before .args in
-    let L = c .before .before .before .before .before .pre .2 in
+    let s = c .before .before .before in
+    let x = s .args in
+    let L = s .pre .2 in
     let k = kindsIn (x .numbers .now) in
     let l = startsIn (x .numbers .now) in (
-      c .before .before .before .before .before .pre .0,
-      c .before .before .before .before .before .pre .1,
+      s .pre .0,
+      s .pre .1,
       lends-set (x .script .now) (x .sets .now) (x .numbers .now) 64 _ (omega arith) (record {
         sets-long = L .sets-long;
         numbers-long = L .numbers-long;
@@ -30,14 +31,14 @@ make-move-requires c κs =
 
 returns : tie.Need-returns
 returns c =
-    let x = c .before .before .before .before .before .before .args in
-    let L = c .before .before .before .before .before .before .pre .2 in
-    let m = c .make-move .ensures in
-    let r = ownState (c .make-move .last .1 .0) (c .make-move .last .1 .1 .0) in (
+    let s = c .before .before .before .before .before in
+    let x = s .args in
+    let m = c .before .make-move .ensures in
+    let r = ownState (c .before .make-move .last .1 .0) (c .before .make-move .last .1 .1 .0) in (
       record { sets-long = m .0 .sets-long; numbers-long = m .0 .numbers-long; small = m .0 .small; ready = m .0 .ready },
       (
         m .1 .0,
-        subst (λ (s : State). Moves (x .script .now) (kindsIn (x .numbers .now)) (startsIn (x .numbers .now)) s r (λ i. getD (x .homes .now) i 0) (x .a) (x .t)) (standing-top (x .sets .now) (x .numbers .now) (x .top) (L .sets-long)) (m .1 .1),
+        subst (λ (z : State). Moves (x .script .now) (kindsIn (x .numbers .now)) (startsIn (x .numbers .now)) z r (λ i. getD (x .homes .now) i 0) (x .a) (x .t)) (standing-top (x .sets .now) (x .numbers .now) (x .top) (s .pre .2 .sets-long)) (m .1 .1),
       ),
     )
 

@@ -17,19 +17,43 @@ enum-known-step : tie.Need-enum-known-step
 enum-known-step c = search needs
 
 after-move-requires : tie.Need-after-move-requires
-after-move-requires c κs = let h = c .before .before .before .before .pre .0 _ _ (c .before .step .given .1) in (h .0, h .1, c .before .before .before .before .pre .2)
+after-move-requires c κs = let s = c .before .before .before .before .before .before in let h = s .pre .0 _ _ (c .before .before .before .step .given .1) in (h .0, h .1, s .pre .2)
 
 enum-known-step-2 : tie.Need-enum-known-step-2
 enum-known-step-2 c = search needs
 
 place-within-requires : tie.Need-place-within-requires
-place-within-requires c κs = let h = c .before .before .before .before .pre .1 _ _ (c .before .step2 .given .1) in (h .0, h .1, c .before .before .before .before .pre .2)
+place-within-requires c κs = let s = c .before .before .before .before .before .before in let h = s .pre .1 _ _ (c .before .before .before .step2 .given .1) in (h .0, h .1, s .pre .2)
 
 returns : tie.Need-returns
-returns c = let x = c .before .before .before .before .before .args in let r = c .after-move .result in let g = c .before .before .step .given .1 in let m = c .after-move .ensures in (m .0, (λ a t e. step-moves (λ (a : ℕ) (t : ℕ). (kindsIn (r .numbers) ≡ kindsIn (x .numbers .now)) × (startsIn (r .numbers) ≡ startsIn (x .numbers .now)) × Moves (x .script .now) (kindsIn (x .numbers .now)) (startsIn (x .numbers .now)) (stateIn (x .sets .now) (x .numbers .now) (x .top)) (stateIn (r .sets) (r .numbers) (r .top)) (λ i. getD (x .homes .now) i 0) a t) _ _ a t (sym g ∙ e) (m .1 .0 .0, m .1 .0 .1, m .1 .1), λ i n e. absurd (step-apart _ _ i n (sym g ∙ e))))
+returns c =
+    let x = c .before .before .before .before .before .before .before .args in
+    let r = c .after-move .result in
+    let sets = c .after-move .last .1 .0 in
+    let numbers = c .after-move .last .1 .1 .0 in
+    let g = c .before .before .before .before .step .given .1 in
+    let m = c .after-move .ensures in (
+      m .0,
+      (
+        λ a t e. step-moves (λ (a : ℕ) (t : ℕ). (kindsIn numbers ≡ kindsIn (x .numbers .now)) × (startsIn numbers ≡ startsIn (x .numbers .now)) × Moves (x .script .now) (kindsIn (x .numbers .now)) (startsIn (x .numbers .now)) (stateIn (x .sets .now) (x .numbers .now) (x .top)) (stateIn sets numbers r) (λ i. getD (x .homes .now) i 0) a t) _ _ a t (sym g ∙ e) (m .1 .0 .0, m .1 .0 .1, m .1 .1),
+        λ i n e. absurd (step-apart _ _ i n (sym g ∙ e)),
+      ),
+    )
 
 returns-2 : tie.Need-returns-2
-returns-2 c = let x = c .before .before .before .before .before .args in let r = c .place-within .result in let g = c .before .before .step2 .given .1 in let m = c .place-within .ensures in (m .0, (λ a t e. absurd (step-apart a t _ _ (sym e ∙ g)), λ i n e. step-placing (λ (i : ℕ) (n : ℕ). (boundIn (x .script .now) (stateIn (r .sets) (r .numbers) (r .top)) ≡ boundIn (x .script .now) (stateIn (x .sets .now) (x .numbers .now) (x .top))) × ((weight spent : ℕ) (b : Closure) → Represents (x .script .now) (kindsIn (x .numbers .now)) (startsIn (x .numbers .now)) weight spent (stateIn (x .sets .now) (x .numbers .now) (x .top)) b → timesIn i b ≡ 0 → weight < 64 → Represents (x .script .now) (kindsIn (r .numbers)) (startsIn (r .numbers)) (weight + 1) spent (stateIn (r .sets) (r .numbers) (r .top)) (part i (ambient (called n)) b close))) _ _ i n (sym g ∙ e) (m .1 .0, m .1 .1)))
+returns-2 c =
+    let x = c .before .before .before .before .before .before .before .args in
+    let r = c .place-within .result in
+    let sets = c .place-within .last .1 .0 in
+    let numbers = c .place-within .last .1 .1 .0 in
+    let g = c .before .before .before .before .step2 .given .1 in
+    let m = c .place-within .ensures in (
+      m .0,
+      (
+        λ a t e. absurd (step-apart a t _ _ (sym e ∙ g)),
+        λ i n e. step-placing (λ (i : ℕ) (n : ℕ). (boundIn (x .script .now) (stateIn sets numbers r) ≡ boundIn (x .script .now) (stateIn (x .sets .now) (x .numbers .now) (x .top))) × ((weight spent : ℕ) (b : Closure) → Represents (x .script .now) (kindsIn (x .numbers .now)) (startsIn (x .numbers .now)) weight spent (stateIn (x .sets .now) (x .numbers .now) (x .top)) b → timesIn i b ≡ 0 → weight < 64 → Represents (x .script .now) (kindsIn numbers) (startsIn numbers) (weight + 1) spent (stateIn sets numbers r) (part i (ambient (called n)) b close))) _ _ i n (sym g ∙ e) (m .1 .0, m .1 .1),
+      ),
+    )
 
 pub next-state-spec : {M : Type 1} → statement M
 next-state-spec =

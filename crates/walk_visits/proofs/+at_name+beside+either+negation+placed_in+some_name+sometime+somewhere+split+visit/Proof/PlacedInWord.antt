@@ -44,14 +44,26 @@ module _ (t : ℕ) where
   pub returns-3 : lts.Need-returns-3 (placed-in-claims t) (placed-in-at t) reads.Post
   returns-3 c = let x = c .before .before .before .before .before .before .before .before .before .args in placed-name (x .program .now) (x .script .now) (x .sets .now) (x .numbers .now) (x .chosen .now) (x .spot .top) (x .spot .somes) (x .spot .left) (x .spot .at) (x .limits) (x .c) (c .before .before .before .before .before .before .before .before .before .pre .1 .2 .few-somes) _ (c .before .before .name-said .ensures) (c .if3 .taken) _
 
-  pub next-state-requires : lts.Need-next-state-requires (placed-in-claims t) (placed-in-at t) reads.Post
-  next-state-requires c κs = (λ b u e. absurd (step-apart b u _ _ (sym e)), λ j n e. step-placing (λ (y : ℕ) (z : ℕ). (y < 64) × (z < 536870912)) _ _ j n e (omega (arith, c .before .before .if2 .left), omega (arith, c .before .if3 .left)), c .before .before .before .before .before .before .before .before .before .before .pre .1 .2 .state)
-
   pub add-inner : lts.Need-add-inner (placed-in-claims t) (placed-in-at t) reads.Post
   add-inner c = search needs
 
+  pub next-state-requires : lts.Need-next-state-requires (placed-in-claims t) (placed-in-at t) reads.Post
+  next-state-requires c κs =
+      let f = c .before .before .before .before .before in
+      (λ b u e. absurd (step-apart b u _ _ (sym e)), λ j n e. step-placing (λ (y : ℕ) (z : ℕ). (y < 64) × (z < 536870912)) _ _ j n e (omega (arith, f .before .if2 .left), omega (arith, f .if3 .left)), f .before .before .before .before .before .before .before .before .before .pre .1 .2 .state)
+
   pub visit-requires : lts.Need-visit-requires (placed-in-claims t) (placed-in-at t) reads.Post
-  visit-requires c κs = (omega (arith, c .before .before .before .before .before .before .before .before .before .before .before .before .before .before .pre .0), (omega (arith, c .before .before .before .before .before .before .before .before .before .before .before .before .before .before .pre .1 .1), visitable-state (c .before .before .before .before .before .before .before .before .before .before .before .before .before .before .pre .1 .2) (c .before .before .before .next-state .ensures .0)))
+  visit-requires c κs =
+      let n = c .before .before in
+      let s = n .before .before .before .before .before .before .before .before .before .before .before .before .before .before .before in
+      (omega (arith, s .pre .0), (omega (arith, s .pre .1 .1), visitable-state (s .pre .1 .2) (n .next-state .ensures .0)))
 
   pub returns-4 : lts.Need-returns-4 (placed-in-claims t) (placed-in-at t) reads.Post
-  returns-4 c = let x = c .before .before .before .before .before .before .before .before .before .before .before .before .before .before .before .args in placed-goes (x .program .now) (x .script .now) (x .sets .now) (x .numbers .now) (x .chosen .now) (x .spot .top) (x .spot .somes) (x .spot .left) (x .spot .at) (x .limits) (x .c) (c .before .before .before .before .before .before .before .before .before .before .before .before .before .before .before .pre .1 .2 .few-somes) _ (c .before .before .before .before .before .before .before .before .name-said .ensures) _ (ap (λ (y : ℕ). x .limits .parts + y) (c .before .before .before .before .before .before .before .before .before .before .before .before .wide .ensures)) _ _ _ (c .before .before .before .before .next-state .ensures .0) (c .before .before .before .before .next-state .ensures .1 .1 _ _ refl .0) (c .before .before .before .before .next-state .ensures .1 .1 _ _ refl .1) _ (c .visit .ensures)
+  returns-4 c =
+      let n = c .before .before .before in
+      let f = n .before .before .before .before .before .before in
+      let s = f .before .before .before .before .before .before .before .before .before in
+      let x = s .args in
+      let m = n .next-state .ensures in
+      placed-goes (x .program .now) (x .script .now) (x .sets .now) (x .numbers .now) (x .chosen .now) (x .spot .top) (x .spot .somes) (x .spot .left) (x .spot .at) (x .limits) (x .c) (s .pre .1 .2 .few-somes) _ (f .before .before .name-said .ensures) _ (ap (λ (y : ℕ). x .limits .parts + y) (f .before .before .before .before .before .before .wide .ensures)) _ _ _
+      (m .0) (m .1 .1 _ _ refl .0) (m .1 .1 _ _ refl .1) _ (c .visit .ensures)

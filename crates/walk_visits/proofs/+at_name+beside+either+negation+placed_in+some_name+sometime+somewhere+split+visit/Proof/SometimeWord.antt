@@ -19,50 +19,116 @@ abbrev pub μ-loop : lts.MeasureT-loop
 μ-loop program script sets numbers chosen spot limits found now₀ turn₀ now turn = length (pairsLeft (found .targets) (limits .limit) (turn .outer) (turn .rest))
 
 module _ (t : ℕ) where
-  pub add-unmoved : lts.Need-add-unmoved (sometime-claims t) (sometime-at t) reads.Post Inv-loop μ-loop
-  add-unmoved c = search needs
+  -- ---- the points of the code, and the way from each to those before it
+
+  abbrev Loop : Type 0
+  Loop = lts.At-loop (sometime-claims t) (sometime-at t) reads.Post Inv-loop μ-loop
+
+  abbrev Next : Type 0
+  Next = lts.After-next-state (sometime-claims t) (sometime-at t) reads.Post Inv-loop μ-loop
+
+  abbrev inner : Loop → lts.After-visit (sometime-claims t) (sometime-at t) reads.Post Inv-loop μ-loop
+  inner c = c .before .before .before .before .before .before .before .before
+
+  abbrev inner-start : lts.After-visit (sometime-claims t) (sometime-at t) reads.Post Inv-loop μ-loop → lts.Start (sometime-claims t) (sometime-at t) reads.Post Inv-loop μ-loop
+  inner-start c = c .before .before .before
+
+  abbrev start : Loop → lts.Start (sometime-claims t) (sometime-at t) reads.Post Inv-loop μ-loop
+  start c = inner-start (inner c)
+
+  abbrev targeted : Loop → lts.After-all-targets (sometime-claims t) (sometime-at t) reads.Post Inv-loop μ-loop
+  targeted c = c .before .before .before .before
+
+  abbrev tested : Next → lts.After-first (sometime-claims t) (sometime-at t) reads.Post Inv-loop μ-loop
+  tested c = c .before .before .before .before .before .before .before
+
+  abbrev again : Next → Loop
+  again c = tested c .before .before .before
+
+  -- ---- the answers
+
+  pub add-there : lts.Need-add-there (sometime-claims t) (sometime-at t) reads.Post Inv-loop μ-loop
+  add-there c = search needs
 
   pub visit-requires : lts.Need-visit-requires (sometime-claims t) (sometime-at t) reads.Post Inv-loop μ-loop
-  visit-requires c κs = (omega (arith, c .before .before .pre .0), (omega (arith, c .before .before .pre .1 .1), c .before .before .pre .1 .2))
+  visit-requires c κs = let s = c .before .before in (omega (arith, s .pre .0), (omega (arith, s .pre .1 .1), s .pre .1 .2))
 
   pub enum-known-w : lts.Need-enum-known-w (sometime-claims t) (sometime-at t) reads.Post Inv-loop μ-loop
   enum-known-w c = search needs
 
   pub returns : lts.Need-returns (sometime-claims t) (sometime-at t) reads.Post Inv-loop μ-loop
-  returns c = let x = c .before .before .before .before .args in sometime-first (x .program .now) (x .script .now) (x .sets .now) (x .numbers .now) (x .chosen .now) (x .spot .top) (x .spot .somes) (x .spot .left) (x .spot .at) (x .limits) (x .c) _ (c .before .visit .ensures) (c .match .keys2)
+  returns c = let x = inner-start (c .before) .args in sometime-first (x .program .now) (x .script .now) (x .sets .now) (x .numbers .now) (x .chosen .now) (x .spot .top) (x .spot .somes) (x .spot .left) (x .spot .at) (x .limits) (x .c) _ (c .before .visit .ensures) (c .match .keys2)
 
   pub all-targets-requires : lts.Need-all-targets-requires (sometime-claims t) (sometime-at t) reads.Post Inv-loop μ-loop
   all-targets-requires c κs = tt
 
   pub turn-from-requires : lts.Need-turn-from-requires (sometime-claims t) (sometime-at t) reads.Post Inv-loop μ-loop
-  turn-from-requires c κs = c .before .before .before .before .before .before .before .before .before .pre .1 .2 .few-numbers
+  turn-from-requires c κs = inner-start (c .before .before .before .before .before .before) .pre .1 .2 .few-numbers
 
   pub loop-holds : lts.Need-loop-holds (sometime-claims t) (sometime-at t) reads.Post Inv-loop μ-loop
-  loop-holds c = let x = c .before .before .before .before .before .before .before .before .before .before .args in (search (c .turn-from .ok, needs), trying-holds (x .program .now) (x .script .now) (x .sets .now) (x .numbers .now) (x .chosen .now) (x .spot .top) (x .spot .somes) (x .spot .left) (x .spot .at) (x .limits) (c .before .before .before .all-targets .result .homes) (c .before .before .before .all-targets .result .targets) (c .before .before .before .all-targets .ensures .0) (c .before .before .before .all-targets .ensures .1) _ _ _ (c .turn-from .ensures))
+  loop-holds c =
+      let f = c .before .before .before in
+      let x = inner-start (c .before .before .before .before .before .before .before) .args in
+      (search (c .turn-from .ok, needs), trying-holds (x .program .now) (x .script .now) (x .sets .now) (x .numbers .now) (x .chosen .now) (x .spot .top) (x .spot .somes) (x .spot .left) (x .spot .at) (x .limits) (f .all-targets .result .homes) (f .all-targets .result .targets) (f .all-targets .ensures .0) (f .all-targets .ensures .1) _ _ _ (c .turn-from .ensures))
 
   pub first-requires : lts.Need-first-requires (sometime-claims t) (sometime-at t) reads.Post Inv-loop μ-loop
   first-requires c κs = search needs
 
+  -- the move that is tried is one of a part below the limit
+  low : (c : lts.After-first (sometime-claims t) (sometime-at t) reads.Post Inv-loop μ-loop) → let l = c .before .before .before in l .loop .turn .outer < start l .args .limits .limit
+  low c = let l = c .before .before .before in let x = start l .args in trying-low (x .program .now) (x .script .now) (x .sets .now) (x .numbers .now) (x .chosen .now) (x .spot .top) (x .spot .somes) (x .spot .left) (x .spot .at) (x .limits) _ _ _ _ _ (l .loop .inv .1) (l .loop .inv .0) (c .before .if1 .taken)
+
   pub next-state-requires : lts.Need-next-state-requires (sometime-claims t) (sometime-at t) reads.Post Inv-loop μ-loop
-  next-state-requires c κs = let x = c .before .before .before .before .before .before .before .before .before .before .before .before .before .before .before .before .args in let a = trying-low (x .program .now) (x .script .now) (x .sets .now) (x .numbers .now) (x .chosen .now) (x .spot .top) (x .spot .somes) (x .spot .left) (x .spot .at) (x .limits) _ _ _ _ _ (c .before .before .before .before .before .loop .inv .1) (c .before .before .before .before .before .loop .inv .0) (c .before .before .before .if1 .taken) in let f = first-low _ _ (c .before .before .before .before .before .loop .inv .0) (c .before .before .before .if1 .taken) (c .before .before .first .ensures) in (λ b u e. step-moves (λ (y : ℕ) (z : ℕ). (y < 64) × (z < 64)) _ _ b u e (omega (arith, a, c .before .before .before .before .before .before .before .before .before .before .before .before .before .before .before .before .pre .1 .2 .few-numbers), f), λ i n e. absurd (step-apart _ _ i n e), c .before .before .before .before .before .before .before .before .before .before .before .before .before .before .before .before .pre .1 .2 .state)
+  next-state-requires c κs =
+      let f = c .before .before .before .before .before .before in
+      let l = f .before .before .before in
+      let s = start l in
+      (λ b u e. step-moves (λ (y : ℕ) (z : ℕ). (y < 64) × (z < 64)) _ _ b u e (omega (arith, low f, s .pre .1 .2 .few-numbers), first-low _ _ (l .loop .inv .0) (f .before .if1 .taken) (f .first .ensures)), λ i n e. absurd (step-apart _ _ i n e), s .pre .1 .2 .state)
 
   pub visit-requires-2 : lts.Need-visit-requires-2 (sometime-claims t) (sometime-at t) reads.Post Inv-loop μ-loop
-  visit-requires-2 c κs = (omega (arith, c .before .before .before .before .before .before .before .before .before .before .before .before .before .before .before .before .before .before .before .before .pre .0), (omega (arith, c .before .before .before .before .before .before .before .before .before .before .before .before .before .before .before .before .before .before .before .before .pre .1 .1), visitable-state (c .before .before .before .before .before .before .before .before .before .before .before .before .before .before .before .before .before .before .before .before .pre .1 .2) (c .before .before .before .next-state .ensures .0)))
+  visit-requires-2 c κs =
+      let n = c .before .before in
+      let s = start (again n) in
+      (omega (arith, s .pre .0), (omega (arith, s .pre .1 .1), visitable-state (s .pre .1 .2) (n .next-state .ensures .0)))
 
   pub enum-known-w2 : lts.Need-enum-known-w2 (sometime-claims t) (sometime-at t) reads.Post Inv-loop μ-loop
   enum-known-w2 c = search needs
 
   pub returns-2 : lts.Need-returns-2 (sometime-claims t) (sometime-at t) reads.Post Inv-loop μ-loop
-  returns-2 c = let x = c .before .before .before .before .before .before .before .before .before .before .before .before .before .before .before .before .before .before .before .before .before .before .args in sometime-then (x .program .now) (x .script .now) (x .sets .now) (x .numbers .now) (x .chosen .now) (x .spot .top) (x .spot .somes) (x .spot .left) (x .spot .at) (x .limits) (x .c) _ (c .before .before .before .before .before .before .before .before .before .before .before .before .before .before .before .before .before .before .before .visit .ensures) _ (c .before .before .before .before .before .before .before .before .before .before .before .before .before .before .before .before .before .w .given .1) _ (trying-stops (x .program .now) (x .script .now) (x .sets .now) (x .numbers .now) (x .chosen .now) (x .spot .top) (x .spot .somes) (x .spot .left) (x .spot .at) (x .limits) (c .before .before .before .before .before .before .before .before .before .before .before .before .before .before .before .all-targets .result .homes) (c .before .before .before .before .before .before .before .before .before .before .before .before .before .before .before .all-targets .result .targets) (c .before .before .before .before .before .before .before .before .before .before .before .before .before .before .before .all-targets .ensures .0) (c .before .before .before .before .before .before .before .before .before .before .before .before .before .before .before .all-targets .ensures .1) _ _ _ _ _ (c .before .before .before .before .before .before .before .before .before .before .before .loop .inv .1) (c .before .before .before .before .before .before .before .before .before .before .before .loop .inv .0) (c .before .before .before .before .before .before .before .before .before .if1 .taken) (c .before .before .before .before .before .before .before .before .first .ensures) _ _ _ (c .before .before .before .before .before .next-state .ensures .0) (c .before .before .before .before .before .next-state .ensures .1 .0 _ _ refl .0) (c .before .before .before .before .before .next-state .ensures .1 .0 _ _ refl .1) (c .before .before .before .before .before .next-state .ensures .1 .0 _ _ refl .2) _ (c .before .visit2 .ensures) (c .match2 .keys2))
+  returns-2 c =
+      let n = c .before .before .before .before in
+      let l = again n in
+      let f = targeted l .all-targets in
+      let m = n .next-state .ensures in
+      let x = start l .args in
+      sometime-then (x .program .now) (x .script .now) (x .sets .now) (x .numbers .now) (x .chosen .now) (x .spot .top) (x .spot .somes) (x .spot .left) (x .spot .at) (x .limits) (x .c) _ (inner l .visit .ensures) _ (l .before .before .before .before .before .before .w .given .1) _
+      (trying-stops (x .program .now) (x .script .now) (x .sets .now) (x .numbers .now) (x .chosen .now) (x .spot .top) (x .spot .somes) (x .spot .left) (x .spot .at) (x .limits) (f .result .homes) (f .result .targets) (f .ensures .0) (f .ensures .1) _ _ _ _ _ (l .loop .inv .1) (l .loop .inv .0) (tested n .before .if1 .taken) (tested n .first .ensures) _ _ _
+      (m .0) (m .1 .0 _ _ refl .0) (m .1 .0 _ _ refl .1) (m .1 .0 _ _ refl .2) _ (c .before .visit2 .ensures) (c .match2 .keys2))
 
   pub next-turn-requires : lts.Need-next-turn-requires (sometime-claims t) (sometime-at t) reads.Post Inv-loop μ-loop
-  next-turn-requires c κs = let x = c .before .before .before .before .before .before .before .before .before .before .before .before .before .before .before .before .before .before .before .before .before .before .before .before .before .before .args in (c .before .before .before .before .before .before .before .before .before .before .before .before .before .before .before .before .before .before .before .before .before .before .before .before .before .before .pre .1 .2 .few-numbers, c .before .before .before .before .before .before .before .before .before .before .before .before .before .if1 .taken, trying-low (x .program .now) (x .script .now) (x .sets .now) (x .numbers .now) (x .chosen .now) (x .spot .top) (x .spot .somes) (x .spot .left) (x .spot .at) (x .limits) _ _ _ _ _ (c .before .before .before .before .before .before .before .before .before .before .before .before .before .before .before .loop .inv .1) (c .before .before .before .before .before .before .before .before .before .before .before .before .before .before .before .loop .inv .0) (c .before .before .before .before .before .before .before .before .before .before .before .before .before .if1 .taken))
+  next-turn-requires c κs = let f = tested (c .before .before .before .before .before .before .before .before) in (start (f .before .before .before) .pre .1 .2 .few-numbers, f .before .if1 .taken, low f)
 
   pub loop-less : lts.Need-loop-less (sometime-claims t) (sometime-at t) reads.Post Inv-loop μ-loop
-  loop-less c = let x = c .before .before .before .before .before .before .before .before .before .before .before .before .before .before .before .before .before .before .before .before .before .before .before .before .before .before .before .args in trying-less (x .program .now) (x .script .now) (x .sets .now) (x .numbers .now) (x .chosen .now) (x .spot .top) (x .spot .somes) (x .spot .left) (x .spot .at) (x .limits) _ _ _ _ _ (c .before .before .before .before .before .before .before .before .before .before .before .before .before .before .before .before .loop .inv .1) (c .before .before .before .before .before .before .before .before .before .before .before .before .before .before .before .before .loop .inv .0) (c .before .before .before .before .before .before .before .before .before .before .before .before .before .before .if1 .taken) _ _ (c .next-turn .ensures)
+  loop-less c =
+      let n = c .before .before .before .before .before .before .before .before .before in
+      let l = again n in
+      let x = start l .args in
+      trying-less (x .program .now) (x .script .now) (x .sets .now) (x .numbers .now) (x .chosen .now) (x .spot .top) (x .spot .somes) (x .spot .left) (x .spot .at) (x .limits) _ _ _ _ _ (l .loop .inv .1) (l .loop .inv .0) (tested n .before .if1 .taken) _ _ (c .next-turn .ensures)
 
   pub loop-again : lts.Need-loop-again (sometime-claims t) (sometime-at t) reads.Post Inv-loop μ-loop
-  loop-again c = let x = c .before .before .before .before .before .before .before .before .before .before .before .before .before .before .before .before .before .before .before .before .before .before .before .before .before .before .before .args in (search (c .next-turn .ok, needs), trying-again (x .program .now) (x .script .now) (x .sets .now) (x .numbers .now) (x .chosen .now) (x .spot .top) (x .spot .somes) (x .spot .left) (x .spot .at) (x .limits) (c .before .before .before .before .before .before .before .before .before .before .before .before .before .before .before .before .before .before .before .before .all-targets .result .homes) (c .before .before .before .before .before .before .before .before .before .before .before .before .before .before .before .before .before .before .before .before .all-targets .result .targets) (c .before .before .before .before .before .before .before .before .before .before .before .before .before .before .before .before .before .before .before .before .all-targets .ensures .0) (c .before .before .before .before .before .before .before .before .before .before .before .before .before .before .before .before .before .before .before .before .all-targets .ensures .1) _ _ _ _ _ (c .before .before .before .before .before .before .before .before .before .before .before .before .before .before .before .before .loop .inv .1) (c .before .before .before .before .before .before .before .before .before .before .before .before .before .before .before .before .loop .inv .0) (c .before .before .before .before .before .before .before .before .before .before .before .before .before .before .if1 .taken) (c .before .before .before .before .before .before .before .before .before .before .before .before .before .first .ensures) _ _ _ (c .before .before .before .before .before .before .before .before .before .before .next-state .ensures .0) (c .before .before .before .before .before .before .before .before .before .before .next-state .ensures .1 .0 _ _ refl .0) (c .before .before .before .before .before .before .before .before .before .before .next-state .ensures .1 .0 _ _ refl .1) (c .before .before .before .before .before .before .before .before .before .before .next-state .ensures .1 .0 _ _ refl .2) _ (c .before .before .before .before .before .before .visit2 .ensures) _ (c .before .before .before .before .w2 .given .1) _ _ (c .next-turn .ensures))
+  loop-again c =
+      let n = c .before .before .before .before .before .before .before .before .before in
+      let l = again n in
+      let f = targeted l .all-targets in
+      let m = n .next-state .ensures in
+      let x = start l .args in (
+        search (c .next-turn .ok, needs),
+        trying-again (x .program .now) (x .script .now) (x .sets .now) (x .numbers .now) (x .chosen .now) (x .spot .top) (x .spot .somes) (x .spot .left) (x .spot .at) (x .limits) (f .result .homes) (f .result .targets) (f .ensures .0) (f .ensures .1) _ _ _ _ _ (l .loop .inv .1) (l .loop .inv .0) (tested n .before .if1 .taken) (tested n .first .ensures) _ _ _
+            (m .0) (m .1 .0 _ _ refl .0) (m .1 .0 _ _ refl .1) (m .1 .0 _ _ refl .2) _ (c .before .before .before .before .before .before .visit2 .ensures) _ (c .before .before .before .before .w2 .given .1) _ _ (c .next-turn .ensures),
+      )
 
   pub returns-3 : lts.Need-returns-3 (sometime-claims t) (sometime-at t) reads.Post Inv-loop μ-loop
-  returns-3 c = let x = c .before .before .before .before .before .before .before .before .before .before .before .before .before .args in sometime-then (x .program .now) (x .script .now) (x .sets .now) (x .numbers .now) (x .chosen .now) (x .spot .top) (x .spot .somes) (x .spot .left) (x .spot .at) (x .limits) (x .c) _ (c .before .before .before .before .before .before .before .before .before .before .visit .ensures) _ (c .before .before .before .before .before .before .before .before .w .given .1) _ (trying-ends (x .program .now) (x .script .now) (x .sets .now) (x .numbers .now) (x .chosen .now) (x .spot .top) (x .spot .somes) (x .spot .left) (x .spot .at) (x .limits) _ _ _ _ _ (c .before .before .loop .inv .1) (c .if1 .left))
+  returns-3 c =
+      let l = c .before .before in
+      let x = start l .args in
+      sometime-then (x .program .now) (x .script .now) (x .sets .now) (x .numbers .now) (x .chosen .now) (x .spot .top) (x .spot .somes) (x .spot .left) (x .spot .at) (x .limits) (x .c) _ (inner l .visit .ensures) _ (l .before .before .before .before .before .before .w .given .1) _ (trying-ends (x .program .now) (x .script .now) (x .sets .now) (x .numbers .now) (x .chosen .now) (x .spot .top) (x .spot .somes) (x .spot .left) (x .spot .at) (x .limits) _ _ _ _ _ (l .loop .inv .1) (c .if1 .left))
