@@ -138,17 +138,17 @@ unfolding keep unpicked picked elem
 but-picked b [] k r = refl
 but-picked b (x ∷ l) k r = go (isOdd k) (but-picked (suc x) l (k / 2) (r .1))
   where
-    P : List ℕ
-    P = picked l (k / 2)
+    taken : List ℕ
+    taken = picked l (k / 2)
 
-    go : (t : Bool) → but l P ≡ unpicked l (k / 2) → keepIf (not (elem x (putIf t x P))) x (but l (putIf t x P)) ≡ putIf (not t) x (unpicked l (k / 2))
+    go : (t : Bool) → but l taken ≡ unpicked l (k / 2) → keepIf (not (elem x (putIf t x taken))) x (but l (putIf t x taken)) ≡ putIf (not t) x (unpicked l (k / 2))
     go true ih =
-        ap (λ (u : Bool). keepIf (not (u || elem x P)) x (but l (x ∷ P))) (eq-eqb x x refl)
-        ∙ keep-above (λ j. not (elem j (x ∷ P))) (λ j. not (elem j P)) (suc x) l (r .1)
-        (λ j u. ap (λ (t : Bool). not (t || elem j P)) (ne-eqb j x (λ e. omega arith)))
+        ap (λ (u : Bool). keepIf (not (u || elem x taken)) x (but l (x ∷ taken))) (eq-eqb x x refl)
+        ∙ keep-above (λ j. not (elem j (x ∷ taken))) (λ j. not (elem j taken)) (suc x) l (r .1)
+        (λ j u. ap (λ (t : Bool). not (t || elem j taken)) (ne-eqb j x (λ e. omega arith)))
         ∙ ih
     go false ih =
-        ap (λ (u : Bool). keepIf (not u) x (but l P)) (elem-below (suc x) x P (picked-rising (suc x) l (k / 2) (r .1)) (omega arith))
+        ap (λ (u : Bool). keepIf (not u) x (but l taken)) (elem-below (suc x) x taken (picked-rising (suc x) l (k / 2) (r .1)) (omega arith))
         ∙ ap (λ (t : List ℕ). x ∷ t) ih
 
 -- THEOREM: the sum of 2 ^ i over a share is below that over the next: the shares come in rising order of it.

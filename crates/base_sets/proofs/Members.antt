@@ -168,20 +168,20 @@ unfolding keep numbersFrom joined
 joined-span p q b zero = refl
 joined-span p q b (suc d) = go (p b) (q b) (joined-span p q (suc b) d)
   where
-    P : List ℕ
-    P = keep p (numbersFrom (suc b) d)
+    kept-p : List ℕ
+    kept-p = keep p (numbersFrom (suc b) d)
 
-    Q : List ℕ
-    Q = keep q (numbersFrom (suc b) d)
+    kept-q : List ℕ
+    kept-q = keep q (numbersFrom (suc b) d)
 
-    J : List ℕ
-    J = keep (λ x. p x || q x) (numbersFrom (suc b) d)
+    kept-either : List ℕ
+    kept-either = keep (λ x. p x || q x) (numbersFrom (suc b) d)
 
-    go : (t u : Bool) → J ≡ joined P Q → keepIf (t || u) b J ≡ joined (keepIf t b P) (keepIf u b Q)
+    go : (t u : Bool) → kept-either ≡ joined kept-p kept-q → keepIf (t || u) b kept-either ≡ joined (keepIf t b kept-p) (keepIf u b kept-q)
     go true true ih =
-        ap (λ (l : List ℕ). b ∷ l) ih ∙ sym (ap (inserted b) (joined-past b P Q (keep-rising p (suc b) d)) ∙ inserted-same b b (joined P Q) refl)
-    go true false ih = sym (ap (inserted b) (sym ih) ∙ inserted-front b J (keep-rising (λ x. p x || q x) (suc b) d))
-    go false true ih = ap (λ (l : List ℕ). b ∷ l) ih ∙ sym (joined-past b P Q (keep-rising p (suc b) d))
+        ap (λ (l : List ℕ). b ∷ l) ih ∙ sym (ap (inserted b) (joined-past b kept-p kept-q (keep-rising p (suc b) d)) ∙ inserted-same b b (joined kept-p kept-q) refl)
+    go true false ih = sym (ap (inserted b) (sym ih) ∙ inserted-front b kept-either (keep-rising (λ x. p x || q x) (suc b) d))
+    go false true ih = ap (λ (l : List ℕ). b ∷ l) ih ∙ sym (joined-past b kept-p kept-q (keep-rising p (suc b) d))
     go false false ih = ih
 
 -- ---- the same of sets

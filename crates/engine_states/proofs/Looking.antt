@@ -82,12 +82,12 @@ not-named named names i e = byTest (elem i (members named))
     (λ t. absurd (called-is (getD names i 0) (rw t at e)))
     (λ t. t)
   where
-    called : Named → Type 0
-    called (Called n) = Unit {0}
-    called Nameless = ⊥
+    IsCalled : Named → Type 0
+    IsCalled (Called n) = Unit {0}
+    IsCalled Nameless = ⊥
 
     called-is : (n : ℕ) → Called n ≡ Nameless → ⊥
-    called-is n q = subst called q tt
+    called-is n q = subst IsCalled q tt
 
 pub filled-none : (n : ℕ → Named) (named : ℕ) (names : List ℕ) → members named ≡ [] → Filled n 0 named names
 unfolding nameIn elem

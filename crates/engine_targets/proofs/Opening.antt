@@ -56,11 +56,11 @@ module _ (σ : Bindings) (k : ℕ → List ℕ) (w : ℕ → ClosureHead) (a t :
     open-not e = rw (There .found, A .found, e)
 
     -- ---- OPEN
-    abbrev both : Closure
-    both = mergeParts (There .room) (removePart t here)
+    abbrev merged : Closure
+    merged = mergeParts (There .room) (removePart t here)
 
     abbrev pub opened : MoveMade Action
-    opened = quiet (spend (viewUnder σ) a both)
+    opened = quiet (spend (viewUnder σ) a merged)
 
     pub open-is : mayOpen σ (w a) (w t) ≡ true → openMove (viewUnder σ) a t here ≡ some opened
     unfolding openMove _>>=_ check
@@ -97,15 +97,15 @@ module _ (σ : Bindings) (k : ℕ → List ℕ) (w : ℕ → ClosureHead) (a t :
       -- the ambient goes, its body stays, and the actor's first item is spent
       pub open-change : Spent σ w w′ a → (a ≡ t → ⊥) → k′ b ≡ joined (k t) (removed t (k b)) → Change σ k w t g needs b here k′ w′ opened
       open-change spent two joins =
-          let held-both : Held k w both = held-merge k w (There .room) (removePart t here) (There .held) (held-removePart k w t here held) in
-          let less : (i : ℕ) → timesIn i both ≤ timesIn i here = λ i. omega (arith, merge-total (λ j h. oneIf (eqb i j)) (There .room) (removePart t here), find-total (λ j h. oneIf (eqb i j)) t here (w t, There .room) (There .found)) in
+          let held-both : Held k w merged = held-merge k w (There .room) (removePart t here) (There .held) (held-removePart k w t here held) in
+          let less : (i : ℕ) → timesIn i merged ≤ timesIn i here = λ i. omega (arith, merge-total (λ j h. oneIf (eqb i j)) (There .room) (removePart t here), find-total (λ j h. oneIf (eqb i j)) t here (w t, There .room) (There .found)) in
           let kept : elem a (removed t (tops here)) ≡ true = elem-remove a t (tops here) ∙ rw (ne-eqb t a (λ e. two (sym e))) beside in
-          let on-top : elem a (tops both) ≡ true = ap (elem a) (tops-merge (There .room) (removePart t here) ∙ ap (joined (tops (There .room))) (tops-removePart t here)) ∙ elem-joined a (tops (There .room)) (removed t (tops here)) ∙ or-right (elem a (tops (There .room))) (elem a (removed t (tops here))) kept in
+          let on-top : elem a (tops merged) ≡ true = ap (elem a) (tops-merge (There .room) (removePart t here) ∙ ap (joined (tops (There .room))) (tops-removePart t here)) ∙ elem-joined a (tops (There .room)) (removed t (tops here)) ∙ or-right (elem a (tops (There .room))) (elem a (removed t (tops here))) kept in
           let at-a : 1 ≤ timesIn a here = in-times a here beside in
           record {
             own = joins ∙ (λ j. joined (There .own j) (removed t (own j))) ∙ ap (joined (tops (There .room))) (sym (tops-removePart t here)) ∙ sym (tops-merge (There .room) (removePart t here))
-                ∙ sym (tops-alter a (spentHead (viewUnder σ)) (λ s. s) both);
-            held = held-spend σ k k′ w w′ a both spent held-both on-top (omega (arith, less a, once a)) (λ i l. stays i (omega (arith, less i)));
+                ∙ sym (tops-alter a (spentHead (viewUnder σ)) (λ s. s) merged);
+            held = held-spend σ k k′ w w′ a merged spent held-both on-top (omega (arith, less a, once a)) (λ i l. stays i (omega (arith, less i)));
             head = spent .others b (λ e. numbers-differ a b here at-a apart (sym e));
             rest = λ i n z. (bodies i n, spent .others i (λ e. numbers-differ a i here at-a z (sym e)));
           }

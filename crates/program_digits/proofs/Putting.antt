@@ -5,7 +5,7 @@ use mathlib.Core.Path.{_≡_, refl, sym, ap, _∙_, subst}
 use native.Mathlib.Numerals.{add-one}
 use native.Mathlib.Omega.{arith}
 use lib.ListN.{length, take, set, getD, length-append, length-set}
-use lib.Seq.{take-suc, take-suc-set, take-all}
+use lib.Seq.{take-suc, take-suc-set}
 use Rattle.program_digits.specs.Digits.{Puts}
 
 -- nothing
@@ -46,7 +46,3 @@ next-is p n l = sym (ap (λ (k : ℕ). take k p) (add-one n) ∙ take-suc p n 0 
 
 pub puts-next : {a b c : List ℕ} {i j k : ℕ} (p : List ℕ) (n : ℕ) → n < length p → Puts a b i j (take n p) → Puts b c j k (getD p n 0 ∷ []) → Puts a c i k (take (n + 1) p)
 puts-next p n l x y = puts-as (next-is p n l) (puts-more x y)
-
--- all of them
-pub whole : (p : List ℕ) (n : ℕ) → length p ≤ n → take n p ≡ p
-whole p n l = take-all n p l

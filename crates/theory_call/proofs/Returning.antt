@@ -304,11 +304,11 @@ body-back K (part k (Head.output m) b r) x = output-back m (x .0 .1) k b r (body
 pub read-back : (K : ℕ → Type 0) (b : Plain) → Fits K Fitting b → Closed (process b) → (p : Script × Cursor) → readScript (write [] 0 b) ≡ got p → written (p .0) ≅ process b
 unfolding readScript newIndex
 read-back K b x o =
-    bind-all P (ask 1 0 (leb 1 (length ws) && leb (length ws) 1024)) _
-    (λ u e₁. bind-all P (readBody (length ws) 0 [] (cursor 0 0 ws)) _
-    (λ q e₂. bind-all P (ask 5 (q .1 .index) (isEmpty (q .1 .left))) _
-    (λ _ _. bind-all P (ask 6 0 (leb (q .1 .number) 64)) _
-    (λ _ _. got-all P q
+    bind-all Says (ask 1 0 (leb 1 (length ws) && leb (length ws) 1024)) _
+    (λ u e₁. bind-all Says (readBody (length ws) 0 [] (cursor 0 0 ws)) _
+    (λ q e₂. bind-all Says (ask 5 (q .1 .index) (isEmpty (q .1 .left))) _
+    (λ _ _. bind-all Says (ask 6 0 (leb (q .1 .number) 64)) _
+    (λ _ _. got-all Says q
     (let few : 0 + length ws ≤ 268435456 = omega (arith, short ws u e₁) in
     let y = body-back K b x [] (λ v. let z : 0 < 268435456 = omega arith in z) (length ws) 0 [] (cursor 0 0 ws) 0 [] refl (sym (append-nil ws)) few q e₂ in
     let n : ℕ = highest (written (q .0)) + highest (process b) in
@@ -317,8 +317,8 @@ read-back K b x o =
     ws : List ℕ
     ws = write [] 0 b
 
-    P : Script × Cursor → Type 0
-    P p = written (p .0) ≅ process b
+    Says : Script × Cursor → Type 0
+    Says p = written (p .0) ≅ process b
 
 -- ---- the call
 

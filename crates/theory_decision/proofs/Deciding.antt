@@ -106,51 +106,51 @@ of-next : {b c d : Plain} → Next b c → Reaches c d → Reaches b d
 of-next {b} {c} {d} x r = go (x .0) (x .1) (x .2) (x .3) (subst (λ (y : Plain). Reaches y d) (x .4) r)
 
 -- two names exchanged
-swap : ℕ → ℕ → ℕ → ℕ
-swap x y n = cond (eqb n x) y (cond (eqb n y) x n)
+exchange : ℕ → ℕ → ℕ → ℕ
+exchange x y n = cond (eqb n x) y (cond (eqb n y) x n)
 
-swap-first : (x y n : ℕ) → n ≡ x → swap x y n ≡ y
-unfolding swap
-swap-first x y n e = rw (eq-eqb n x e)
+exchange-first : (x y n : ℕ) → n ≡ x → exchange x y n ≡ y
+unfolding exchange
+exchange-first x y n e = rw (eq-eqb n x e)
 
-swap-second : (x y n : ℕ) → n ≡ y → swap x y n ≡ x
-unfolding swap
-swap-second x y n e = byTest (eqb n x) (λ t. rw t (sym e ∙ eqb-true n x t)) (λ t. rw (t, eq-eqb n y e))
+exchange-second : (x y n : ℕ) → n ≡ y → exchange x y n ≡ x
+unfolding exchange
+exchange-second x y n e = byTest (eqb n x) (λ t. rw t (sym e ∙ eqb-true n x t)) (λ t. rw (t, eq-eqb n y e))
 
-swap-other : (x y n : ℕ) → ¬ (n ≡ x) → ¬ (n ≡ y) → swap x y n ≡ n
-unfolding swap
-swap-other x y n d f = rw (ne-eqb n x d, ne-eqb n y f)
+exchange-other : (x y n : ℕ) → ¬ (n ≡ x) → ¬ (n ≡ y) → exchange x y n ≡ n
+unfolding exchange
+exchange-other x y n d f = rw (ne-eqb n x d, ne-eqb n y f)
 
-swap-cases : (P : ℕ → Type 0) (x y n : ℕ) → (n ≡ x → P y) → (n ≡ y → P x) → (¬ (n ≡ x) → ¬ (n ≡ y) → P n) → P (swap x y n)
-swap-cases P x y n f g h = byTest (eqb n x)
-    (λ t. let e = eqb-true n x t in rw (swap-first x y n e) (f e))
+exchange-cases : (P : ℕ → Type 0) (x y n : ℕ) → (n ≡ x → P y) → (n ≡ y → P x) → (¬ (n ≡ x) → ¬ (n ≡ y) → P n) → P (exchange x y n)
+exchange-cases P x y n f g h = byTest (eqb n x)
+    (λ t. let e = eqb-true n x t in rw (exchange-first x y n e) (f e))
     (λ t. byTest (eqb n y)
-    (λ u. let e = eqb-true n y u in rw (swap-second x y n e) (g e))
-    (λ u. rw (swap-other x y n (eqb-false n x t) (eqb-false n y u)) (h (eqb-false n x t) (eqb-false n y u))))
+    (λ u. let e = eqb-true n y u in rw (exchange-second x y n e) (g e))
+    (λ u. rw (exchange-other x y n (eqb-false n x t) (eqb-false n y u)) (h (eqb-false n x t) (eqb-false n y u))))
 
 swapping : (x y : ℕ) → 1 ≤ x → 1 ≤ y → Permutation
 swapping x y hx hy = record {
-  to = swap x y;
-  back = swap x y;
+  to = exchange x y;
+  back = exchange x y;
   back-to = twice;
   to-back = twice;
   positive = low;
   back-positive = low;
-  null = swap-other x y 0 (λ e. omega arith) (λ e. omega arith);
+  null = exchange-other x y 0 (λ e. omega arith) (λ e. omega arith);
 }
   where
-    twice : (n : ℕ) → swap x y (swap x y n) ≡ n
-    twice n = swap-cases (λ (m : ℕ). swap x y m ≡ n) x y n
-        (λ e. swap-second x y y refl ∙ sym e)
-        (λ e. swap-first x y x refl ∙ sym e)
-        (λ d f. swap-other x y n d f)
+    twice : (n : ℕ) → exchange x y (exchange x y n) ≡ n
+    twice n = exchange-cases (λ (m : ℕ). exchange x y m ≡ n) x y n
+        (λ e. exchange-second x y y refl ∙ sym e)
+        (λ e. exchange-first x y x refl ∙ sym e)
+        (λ d f. exchange-other x y n d f)
 
-    low : (n : ℕ) → 1 ≤ n → 1 ≤ swap x y n
-    low n h = swap-cases (λ (m : ℕ). 1 ≤ m) x y n (λ e. hy) (λ e. hx) (λ d f. h)
+    low : (n : ℕ) → 1 ≤ n → 1 ≤ exchange x y n
+    low n h = exchange-cases (λ (m : ℕ). 1 ≤ m) x y n (λ e. hy) (λ e. hx) (λ d f. h)
 
-sat-swap : (x y : ℕ) → 1 ≤ x → 1 ≤ y → (n : ℕ) (e : Names) (r : Rule) (b : Plain) → Sat n e r b → Sat n (renameNames (swap x y) e) (renameRule (swap x y) r) (renameTree (swap x y) b)
+sat-exchange : (x y : ℕ) → 1 ≤ x → 1 ≤ y → (n : ℕ) (e : Names) (r : Rule) (b : Plain) → Sat n e r b → Sat n (renameNames (exchange x y) e) (renameRule (exchange x y) r) (renameTree (exchange x y) b)
 unfolding swapping Same
-sat-swap x y hx hy n e r b S = sat-rename (swapping x y hx hy) n r e b .0 S
+sat-exchange x y hx hy n e r b S = sat-rename (swapping x y hx hy) n r e b .0 S
 
 -- What the walk knows of what it visits: the names chosen, the rule and the tree hold no name above G + (the SOMEs
 -- around), and every part number is below the limit, those that PLACED gives too.
@@ -168,11 +168,11 @@ module _ (limit : ℕ) (s : Setting) where
       byTest (ltb F m)
       (λ t.
       let l = ltb-true F m t in
-      let f : ℕ → ℕ = swap F m in
-      let still : (n : ℕ) → n ≤ s .greatest + length e → f n ≡ n = λ n q. swap-other F m n (λ w. omega arith) (λ w. omega arith) in
+      let f : ℕ → ℕ = exchange F m in
+      let still : (n : ℕ) → n ≤ s .greatest + length e → f n ≡ n = λ n q. exchange-other F m n (λ w. omega arith) (λ w. omega arith) in
       let low : (n : ℕ) → n ≤ s .greatest → f n ≡ n = λ n q. still n (omega arith) in
-      let qe : renameNames f ((i, m) ∷ e) ≡ (i, F) ∷ e = ap₂ (λ (x : ℕ) (y : Names). (i, x) ∷ y) (swap-second F m m refl) (names-still _ f still e (K .names)) in
-      let S₁ = sat-swap F m (omega arith) h (s .parts) ((i, m) ∷ e) r b S in
+      let qe : renameNames f ((i, m) ∷ e) ≡ (i, F) ∷ e = ap₂ (λ (x : ℕ) (y : Names). (i, x) ∷ y) (exchange-second F m m refl) (names-still _ f still e (K .names)) in
+      let S₁ = sat-exchange F m (omega arith) h (s .parts) ((i, m) ∷ e) r b S in
       let S₂ = subst (λ (x : Names). Sat (s .parts) x (renameRule f r) (renameTree f b)) qe S₁ in
       let S₃ = subst (λ (x : Rule). Sat (s .parts) ((i, F) ∷ e) x (renameTree f b)) (rule-still _ f low _ r (K .rule)) S₂ in
       (F, in-span 1 F F (omega arith) (omega arith), subst (λ (x : Plain). Sat (s .parts) ((i, F) ∷ e) r x) (tree-still _ f still _ b (K .tree)) S₃))

@@ -181,91 +181,91 @@ asked-same (Open x) = ap Open (renamed-same x)
 asked-same Other = refl
 
 module _ {A B : Type 0} (old : View A) (new : View B) (onAction : A → B) (onMessage : Message → Message) (ρ : ℕ → ℕ) (T : Translates old new onAction onMessage ρ) where
-  abbrev F : Head A → Head B
-  F = mapHead onAction onMessage
+  abbrev onHead : Head A → Head B
+  onHead = mapHead onAction onMessage
 
-  pub headName-map : (h : Head A) → headName new (F h) ≡ renamed ρ (headName old h)
+  pub headName-map : (h : Head A) → headName new (onHead h) ≡ renamed ρ (headName old h)
   unfolding headName mapHead
   headName-map (ambient m) = T .named m
   headName-map (action a) = refl
   headName-map (receipt v) = refl
   headName-map (output m) = refl
 
-  pub named-map : (h : Head A) → isNamed (headName new (F h)) ≡ isNamed (headName old h)
+  pub named-map : (h : Head A) → isNamed (headName new (onHead h)) ≡ isNamed (headName old h)
   named-map h = rw (headName-map h) (isNamed-map ρ (headName old h))
 
-  firstOf-map : (h : Head A) → firstOf new (F h) ≡ asked ρ (firstOf old h)
+  firstOf-map : (h : Head A) → firstOf new (onHead h) ≡ asked ρ (firstOf old h)
   unfolding firstOf mapHead
   firstOf-map (ambient m) = refl
   firstOf-map (action a) = T .first a
   firstOf-map (receipt v) = refl
   firstOf-map (output m) = refl
 
-  spentHead-map : (h : Head A) → spentHead new (F h) ≡ F (spentHead old h)
+  spentHead-map : (h : Head A) → spentHead new (onHead h) ≡ onHead (spentHead old h)
   unfolding spentHead mapHead
   spentHead-map (ambient m) = refl
   spentHead-map (action a) = ap action (T .spent a)
   spentHead-map (receipt v) = refl
   spentHead-map (output m) = refl
 
-  spend-map : (n : ℕ) (b : Body (Head A)) → spend new n (mapHeads F b) ≡ mapHeads F (spend old n b)
-  spend-map n b = alter-map F n (spentHead new) (spentHead old) (λ s. s) (λ s. s) spentHead-map (λ s. refl) b
+  spend-map : (n : ℕ) (b : Body (Head A)) → spend new n (mapHeads onHead b) ≡ mapHeads onHead (spend old n b)
+  spend-map n b = alter-map onHead n (spentHead new) (spentHead old) (λ s. s) (λ s. s) spentHead-map (λ s. refl) b
 
   -- what an action asks for is the name of the target, or is not
   asked-map : (k : First → Named) → ((x : First) → k (asked ρ x) ≡ renamed ρ (k x)) → (f g : Head A) →
-      sameName (k (firstOf new (F f))) (headName new (F g)) ≡ sameName (k (firstOf old f)) (headName old g)
+      sameName (k (firstOf new (onHead f))) (headName new (onHead g)) ≡ sameName (k (firstOf old f)) (headName old g)
   asked-map k e f g = rw (firstOf-map f, headName-map g, e (firstOf old f)) (sameName-map ρ (T .injective) (k (firstOf old f)) (headName old g))
 
   -- K says what becomes of a move's result; a quiet one has the changed tree.
-  module _ (K : MoveMade A → MoveMade B) (quietly : (b : Body (Head A)) → quiet (mapHeads F b) ≡ K (quiet b)) where
-    pub open-map : (a t : ℕ) (b : Body (Head A)) → openMove new a t (mapHeads F b) ≡ Option·map K (openMove old a t b)
+  module _ (K : MoveMade A → MoveMade B) (quietly : (b : Body (Head A)) → quiet (mapHeads onHead b) ≡ K (quiet b)) where
+    pub open-map : (a t : ℕ) (b : Body (Head A)) → openMove new a t (mapHeads onHead b) ≡ Option·map K (openMove old a t b)
     unfolding openMove
     open-map a t b =
-        bind-map (mapPart F) K _ _ _ _ (find-map F t b) (λ g _.
-        bind-map (mapPart F) K _ _ _ _ (find-map F a b) (λ f _.
+        bind-map (mapPart onHead) K _ _ _ _ (find-map onHead t b) (λ g _.
+        bind-map (mapPart onHead) K _ _ _ _ (find-map onHead a b) (λ f _.
         bind-same K _ _ _ _ (ap check (asked-map toOpen (toOpen-map ρ) (f .0) (g .0))) (λ u _.
-        ap some (ap quiet (simp (removePart-map F, merge-map F, spend-map)) ∙ quietly (spend old a (mergeParts (g .1) (removePart t b)))))))
+        ap some (ap quiet (simp (removePart-map onHead, merge-map onHead, spend-map)) ∙ quietly (spend old a (mergeParts (g .1) (removePart t b)))))))
 
-    pub enter-map : (a t : ℕ) (b : Body (Head A)) → enterMove new a t (mapHeads F b) ≡ Option·map K (enterMove old a t b)
+    pub enter-map : (a t : ℕ) (b : Body (Head A)) → enterMove new a t (mapHeads onHead b) ≡ Option·map K (enterMove old a t b)
     unfolding enterMove
     enter-map a t b =
-        bind-map (mapPart F) K _ _ _ _ (find-map F t b) (λ g _.
-        bind-same K _ _ _ _ (holder-map F a b) (λ p _.
-        bind-map (mapPart F) K _ _ _ _ (find-map F p b) (λ h _.
-        bind-map (mapPart F) K _ _ _ _ (find-map F a (h .1)) (λ f _.
+        bind-map (mapPart onHead) K _ _ _ _ (find-map onHead t b) (λ g _.
+        bind-same K _ _ _ _ (holder-map onHead a b) (λ p _.
+        bind-map (mapPart onHead) K _ _ _ _ (find-map onHead p b) (λ h _.
+        bind-map (mapPart onHead) K _ _ _ _ (find-map onHead a (h .1)) (λ f _.
         bind-same K _ _ _ _ (ap check (ap (λ (x : Bool). not (eqb p t) && x) (ap₂ _&&_ (named-map (h .0)) (asked-map toEnter (toEnter-map ρ) (f .0) (g .0))))) (λ u _.
-        ap some (ap quiet (ap (alter t (λ e. e) _) (removePart-map F p b)
-        ∙ alter-map F t (λ e. e) (λ e. e) (put p (F (h .0)) (spend new a (mapHeads F (h .1)))) (put p (h .0) (spend old a (h .1))) (λ e. refl) (λ s. rw (spend-map a (h .1)) (put-map F p (h .0) (spend old a (h .1)) s)) (removePart p b))
+        ap some (ap quiet (ap (alter t (λ e. e) _) (removePart-map onHead p b)
+        ∙ alter-map onHead t (λ e. e) (λ e. e) (put p (onHead (h .0)) (spend new a (mapHeads onHead (h .1)))) (put p (h .0) (spend old a (h .1))) (λ e. refl) (λ s. rw (spend-map a (h .1)) (put-map onHead p (h .0) (spend old a (h .1)) s)) (removePart p b))
         ∙ quietly (alter t (λ e. e) (put p (h .0) (spend old a (h .1))) (removePart p b))))))))
 
-    pub exit-map : (a t : ℕ) (b : Body (Head A)) → exitMove new a t (mapHeads F b) ≡ Option·map K (exitMove old a t b)
+    pub exit-map : (a t : ℕ) (b : Body (Head A)) → exitMove new a t (mapHeads onHead b) ≡ Option·map K (exitMove old a t b)
     unfolding exitMove
     exit-map a t b =
-        bind-map (mapPart F) K _ _ _ _ (find-map F t b) (λ g _.
-        bind-same K _ _ _ _ (holder-map F a (g .1)) (λ p _.
-        bind-map (mapPart F) K _ _ _ _ (find-map F p (g .1)) (λ h _.
-        bind-map (mapPart F) K _ _ _ _ (find-map F a (h .1)) (λ f _.
+        bind-map (mapPart onHead) K _ _ _ _ (find-map onHead t b) (λ g _.
+        bind-same K _ _ _ _ (holder-map onHead a (g .1)) (λ p _.
+        bind-map (mapPart onHead) K _ _ _ _ (find-map onHead p (g .1)) (λ h _.
+        bind-map (mapPart onHead) K _ _ _ _ (find-map onHead a (h .1)) (λ f _.
         bind-same K _ _ _ _ (ap check (ap₂ _&&_ (named-map (h .0)) (asked-map toExit (toExit-map ρ) (f .0) (g .0)))) (λ u _.
-        ap some (ap quiet (ap₂ (put p (F (h .0))) (spend-map a (h .1)) (alter-map F t (λ e. e) (λ e. e) (removePart p) (removePart p) (λ e. refl) (removePart-map F p) b)
-        ∙ put-map F p (h .0) (spend old a (h .1)) (alter t (λ e. e) (removePart p) b))
+        ap some (ap quiet (ap₂ (put p (onHead (h .0))) (spend-map a (h .1)) (alter-map onHead t (λ e. e) (λ e. e) (removePart p) (removePart p) (λ e. refl) (removePart-map onHead p) b)
+        ∙ put-map onHead p (h .0) (spend old a (h .1)) (alter t (λ e. e) (removePart p) b))
         ∙ quietly (put p (h .0) (spend old a (h .1)) (alter t (λ e. e) (removePart p) b))))))))
 
     -- a receipt, where what is delivered is the same
     pub receive-map : (a t : ℕ) (b : Body (Head A)) →
         ((v : ℕ) (m : Message) (s c : Body (Head A)) → findPart a b ≡ some (receipt v, s) → findPart t b ≡ some (output m, c) →
-        record { body = mergeParts (new .delivered v (onMessage m) (mapHeads F s)) (mapHeads F (removePart t (removePart a b))); news = (v, onMessage m) ∷ [] }
+        record { body = mergeParts (new .delivered v (onMessage m) (mapHeads onHead s)) (mapHeads onHead (removePart t (removePart a b))); news = (v, onMessage m) ∷ [] }
         ≡ K (record { body = mergeParts (old .delivered v m s) (removePart t (removePart a b)); news = (v, m) ∷ [] })) →
-        receiveMove new a t (mapHeads F b) ≡ Option·map K (receiveMove old a t b)
+        receiveMove new a t (mapHeads onHead b) ≡ Option·map K (receiveMove old a t b)
     unfolding receiveMove
     receive-map a t b d =
-        bind-map (mapPart F) K _ _ _ _ (find-map F t b) (λ g eg.
-        bind-map (mapPart F) K _ _ _ _ (find-map F a b) (λ h eh.
+        bind-map (mapPart onHead) K _ _ _ _ (find-map onHead t b) (λ g eg.
+        bind-map (mapPart onHead) K _ _ _ _ (find-map onHead a b) (λ h eh.
         bind-same K _ _ _ _ (variableOf-map onAction onMessage (h .0)) (λ v ev.
         bind-map onMessage K _ _ _ _ (messageOf-map onAction onMessage (g .0)) (λ m em.
-        ap some (rw (removePart-map F a b, removePart-map F t (removePart a b)) (d v m (h .1) (g .1) (found eh (variableOf-inv (h .0) v ev)) (found eg (messageOf-inv (g .0) m em))))))))
+        ap some (rw (removePart-map onHead a b, removePart-map onHead t (removePart a b)) (d v m (h .1) (g .1) (found eh (variableOf-inv (h .0) v ev)) (found eg (messageOf-inv (g .0) m em))))))))
 
-    pub here-map : (a t : ℕ) (b : Body (Head A)) → receiveMove new a t (mapHeads F b) ≡ Option·map K (receiveMove old a t b) →
-        moveHere new a t (mapHeads F b) ≡ Option·map K (moveHere old a t b)
+    pub here-map : (a t : ℕ) (b : Body (Head A)) → receiveMove new a t (mapHeads onHead b) ≡ Option·map K (receiveMove old a t b) →
+        moveHere new a t (mapHeads onHead b) ≡ Option·map K (moveHere old a t b)
     unfolding moveHere
     here-map a t b e = simp (open-map a t b, e, enter-map a t b, exit-map a t b, orElse-map)
 
@@ -313,18 +313,18 @@ pub moved-map : {A B : Type 0} (old : View A) (new : View B) (onAction : A → B
     (a t : ℕ) (b : Body (Head A)) → anywhere new (moveHere new a t) (mapHeads (mapHead onAction onMessage) b) ≡ Option·map (mapMoved (mapHead onAction onMessage) onMessage) (anywhere old (moveHere old a t) b)
 unfolding mapHeads
 moved-map {A} {B} old new onAction onMessage ρ T d a t b =
-    anywhere-map old new F K (λ c. Unit {0}) (moveHere old a t) (moveHere new a t) (record {
+    anywhere-map old new onHead K (λ c. Unit {0}) (moveHere old a t) (moveHere new a t) (record {
       names = named-map old new onAction onMessage ρ T;
       agree = λ c _. here-map old new onAction onMessage ρ T K (λ s. refl) a t c
-          (receive-map old new onAction onMessage ρ T K (λ s. refl) a t c (λ v m s r _ _. rw (d v m s, merge-map F)));
+          (receive-map old new onAction onMessage ρ T K (λ s. refl) a t c (λ v m s r _ _. rw (d v m s, merge-map onHead)));
       good-inside = λ i n h c r e _. tt;
       good-rest = λ i h c r _. tt;
       around = λ i n h c r m e _ x. refl;
       beside = λ i h c r m _ x. refl;
     }) b tt
   where
-    F : Head A → Head B
-    F = mapHead onAction onMessage
+    onHead : Head A → Head B
+    onHead = mapHead onAction onMessage
 
     K : MoveMade A → MoveMade B
-    K = mapMoved F onMessage
+    K = mapMoved onHead onMessage

@@ -66,13 +66,13 @@ module _ (k : ℕ → List ℕ) (w : ℕ → ClosureHead) where
   halved close n h = (tt, tt, λ f. refl)
   halved (part i g b r) n h = go (isOdd n) (halved r (n / 2) (h .3))
     where
-      P : List Cell
-      P = picked (cells r) (n / 2)
+      taken-cells : List Cell
+      taken-cells = picked (cells r) (n / 2)
 
-      L : List Cell
-      L = unpicked (cells r) (n / 2)
+      other-cells : List Cell
+      other-cells = unpicked (cells r) (n / 2)
 
-      go : (t : Bool) → Halved r (bodyOf P) (bodyOf L) → Halved (part i g b r) (bodyOf (putIf t (i, g, b) P)) (bodyOf (putIf (not t) (i, g, b) L))
+      go : (t : Bool) → Halved r (bodyOf taken-cells) (bodyOf other-cells) → Halved (part i g b r) (bodyOf (putIf t (i, g, b) taken-cells)) (bodyOf (putIf (not t) (i, g, b) other-cells))
       go true (p, q, e) = ((h .0, h .1, h .2, p), q, λ f. omega (arith, e f))
       go false (p, q, e) = (p, (h .0, h .1, h .2, q), λ f. omega (arith, e f))
 

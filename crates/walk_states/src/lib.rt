@@ -144,7 +144,7 @@ pub fn as_arrays(kinds: [u8; 64], starts: [u32; 64], state: State) -> LentState
     }
 }
 
-// The lent state, with top as the set of its top parts, after the move of the actor a to its target t; the set of the top parts then.
+// The top parts after the move of the actor a to its target t, which is made in the lent state, with top as its top parts.
 fn after_move<'a, 'b>(
     script: &'a [u32],
     sets: &'b mut [u64; 131],
@@ -164,7 +164,7 @@ fn after_move<'a, 'b>(
     sets[64]
 }
 
-// The lent state with top as the body of a new part i, an ambient of that name; the set of its top parts then.
+// The top parts where top is the body of a new part i, an ambient of that name, which is made in the lent state.
 fn place_within<'a, 'b>(
     script: &'a [u32],
     sets: &'b mut [u64; 131],
@@ -192,8 +192,8 @@ fn place_within<'a, 'b>(
     l.top
 }
 
-// The lent state, with top as the set of its top parts, after that step; the set of the top parts then. Moves and PLACED
-// share it, so that it is not put into the frames of a deep walk; and it changes what it is lent, which costs no copy.
+// The top parts after that step, which is made in the lent state, with top as its top parts. Moves and PLACED share it, so
+// that it is not put into the frames of a deep walk; to hand up a state would cost copies of it.
 pub fn next_state<'a, 'b>(
     script: &'a [u32],
     sets: &'b mut [u64; 131],

@@ -158,17 +158,16 @@ fn split<'a>(
     requires { ⌜ (spot .at < 256) × (spot .left ≤ 255) × Visitable (now script) (now sets) (now numbers) (spot .top) (spot .somes) limits ⌝ }
     ensures { λ r. ⌜ Splits (now (program .entry)) (now (script .entry)) (now (sets .entry)) (now (numbers .entry)) (now (chosen .entry)) (spot .top) (spot .somes) (spot .left) (spot .at) limits c r share ⌝ }
 {
-    let mut here = spot;
-    here.at = spot.at + 1;
-    here.top = share;
-    let w = visit(program, script, sets, numbers, chosen, here, limits, c);
+    let mut side = spot;
+    side.at = spot.at + 1;
+    side.top = share;
+    let w = visit(program, script, sets, numbers, chosen, side, limits, c);
     let Walked::Yes(c2) = w else {
         return w;
     };
-    let mut there = spot;
-    there.at = wide(program[256 + spot.at]);
-    there.top = base_sets::difference(spot.top, share);
-    visit(program, script, sets, numbers, chosen, there, limits, c2)
+    side.at = wide(program[256 + spot.at]);
+    side.top = base_sets::difference(spot.top, share);
+    visit(program, script, sets, numbers, chosen, side, limits, c2)
 }
 
 // BESIDE: the shares in rising order of the sum of 2^number over their parts.
@@ -260,6 +259,7 @@ fn sometime<'a>(
     requires { ⌜ (spot .at < 256) × (spot .left ≤ 255) × Visitable (now script) (now sets) (now numbers) (spot .top) (spot .somes) limits ⌝ }
     ensures { λ r. ⌜ Finds (now (program .entry)) (now (script .entry)) (now (sets .entry)) (now (numbers .entry)) (now (chosen .entry)) (spot .top) (spot .somes) (spot .left) (spot .at) limits c r 7 ⌝ }
 {
+    // One spot for the visits: each more is one in the frame of a deep walk.
     let mut there = spot;
     there.at = spot.at + 1;
     let w = visit(program, script, sets, numbers, chosen, there, limits, c);
@@ -273,6 +273,7 @@ fn sometime<'a>(
         let a = turn.outer;
         let t = base_sets::first(turn.rest);
         let step = Step::Move(a, t);
+        // The move is made on a copy of the state.
         let mut s = *sets;
         let mut n = *numbers;
         there = spot;

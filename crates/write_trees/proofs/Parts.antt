@@ -173,11 +173,11 @@ module _ (σ : Bindings) (k : ℕ → List ℕ) (w : ℕ → ClosureHead) (left 
   abbrev firstWords : Indices → ℕ → Closure → List ℕ
   firstWords ix i b = writePart ix i (unfoldHead σ (w j)) (unfolded σ b)
 
-  abbrev both : Indices → ℕ → Closure → Closure → List ℕ
-  both ix i b r = firstWords ix i b ++ write ix (i + length (firstWords ix i b)) (unfolded σ r)
+  abbrev bothWords : Indices → ℕ → Closure → Closure → List ℕ
+  bothWords ix i b r = firstWords ix i b ++ write ix (i + length (firstWords ix i b)) (unfolded σ r)
 
   pub by-first : (Q : List ℕ → Type 0) (ix : Indices) (i : ℕ)
-      → ((b r : Closure) → k j ≡ tops b → Held k w b → l ≡ tops r → Held k w r → parts b + parts r < fuel → Q (both ix i b r))
+      → ((b r : Closure) → k j ≡ tops b → Held k w b → l ≡ tops r → Held k w r → parts b + parts r < fuel → Q (bothWords ix i b r))
       → (b : Closure) → left ≡ tops b → Held k w b → parts b ≤ fuel → Q (write ix i (unfolded σ b))
   unfolding tops totalOver
   by-first Q ix i f close e h m = absurd (no-cons j l (sym first ∙ e))
@@ -185,7 +185,7 @@ module _ (σ : Bindings) (k : ℕ → List ℕ) (w : ℕ → ClosureHead) (left 
       let p : j ≡ n = ap (headOr 0) (sym first ∙ e) in
       let a : w j ≡ g = ap w p ∙ h .1 in
       let c : k j ≡ tops b = ap k p ∙ h .0 in
-      let words : both ix i b r ≡ write ix i (unfolded σ (part n g b r)) =
+      let words : bothWords ix i b r ≡ write ix i (unfolded σ (part n g b r)) =
       write-part ix i n (unfoldHead σ (w j)) (unfolded σ b) (unfolded σ r)
       ∙ ap (λ (x : ClosureHead). write ix i (part n (unfoldHead σ x) (unfolded σ b) (unfolded σ r))) a
       ∙ ap (write ix i) (sym (unfolded-part σ n g b r)) in

@@ -1,8 +1,9 @@
 -- `put_bytes` meets its contract: the first i bytes are put. Assumes nothing.
 use Prim.Native.Nat.{_≤_, _-_}
 use lib.ListN.{length, take}
+use lib.Seq.{take-all}
 use Rattle.program_digits.specs.Digits.{Puts}
-use Rattle.program_digits.proofs.Putting.{puts-none, puts-as, puts-next, whole}
+use Rattle.program_digits.proofs.Putting.{puts-none, puts-as, puts-next}
 use borrow.Author.Needs.{needs}
 use Rattle.program_digits.proofs.put_bytes.Statement.{statement}
 use Rattle.program_digits.proofs.put_bytes.Tie as tie
@@ -23,4 +24,4 @@ put-bytes-spec =
     Inv-loop μ-loop
     (λ c. (search needs, puts-none)) (λ c. search needs) (λ c κs. search needs) (λ c. search needs) (λ c. search needs)
     loop-again
-    (λ c. c .before .loop .inv .1 .kept) (λ c. puts-as (whole _ _ (c .loop-test .left)) (c .before .loop .inv .1)))
+    (λ c. c .before .loop .inv .1 .kept) (λ c. puts-as (take-all _ _ (c .loop-test .left)) (c .before .loop .inv .1)))

@@ -2,8 +2,9 @@
 use Prim.Native.Nat.{_≤_, _-_}
 use mathlib.Core.Path.{ap}
 use lib.ListN.{length, take}
+use lib.Seq.{take-all}
 use Rattle.program_digits.specs.Digits.{lines, Puts}
-use Rattle.program_digits.proofs.Putting.{puts-none, puts-as, whole}
+use Rattle.program_digits.proofs.Putting.{puts-none, puts-as}
 use Rattle.program_digits.proofs.Numbers.{puts-line}
 use borrow.Author.Needs.{needs}
 use Rattle.program_digits.proofs.put_words.Statement.{statement}
@@ -29,4 +30,4 @@ put-words-spec =
     Inv-loop μ-loop
     loop-holds (λ c. search needs) (λ c. search needs) (λ c κs. search needs) (λ c. search needs) (λ c. search needs)
     loop-again
-    (λ c. c .before .loop .inv .1 .kept) (λ c. puts-as (ap lines (whole _ _ (c .loop-test .left))) (c .before .loop .inv .1)))
+    (λ c. c .before .loop .inv .1 .kept) (λ c. puts-as (ap lines (take-all _ _ (c .loop-test .left))) (c .before .loop .inv .1)))

@@ -54,33 +54,33 @@ module _ (t : ℕ) where
   abbrev leaf : lts.After-enum-told (claims t) (read-message-at t) read-message.Post → First
   leaf c = asked-at (c .before .before) Leaf (c .enum-told .given .1)
 
-  abbrev one : lts.After-read-message-arg (claims t) (read-message-at t) read-message.Post → First
-  one c = asked-at (c .before .before .before) One (c .before .enum-told2 .given .1)
+  abbrev at-one : lts.After-read-message-arg (claims t) (read-message-at t) read-message.Post → First
+  at-one c = asked-at (c .before .before .before) One (c .before .enum-told2 .given .1)
 
-  abbrev two : lts.After-read-message-arg2 (claims t) (read-message-at t) read-message.Post → First
-  two c = asked-at (c .before .before .before) Two (c .before .enum-told3 .given .1)
+  abbrev at-two : lts.After-read-message-arg2 (claims t) (read-message-at t) read-message.Post → First
+  at-two c = asked-at (c .before .before .before) Two (c .before .enum-told3 .given .1)
 
   -- where the first of two messages was read
-  bounds : (c : lts.After-left (claims t) (read-message-at t) read-message.Post) → let x = two (read-left c .before) in (x .at + 1 < c .left .given .0 .0) × (c .left .given .0 .0 ≤ x .at + length (x .words))
-  bounds c = first-bounds (two (read-left c .before)) 0 _ (read-left c .read-message2 .ensures 0) _ (c .left .given .1)
+  bounds : (c : lts.After-left (claims t) (read-message-at t) read-message.Post) → let x = at-two (read-left c .before) in (x .at + 1 < c .left .given .0 .0) × (c .left .given .0 .0 ≤ x .at + length (x .words))
+  bounds c = first-bounds (at-two (read-left c .before)) 0 _ (read-left c .read-message2 .ensures 0) _ (c .left .given .1)
 
   returns : lts.Need-returns (claims t) (read-message-at t) read-message.Post
   returns c number = search (needs, read-none)
 
   returns-2 : lts.Need-returns-2 (claims t) (read-message-at t) read-message.Post
-  returns-2 c number = two-refused (two (refused-left c .before)) number _ (refused-left c .read-message2 .ensures number) refl _ _ (c .enum-told4 .given .1)
+  returns-2 c number = two-refused (at-two (refused-left c .before)) number _ (refused-left c .read-message2 .ensures number) refl _ _ (c .enum-told4 .given .1)
 
   returns-5 : lts.Need-returns-5 (claims t) (read-message-at t) read-message.Post
-  returns-5 c number = one-read (one (c .before)) number _ (c .read-message .ensures number) refl
+  returns-5 c number = one-read (at-one (c .before)) number _ (c .read-message .ensures number) refl
 
   returns-6 : lts.Need-returns-6 (claims t) (read-message-at t) read-message.Post
   returns-6 c number =
       let l = second-left (c .before) in
-      two-read (two (read-left l .before)) number _ (read-left l .read-message2 .ensures number) _ (l .left .given .1) refl _ (c .read-message3 .ensures number)
+      two-read (at-two (read-left l .before)) number _ (read-left l .read-message2 .ensures number) _ (l .left .given .1) refl _ (c .read-message3 .ensures number)
 
   read-message-requires-3 : lts.Need-read-message-requires-3 (claims t) (read-message-at t) read-message.Post
   read-message-requires-3 c κs =
-      let x = two (read-left (second-left c) .before) in let b = bounds (second-left c) in
+      let x = at-two (read-left (second-left c) .before) in let b = bounds (second-left c) in
       let l = length-part (x .words) (second-left c .left .given .0 .0 - x .at) in
       (omega arith, (omega arith, omega (arith, level x _ refl)))
 
@@ -92,9 +92,9 @@ pub +read-message-spec : {M : Type 1} → statement M
     (returns t)
     (λ c. omega arith) (λ c κs. tt) (λ c. search needs) (λ c. search needs) (λ c. omega arith) (λ c. search needs)
     (λ c. omega arith) (λ c. omega arith) (λ c. omega arith) (λ c. omega arith) (λ c. omega arith)
-    (λ c κs. shorter (one t c) t (omega arith) (level (one t c) _ refl) (omega arith))
+    (λ c κs. shorter (at-one t c) t (omega arith) (level (at-one t c) _ refl) (omega arith))
     (λ c. search needs) (λ c. omega arith) (λ c. omega arith) (λ c. omega arith) (λ c. omega arith) (λ c. omega arith)
-    (λ c κs. shorter (two t c) t (omega arith) (level (two t c) _ refl) (omega arith))
+    (λ c κs. shorter (at-two t c) t (omega arith) (level (at-two t c) _ refl) (omega arith))
     (λ c. search needs) (λ c. search needs) (returns-2 t)
     (λ c. omega (arith, bounds t (c .before))) (λ c. omega (arith, bounds t (c .before))) (λ c. omega (arith, bounds t (c .before))) (λ c. omega (arith, bounds t (c .before)))
     (λ c. omega arith) (λ c. omega arith) (read-message-requires-3 t)

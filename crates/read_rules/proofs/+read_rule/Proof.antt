@@ -89,11 +89,11 @@ module _ (t : ℕ) where
   abbrev leaf : lts.After-enum-told (claims t) (read-rule-at t) read-rule.Post → First
   leaf c = asked-at (c .before .before) Leaf (c .enum-told .given .1)
 
-  abbrev one : lts.After-read-rule-arg (claims t) (read-rule-at t) read-rule.Post → First
-  one c = asked-at (c .before .before .before) One (c .before .enum-told2 .given .1)
+  abbrev at-one : lts.After-read-rule-arg (claims t) (read-rule-at t) read-rule.Post → First
+  at-one c = asked-at (c .before .before .before) One (c .before .enum-told2 .given .1)
 
-  abbrev two : lts.After-read-rule-arg2 (claims t) (read-rule-at t) read-rule.Post → First
-  two c = asked-at (c .before .before .before) Two (c .before .enum-told3 .given .1)
+  abbrev at-two : lts.After-read-rule-arg2 (claims t) (read-rule-at t) read-rule.Post → First
+  at-two c = asked-at (c .before .before .before) Two (c .before .enum-told3 .given .1)
 
   abbrev choice : lts.After-enum-told5 (claims t) (read-rule-at t) read-rule.Post → First
   choice c = asked-at (c .before .before) Choice (c .enum-told5 .given .1)
@@ -102,8 +102,8 @@ module _ (t : ℕ) where
   place c = asked-at (c .before .before) Place (c .enum-told6 .given .1)
 
   -- the first of two rules was read
-  left : (c : lts.After-known-told2 (claims t) (read-rule-at t) read-rule.Post) → let x = two (read-left c .before) in Left x (read-left c .read-rule2 .result) (read-left c .read-rule2 .ensures) (c .before .o .given .0 .0) (c .before .o .given .1) × (x .at + length (x .words) ≤ 256)
-  left c = (left-read (two (read-left c .before)) _ (read-left c .read-rule2 .ensures) _ (c .before .o .given .1), two (read-left c .before) .asks .few)
+  left : (c : lts.After-known-told2 (claims t) (read-rule-at t) read-rule.Post) → let x = at-two (read-left c .before) in Left x (read-left c .read-rule2 .result) (read-left c .read-rule2 .ensures) (c .before .o .given .0 .0) (c .before .o .given .1) × (x .at + length (x .words) ≤ 256)
+  left c = (left-read (at-two (read-left c .before)) _ (read-left c .read-rule2 .ensures) _ (c .before .o .given .1), at-two (read-left c .before) .asks .few)
 
   ask-rule-requires : lts.Need-ask-rule-requires (claims t) (read-rule-at t) read-rule.Post
   ask-rule-requires c κs =
@@ -113,24 +113,24 @@ module _ (t : ℕ) where
   read-rule-requires-3 : lts.Need-read-rule-requires-3 (claims t) (read-rule-at t) read-rule.Post
   read-rule-requires-3 c κs =
       let b = left (second-left c) in
-      let x = two (read-left (second-left c) .before) in
+      let x = at-two (read-left (second-left c) .before) in
       let l = length-part (x .words) (second-left c .before .o .given .0 .0 - x .at) in
       let n = b .0 .fewer (x .asks .fewer) in
       (omega (arith, l, b), record { few = omega (arith, l, b); shallow = omega (arith, level x _ refl); somes = x .asks .somes; fewer = omega (arith, n, ap (λ (x : RuleTable). x .count) (c .before .turn .ensures)) })
 
   returns-2 : lts.Need-returns-2 (claims t) (read-rule-at t) read-rule.Post
-  returns-2 c = two-refused (two (refused-left c .before)) _ (refused-left c .read-rule2 .ensures) _ _ (c .enum-told4 .given .1) refl
+  returns-2 c = two-refused (at-two (refused-left c .before)) _ (refused-left c .read-rule2 .ensures) _ _ (c .enum-told4 .given .1) refl
 
   returns-3 : lts.Need-returns-3 (claims t) (read-rule-at t) read-rule.Post
   returns-3 c = c .refused2 .ensures ∙ no-read (no c) _ refl
 
   returns-5 : lts.Need-returns-5 (claims t) (read-rule-at t) read-rule.Post
-  returns-5 c = one-read (one (c .before)) _ (c .read-rule .ensures) refl
+  returns-5 c = one-read (at-one (c .before)) _ (c .read-rule .ensures) refl
 
   returns-6 : lts.Need-returns-6 (claims t) (read-rule-at t) read-rule.Post
   returns-6 c =
       let n = second-left (c .before) in
-      two-read (two (read-left n .before)) _ (read-left n .read-rule2 .ensures) _ (n .before .o .given .1) _ _ (cc) (c .read-rule3 .ensures) refl
+      two-read (at-two (read-left n .before)) _ (read-left n .read-rule2 .ensures) _ (n .before .o .given .1) _ _ (cc) (c .read-rule3 .ensures) refl
 
   returns-7 : lts.Need-returns-7 (claims t) (read-rule-at t) read-rule.Post
   returns-7 c = choice-read (choice (some-choice (c .before))) _ _ (cc) (c .read-rule4 .ensures) refl
@@ -153,10 +153,10 @@ pub +read-rule-spec : {M : Type 1} → statement M
     (ask-rule-requires t)
     (λ c. search needs) (λ c κs. search needs) (λ c. search needs) (λ c. search needs) (λ c. search needs)
     (λ c. search needs) (λ c. search needs) (λ c. search needs) (λ c. search needs) (λ c. search needs)
-    (λ c κs. behind (one t c) t _ _ (omega arith) (level (one t c) _ refl) (one t c .asks .somes) (omega arith))
+    (λ c κs. behind (at-one t c) t _ _ (omega arith) (level (at-one t c) _ refl) (at-one t c .asks .somes) (omega arith))
     (λ c. search needs) (λ c. search needs) (λ c. search needs) (λ c. search needs) (λ c. search needs)
     (λ c. search needs)
-    (λ c κs. behind (two t c) t _ _ (omega arith) (level (two t c) _ refl) (two t c .asks .somes) (omega arith))
+    (λ c κs. behind (at-two t c) t _ _ (omega arith) (level (at-two t c) _ refl) (at-two t c .asks .somes) (omega arith))
     (λ c. search needs) (λ c. search needs)
     (returns-2 t)
     (λ c. omega (arith, left t c)) (λ c κs. omega (arith, left t c)) (λ c. omega (arith, left t (c .before)))

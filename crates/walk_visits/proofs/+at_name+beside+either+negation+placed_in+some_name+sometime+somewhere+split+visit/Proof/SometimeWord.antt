@@ -83,7 +83,8 @@ module _ (t : ℕ) where
       let f = c .before .before .before .before .before .before in
       let l = f .before .before .before in
       let s = start l in
-      (λ b u e. step-moves (λ (y : ℕ) (z : ℕ). (y < 64) × (z < 64)) _ _ b u e (omega (arith, low f, s .pre .1 .2 .few-numbers), first-low _ _ (l .loop .inv .0) (f .before .if1 .taken) (f .first .ensures)), λ i n e. absurd (step-apart _ _ i n e), s .pre .1 .2 .state)
+      let target-low = first-low _ _ (l .loop .inv .0) (f .before .if1 .taken) (f .first .ensures) in
+      (λ b u e. step-moves (λ (y : ℕ) (z : ℕ). (y < 64) × (z < 64)) _ _ b u e (omega (arith, low f, s .pre .1 .2 .few-numbers, target-low), omega (arith, low f, s .pre .1 .2 .few-numbers, target-low)), λ i n e. absurd (step-apart _ _ i n e), s .pre .1 .2 .state)
 
   pub visit-requires-2 : lts.Need-visit-requires-2 (sometime-claims t) (sometime-at t) reads.Post Inv-loop μ-loop
   visit-requires-2 c κs =

@@ -9,8 +9,8 @@ use Rattle.walk_visits.proofs.split.Reads as reads
 use Rattle.walk_visits.proofs.+at_name+beside+either+negation+placed_in+some_name+sometime+somewhere+split+visit.Proof.Measures.{split-point, split-claims}
 
 module _ (t : ℕ) where
-  pub add-here : lts.Need-add-here (split-claims t) (split-point t) reads.Post
-  add-here c = search needs
+  pub add-side : lts.Need-add-side (split-claims t) (split-point t) reads.Post
+  add-side c = search needs
 
   pub visit-requires : lts.Need-visit-requires (split-claims t) (split-point t) reads.Post
   visit-requires c κs = (omega (arith, c .before .before .pre .0), (omega (arith, c .before .before .pre .1 .1), visitable-top (c .before .before .pre .1 .2) _))
