@@ -11,7 +11,7 @@ use lib.Pow.{pow-mono}
 use borrow.Author.Tests.{eq-eqb, ne-eqb}
 use Rattle.base_sets.specs.Sets.{isOdd, keepIf, keep, members, elem, mask, RisingFrom, but}
 use Rattle.base_sets.specs.Shares.{putIf, picked, unpicked, spread, shares}
-use Rattle.base_sets.proofs.Places.{parity, odd-0, odd-1}
+use Rattle.base_sets.proofs.Positions.{parity, odd-0, odd-1}
 use Rattle.base_sets.proofs.Members.{rising-down, members-empty}
 
 module _ {A : Type 0} where

@@ -11,7 +11,7 @@ use lib.Dec.{eqb, ltb}
 use lib.Pow.{pow-pos}
 use borrow.Author.Tests.{eqb-true, ltb-true, ltb-false}
 use Rattle.base_sets.specs.Sets.{members, elem, inserted, joined, mask, RisingFrom, AllUnder, removed, isOne, headOr}
-use Rattle.base_sets.proofs.Places.{positions, members-places, places-0, places-1, places-zero}
+use Rattle.base_sets.proofs.Positions.{positions, members-positions, positions-0, positions-1, positions-zero}
 use Rattle.base_sets.proofs.Members.{inserted-front, inserted-same, inserted-past, elem-keep}
 
 pub lt-or-ge : (a b : ℕ) → (a < b) ⊎ (b ≤ a)
@@ -68,7 +68,7 @@ placed : (d b : ℕ) (l : List ℕ) → RisingFrom b l → AllUnder (b + d) l �
 unfolding mask positions
 placed zero b [] r s = (0, sym (zero-mul (2 ^ b)), omega arith, refl)
 placed zero b (x ∷ l) r s = absurd (let p : b ≤ x = r .0 in let q : x < b + 0 = s .0 in let f : ⊥ = omega arith in f)
-placed (suc d) b [] r s = (0, sym (zero-mul (2 ^ b)), omega (arith, pow-suc 2 d, pow-pos d), places-zero (suc d) b)
+placed (suc d) b [] r s = (0, sym (zero-mul (2 ^ b)), omega (arith, pow-suc 2 d, pow-pos d), positions-zero (suc d) b)
 placed (suc d) b (x ∷ l) r s =
     go (eq-or-lt-of-le (r .0)) (λ e. placed d (suc b) l (subst (λ (n : ℕ). RisingFrom (suc n) l) (sym e) (r .1)) (subst (λ (n : ℕ). AllUnder n l) shift (s .1)))
     (λ e. placed d (suc b) (x ∷ l) (e, r .1) (subst (λ (n : ℕ). AllUnder n (x ∷ l)) shift s))
@@ -88,7 +88,7 @@ placed (suc d) b (x ∷ l) r s =
           1 + y * 2,
           ap₂ (λ (m n : ℕ). m + n) (ap (λ (n : ℕ). 2 ^ n) (sym e) ∙ sym (one-mul (2 ^ b))) (t .1 ∙ up y b) ∙ sym (add-mul 1 (y * 2) (2 ^ b)),
           omega (arith, pow-suc 2 d),
-          places-1 d b (1 + y * 2) (omega arith) ∙ (λ i. e i ∷ (ap (positions d (suc b)) h ∙ t .3) i),
+          positions-1 d b (1 + y * 2) (omega arith) ∙ (λ i. e i ∷ (ap (positions d (suc b)) h ∙ t .3) i),
         )
     go (inr e) p q =
         let t = q e in
@@ -98,13 +98,13 @@ placed (suc d) b (x ∷ l) r s =
           y * 2,
           t .1 ∙ up y b,
           omega (arith, pow-suc 2 d),
-          places-0 d b (y * 2) (omega arith) ∙ ap (positions d (suc b)) h ∙ t .3,
+          positions-0 d b (y * 2) (omega arith) ∙ ap (positions d (suc b)) h ∙ t .3,
         )
 
 pub members-mask : (l : List ℕ) → RisingFrom 0 l → AllUnder 64 l → members (mask l) ≡ l
 members-mask l r s =
     let t = placed 64 0 l r s in
-    ap members (t .1 ∙ mul-one (t .0)) ∙ members-places (t .0) ∙ t .3
+    ap members (t .1 ∙ mul-one (t .0)) ∙ members-positions (t .0) ∙ t .3
 
 -- ---- removal
 

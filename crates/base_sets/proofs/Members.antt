@@ -14,7 +14,7 @@ use lib.Pow.{pow-pos, pow-lt}
 use borrow.Author.Tests.{eqb-true, eqb-false, eq-eqb, ne-eqb, lt-ltb, le-ltb}
 use Rattle.base_sets.specs.Sets.{has, keepIf, keep, numbersFrom, members, elem, inserted, joined, headOr, mask, RisingFrom, isNone, isOne, inBoth, but, AllUnder}
 use Rattle.base_sets.proofs.Digits.{has-and, has-or, has-pow, has-not}
-use Rattle.base_sets.proofs.Places.{members-places, count-places, first-places, rest-places, mask-places, places-zero}
+use Rattle.base_sets.proofs.Positions.{members-positions, count-positions, first-positions, rest-positions, mask-positions, positions-zero}
 
 -- ---- keep
 
@@ -205,19 +205,19 @@ members-without m i h =
     ∙ keep-same (λ j. not (has (2 ^ i) j)) (λ j. not (eqb i j)) (λ j. ap not (has-pow i j)) (members m)
 
 pub members-empty : members 0 ≡ []
-members-empty = members-places 0 ∙ places-zero 64 0
+members-empty = members-positions 0 ∙ positions-zero 64 0
 
 pub members-count : (m : ℕ) → m < 2 ^ 64 → ones m ≡ length (members m)
-members-count m h = count-places 64 0 m h ∙ ap length (sym (members-places m))
+members-count m h = count-positions 64 0 m h ∙ ap length (sym (members-positions m))
 
 pub members-first : (m : ℕ) → headOr 64 (members m) ≡ trailingZeros 64 m
-members-first m = ap (headOr 64) (members-places m) ∙ first-places 64 0 m ∙ zero-add (trailingZeros 64 m)
+members-first m = ap (headOr 64) (members-positions m) ∙ first-positions 64 0 m ∙ zero-add (trailingZeros 64 m)
 
 pub members-rest : (m : ℕ) → members (bitAnd m (m - 1)) ≡ tail (members m)
-members-rest m = members-places (bitAnd m (m - 1)) ∙ rest-places 64 0 m ∙ ap tail (sym (members-places m))
+members-rest m = members-positions (bitAnd m (m - 1)) ∙ rest-positions 64 0 m ∙ ap tail (sym (members-positions m))
 
 pub mask-members : (m : ℕ) → m < 2 ^ 64 → mask (members m) ≡ m
-mask-members m h = ap mask (members-places m) ∙ mask-places 64 0 m h ∙ mul-one m
+mask-members m h = ap mask (members-positions m) ∙ mask-positions 64 0 m h ∙ mul-one m
 
 pub members-same : (a b : ℕ) → a < 2 ^ 64 → b < 2 ^ 64 → members a ≡ members b → a ≡ b
 members-same a b p q e = sym (mask-members a p) ∙ ap mask e ∙ mask-members b q

@@ -15,7 +15,7 @@ use Rattle.base_sets.specs.Shares.{putIf, picked}
 use Rattle.base_sets.proofs.Digits.{and-low, and-half}
 use Rattle.base_sets.proofs.Members.{members-same, members-both, members-empty}
 use Rattle.base_sets.proofs.Lists.{lt-or-ge}
-use Rattle.base_sets.proofs.Places.{positions, members-places, parity, odd-0, odd-1, places-0, places-1}
+use Rattle.base_sets.proofs.Positions.{positions, members-positions, parity, odd-0, odd-1, positions-0, positions-1}
 
 -- the digits of k, put at the positions where m has a 1
 unfoldable pub deposit : ℕ → ℕ → ℕ → ℕ
@@ -42,10 +42,10 @@ deposit-le (suc d) m k = go (deposit-le d (m / 2) k) (deposit-le d (m / 2) (k / 
     go p q (inr e) = omega (arith, deposit-1 d m k e)
 
 -- its members are the share with the number k
-pub deposit-places : (d b m k : ℕ) → positions d b (deposit d m k) ≡ picked (positions d b m) k
+pub deposit-positions : (d b m k : ℕ) → positions d b (deposit d m k) ≡ picked (positions d b m) k
 unfolding deposit positions picked
-deposit-places zero b m k = refl
-deposit-places (suc d) b m k = go (deposit-places d (suc b) (m / 2) k) (deposit-places d (suc b) (m / 2) (k / 2)) (parity m)
+deposit-positions zero b m k = refl
+deposit-positions (suc d) b m k = go (deposit-positions d (suc b) (m / 2) k) (deposit-positions d (suc b) (m / 2) (k / 2)) (parity m)
   where
     R : List ℕ
     R = positions d (suc b) (m / 2)
@@ -55,27 +55,27 @@ deposit-places (suc d) b m k = go (deposit-places d (suc b) (m / 2) k) (deposit-
     go p q (inl e) =
         let z : deposit (suc d) m k % 2 ≡ 0 = omega (arith, deposit-0 d m k e) in
         let h : deposit (suc d) m k / 2 ≡ deposit d (m / 2) k = omega (arith, deposit-0 d m k e) in
-        places-0 d b (deposit (suc d) m k) z ∙ ap (positions d (suc b)) h ∙ p ∙ ap (λ (l : List ℕ). picked l k) (sym (places-0 d b m e))
+        positions-0 d b (deposit (suc d) m k) z ∙ ap (positions d (suc b)) h ∙ p ∙ ap (λ (l : List ℕ). picked l k) (sym (positions-0 d b m e))
     go p q (inr e) =
         let h : deposit (suc d) m k / 2 ≡ deposit d (m / 2) (k / 2) = omega (arith, deposit-1 d m k e) in
-        low (parity k) (ap (positions d (suc b)) h ∙ q) ∙ ap (λ (l : List ℕ). picked l k) (sym (places-1 d b m e))
+        low (parity k) (ap (positions d (suc b)) h ∙ q) ∙ ap (λ (l : List ℕ). picked l k) (sym (positions-1 d b m e))
       where
         low : (k % 2 ≡ 0) ⊎ (k % 2 ≡ 1) → positions d (suc b) (deposit (suc d) m k / 2) ≡ picked R (k / 2)
             → positions (suc d) b (deposit (suc d) m k) ≡ putIf (isOdd k) b (picked R (k / 2))
         low (inl f) r =
             let z : deposit (suc d) m k % 2 ≡ 0 = omega (arith, deposit-1 d m k e) in
-            places-0 d b (deposit (suc d) m k) z ∙ r ∙ ap (λ (t : Bool). putIf t b (picked R (k / 2))) (sym (odd-0 k f))
+            positions-0 d b (deposit (suc d) m k) z ∙ r ∙ ap (λ (t : Bool). putIf t b (picked R (k / 2))) (sym (odd-0 k f))
         low (inr f) r =
             let z : deposit (suc d) m k % 2 ≡ 1 = omega (arith, deposit-1 d m k e) in
-            places-1 d b (deposit (suc d) m k) z ∙ ap (λ (l : List ℕ). b ∷ l) r ∙ ap (λ (t : Bool). putIf t b (picked R (k / 2))) (sym (odd-1 k f))
+            positions-1 d b (deposit (suc d) m k) z ∙ ap (λ (l : List ℕ). b ∷ l) r ∙ ap (λ (t : Bool). putIf t b (picked R (k / 2))) (sym (odd-1 k f))
 
 -- ---- the number of shares
 
 count-0 : (d b m : ℕ) → m % 2 ≡ 0 → 2 ^ length (positions (suc d) b m) ≡ 2 ^ length (positions d (suc b) (m / 2))
-count-0 d b m e = ap (λ (l : List ℕ). 2 ^ length l) (places-0 d b m e)
+count-0 d b m e = ap (λ (l : List ℕ). 2 ^ length l) (positions-0 d b m e)
 
 count-1 : (d b m : ℕ) → m % 2 ≡ 1 → 2 ^ length (positions (suc d) b m) ≡ 2 ^ length (positions d (suc b) (m / 2)) * 2
-count-1 d b m e = ap (λ (l : List ℕ). 2 ^ length l) (places-1 d b m e) ∙ pow-suc 2 (length (positions d (suc b) (m / 2)))
+count-1 d b m e = ap (λ (l : List ℕ). 2 ^ length l) (positions-1 d b m e) ∙ pow-suc 2 (length (positions d (suc b) (m / 2)))
 
 -- the last share is all of m
 pub deposit-last : (d b m k : ℕ) → m < 2 ^ d → suc k ≡ 2 ^ length (positions d b m) → deposit d m k ≡ m
@@ -222,13 +222,13 @@ rank-deposit (suc d) b m k h = go (rank-deposit d (suc b) (m / 2) k) (rank-depos
 
 pub share-members : (m k : ℕ) → members (deposit 64 m k) ≡ picked (members m) k
 share-members m k =
-    members-places (deposit 64 m k) ∙ deposit-places 64 0 m k ∙ ap (λ (l : List ℕ). picked l k) (sym (members-places m))
+    members-positions (deposit 64 m k) ∙ deposit-positions 64 0 m k ∙ ap (λ (l : List ℕ). picked l k) (sym (members-positions m))
 
 pub share-is : (m s k : ℕ) → m < 2 ^ 64 → s < 2 ^ 64 → members s ≡ picked (members m) k → s ≡ deposit 64 m k
 share-is m s k h g e = members-same s (deposit 64 m k) g (omega (arith, deposit-le 64 m k)) (e ∙ sym (share-members m k))
 
 many : (m : ℕ) → 2 ^ length (members m) ≡ 2 ^ length (positions 64 0 m)
-many m = ap (λ (l : List ℕ). 2 ^ length l) (members-places m)
+many m = ap (λ (l : List ℕ). 2 ^ length l) (members-positions m)
 
 -- a share before the last is not the whole set
 pub share-below : (m s k : ℕ) → m < 2 ^ 64 → s < 2 ^ 64 → suc k < 2 ^ length (members m) → members s ≡ picked (members m) k → s < m

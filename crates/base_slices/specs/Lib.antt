@@ -1,3 +1,3 @@
--- What the contracts of `base_slices` cite. Assumes nothing: these are definitions.
+-- What the contracts of `base_slices` and of the readers cite. Assumes nothing: these are definitions.
 pub mod Sums
 pub mod Fronts

@@ -1,4 +1,5 @@
--- How the engine's run of a list of moves ends, against the closure machine's. Assumes nothing: these are definitions.
+-- What the engine's run of a list of moves asks, how it ends, against the closure machine's run, and the state that it leaves.
+-- Assumes nothing: these are definitions.
 use Prim.Native.Nat.{ℕ, _+_, _≤_, _<_}
 use mathlib.Core.List.{List}
 use mathlib.Core.Path.{_≡_}

@@ -1,6 +1,6 @@
 // The list of moves (document 01, "Questions at the door"): each word is asked questions 15 and 16 and its move is
 // made, on a state that is lent.
-use engine_moves::try_move;
+use engine_moves::make_if_possible;
 ghost use mathlib.Core.Path.{_≡_};
 ghost use Rattle.theory_call.specs.Call.{actor, target, moveFits};
 ghost use Rattle.call_lists.specs.Running.{Runnable, ListRan};
@@ -55,7 +55,7 @@ pub fn run_list<'a, 'b>(
     while i < moves.len() {
         let w = moves[i];
         if move_fits(w, parts) {
-            if try_move(script, sets, numbers, actor_of(w), target_of(w)) {
+            if make_if_possible(script, sets, numbers, actor_of(w), target_of(w)) {
                 i += 1;
             } else {
                 return Ended::Halted {

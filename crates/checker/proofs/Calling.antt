@@ -37,7 +37,7 @@ use Rattle.theory_call.specs.ClosureCall.{ClosureRan, halted, completed, closur
 use Rattle.call_lists.specs.Running.{endedOf, madeOf, Left, Runs, Runnable, ListRan}
 use Rattle.checker.specs.Answering.{answerOf, askedOf, callOf}
 use Rattle.checker.specs.declared.Answer.{Answer}
-use Rattle.checker.specs.Calling.{ScriptHeld, RuleHeld, LetIn, StateHeld, Walkable, Greatest}
+use Rattle.checker.specs.Calling.{ScriptHeld, RuleHeld, Entered, StateHeld, Walkable, Greatest}
 use Rattle.call_lists.specs.declared.Ended.{Ended}
 use Rattle.call_lists.specs.declared.Ended.the-variants.{Made, Halted}
 use Rattle.theory_call.proofs.Asking.{AllYes, asking-yes, asking-no}
@@ -98,8 +98,8 @@ module _ (p k : ℕ) where
   pub too-many : (p ≡ 0 → ⊥) → p ≤ 16777216 → 4096 < k → Refused 14 0 ≡ Asked p k
   too-many l h m = refused-by (question 13 0 (leb 1 p && leb p 16777216) ∷ []) (question 14 0 (leb k 4096)) _ (calm l h, tt) (lt-leb k 4096 m)
 
-  pub let-in : (p ≡ 0 → ⊥) → p ≤ 16777216 → k ≤ 4096 → Read 0 ≡ Asked p k
-  let-in l h m = read-by (terms p k) (calm l h, (le-leb k 4096 m, tt))
+  pub entered : (p ≡ 0 → ⊥) → p ≤ 16777216 → k ≤ 4096 → Read 0 ≡ Asked p k
+  entered l h m = read-by (terms p k) (calm l h, (le-leb k 4096 m, tt))
 
 -- ---- what a reader's outcome says
 
@@ -212,7 +212,7 @@ pub record Began (script : List ℕ) (t : Table) (s : State) (sets numbers : Lis
   pub first : (count : ℕ) (b : Script) → Tabled script (record { kinds = t .kinds; starts = t .starts; kids = t .kids; count = count }) b
       → Represents script (t .kinds) (t .starts) (parts b) 0 s (settleUnder [] (closureOf b))
 
-module _ {script moves words : List ℕ} {patience : ℕ} {t : Table} {u : RuleTable} (L : LetIn script moves words patience t u) where
+module _ {script moves words : List ℕ} {patience : ℕ} {t : Table} {u : RuleTable} (L : Entered script moves words patience t u) where
   pub enters : (buffer : List ℕ) → door (callOf script moves words patience buffer) (startOf script (L .both .held .read)) ≡ got (L .both .ruled .read)
   enters buffer = own-got (callOf script moves words patience buffer) (L .both .held .read) (L .both .ruled .read) (reads-rule (L .both .held) words (got (L .both .ruled .read)) (L .both .ruled .reads)) (L .asked)
 
@@ -235,10 +235,10 @@ module _ {script moves words : List ℕ} {patience : ℕ} {t : Table} {u : RuleT
       let z : 0 + length moves ≡ length moves = omega arith in
       let (m, x, R, d) = left-made script (t .kinds) (t .starts) r (t .count) (0 + length moves) _ (g .1) in
       record {
-        let-in = L;
+        entered = L;
         machine = m;
         runs = ap run (sym (take-all (length moves) moves (omega arith))) ∙ x;
-        stands = subst (λ (k : ℕ). Represents script (t .kinds) (t .starts) (t .count) k r (m .tree)) z R;
+        represents = subst (λ (k : ℕ). Represents script (t .kinds) (t .starts) (t .count) k r (m .tree)) z R;
         bound = d;
       }
 
@@ -257,10 +257,10 @@ module _ {script moves words : List ℕ} {patience : ℕ} {t : Table} {u : RuleT
       ran : Ends x stateLeft
       ran =
           let b = settleUnder [] (closureOf (L .both .held .read .0)) in
-          let stands = subst (λ (k : ℕ). Represents script (t .kinds) (t .starts) k 0 s b) (sym (L .both .held .tabled .counted)) (B .first (t .count) (L .both .held .read .0) (L .both .held .tabled)) in
+          let represents = subst (λ (k : ℕ). Represents script (t .kinds) (t .starts) k 0 s b) (sym (L .both .held .tabled .counted)) (B .first (t .count) (L .both .held .read .0) (L .both .held .tabled)) in
           let g : Runs script (t .kinds) (t .starts) (t .count) moves s x stateLeft = transport (λ q. Runs script (B .kinds q) (B .starts q) (t .count) moves (B .state q) x stateLeft) (R .runs) in
           subst (λ (σ : Bindings). (x ≡ endedOf (closureRun (t .count) 0 moves (record { tree = b; bindings = σ }))) × Left script (t .kinds) (t .starts) stateLeft (t .count) (0 + madeOf moves x) (closureRun (t .count) 0 (take (madeOf moves x) moves) (record { tree = b; bindings = σ }))) (B .none)
-          (g (t .count) 0 b (omega (arith, short)) stands)
+          (g (t .count) 0 b (omega (arith, short)) represents)
 
       pub list-refused : {q i : ℕ} (r : Answer) (buffer : List ℕ) → x ≡ Halted q i → ((out : List ℕ) → answerOf r out ≡ refusal q i i 0 out) → answerOf r buffer ≡ answer (callOf script moves words patience buffer)
       list-refused {q} {i} r buffer d f = f buffer ∙ sym (list-halted buffer q i stateLeft (transport (λ z. Ends (d z) stateLeft) ran))
@@ -274,7 +274,7 @@ module _ {script moves words : List ℕ} {patience : ℕ} {t : Table} {u : RuleT
         list-walkable = record {
           writable = record {
             ready = transport (λ z. Ready script ((R .same-kinds ∙ B .kinds) z) ((R .same-starts ∙ B .starts) z) (sym (f (R .lends .small) .2) z)) (R .lends .ready);
-            scripted = record { placed = λ i. omega (arith, L .both .held .tabled .low i); spent = λ i. omega (arith, stood .stands .spends i, short) };
+            scripted = record { placed = λ i. omega (arith, L .both .held .tabled .low i); spent = λ i. omega (arith, stood .represents .spends i, short) };
           };
           room = L .both .ruled .tabled .room;
         }

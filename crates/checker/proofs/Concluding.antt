@@ -46,16 +46,16 @@ module _ (buffer : List ℕ) {script moves words : List ℕ} {patience : ℕ} {t
   c = callOf script moves words patience buffer
 
   abbrev script-read : Script × Cursor
-  script-read = S .let-in .both .held .read
+  script-read = S .entered .both .held .read
 
   abbrev rule-read : Rule × Cursor
-  rule-read = S .let-in .both .ruled .read
+  rule-read = S .entered .both .ruled .read
 
   abbrev n : ℕ
   n = script-read .1 .number
 
   number : t .count ≡ n
-  number = number-is (S .let-in .both .held)
+  number = number-is (S .entered .both .held)
 
   made : closureRun n 0 moves (begun (script-read .0)) ≡ completed (S .machine)
   made = subst (λ (k : ℕ). closureRun k 0 moves (begun (script-read .0)) ≡ completed (S .machine)) number (S .runs)
@@ -66,9 +66,9 @@ module _ (buffer : List ℕ) {script moves words : List ℕ} {patience : ℕ} {t
     start = startOf script script-read;
     rule = rule-read;
     machine = unfoldMachine (S .machine);
-    starts = starting-got c script-read (S .let-in .both .held .reads);
-    enters = enters (S .let-in) buffer;
-    moves-made = started-unfolded script script-read (S .let-in .both .held .reads) n moves ∙ ap unfoldRan made;
+    starts = starting-got c script-read (S .entered .both .held .reads);
+    enters = enters (S .entered) buffer;
+    moves-made = started-unfolded script script-read (S .entered .both .held .reads) n moves ∙ ap unfoldRan made;
   }
 
   -- no part has a number from n on
@@ -83,17 +83,17 @@ module _ (buffer : List ℕ) {script moves words : List ℕ} {patience : ℕ} {t
       → Walks words u script (t .kinds) (t .starts) s (record { patience = patience; greatest = greatest; parts = t .count; limit = t .count + u .count }) w
       → walked c (unfoldMachine (record { tree = S .machine .tree; bindings = boundIn script s })) (walkedOf w) ≡ answer c
   walk-answers g G w W =
-      let x = W (t .count) (length moves) (S .machine .tree) rule-read (S .let-in .both .ruled .tabled) (rule-ordered (t .count) words rule-read (S .let-in .both .ruled .reads)) refl (S .stands) (omega arith) below (omega (arith, short (S .let-in))) in
-      let k : u .count ≡ rule-read .1 .number = S .let-in .both .ruled .tabled .counted in
+      let x = W (t .count) (length moves) (S .machine .tree) rule-read (S .entered .both .ruled .tabled) (rule-ordered (t .count) words rule-read (S .entered .both .ruled .reads)) refl (S .represents) (omega arith) below (omega (arith, short (S .entered))) in
+      let k : u .count ≡ rule-read .1 .number = S .entered .both .ruled .tabled .counted in
       let d : walkedOf w ≡ walkFrom (closureSpace (n + rule-read .1 .number)) (setting c (startOf script script-read)) (rule-read .0) (record { tree = S .machine .tree; bindings = S .machine .bindings })
       = x ∙ (λ i. walkFrom (closureSpace (number i + k i)) (record { patience = patience; greatest = G .most i; parts = number i }) (rule-read .0) (record { tree = S .machine .tree; bindings = S .bound i })) in
-      (λ i. walked c (unfoldMachine (record { tree = S .machine .tree; bindings = S .bound i })) (d i)) ∙ sym (answers-walked c script-read (S .let-in .both .held .reads) rule-read (enters (S .let-in) buffer) (S .machine) made)
+      (λ i. walked c (unfoldMachine (record { tree = S .machine .tree; bindings = S .bound i })) (d i)) ∙ sym (answers-walked c script-read (S .entered .both .held .reads) rule-read (enters (S .entered) buffer) (S .machine) made)
 
 -- so is what the call comes to by it
 pub walk-answered : (script moves words : List ℕ) (patience : ℕ) (buffer : List ℕ) (t : Table) (u : RuleTable) (s : State) (greatest : ℕ) (w : Walked) (k : ℕ) (after : List ℕ) (r : Answer)
     → StateHeld script moves words patience t u s → Greatest script words greatest → Walks words u script (t .kinds) (t .starts) s (record { patience = patience; greatest = greatest; parts = t .count; limit = t .count + u .count }) w
     → ComesTo script (t .kinds) (t .starts) s k buffer after r (walkedOf w) → k ≡ length moves → answerOf r after ≡ answer (callOf script moves words patience buffer)
-walk-answered script moves words patience buffer t u s g w k after r S G W C e = C .ends moves words patience (t .count) (length moves) (S .machine .tree) e (S .stands) ∙ walk-answers buffer S g G w W
+walk-answered script moves words patience buffer t u s g w k after r S G W C e = C .ends moves words patience (t .count) (length moves) (S .machine .tree) e (S .represents) ∙ walk-answers buffer S g G w W
 
 -- ---- demand 2
 

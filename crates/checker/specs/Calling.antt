@@ -1,5 +1,6 @@
--- What the call's functions hand on: a script and a rule that are read, with the tables that hold them, and the state that
--- stands when the walk begins. Assumes nothing: these are definitions.
+-- What the call's functions hand on: a script and a rule that are read, with the tables that hold them, the state that
+-- stands when the walk begins, that it can be walked and written, G, and what the call then comes to. Assumes nothing: these
+-- are definitions.
 use Prim.Native.Nat.{ℕ, _+_, _≤_, _<_, max}
 use mathlib.Core.List.{List}
 use mathlib.Core.Path.{_≡_}
@@ -43,7 +44,7 @@ pub record BothHeld (script words : List ℕ) (parts : Table) (table : RuleTable
   pub ruled : RuleHeld (parts .count) words table
 
 -- questions 1 to 14 are answered by yes
-pub record LetIn (script moves words : List ℕ) (patience : ℕ) (parts : Table) (table : RuleTable) : Type 0 where
+pub record Entered (script moves words : List ℕ) (patience : ℕ) (parts : Table) (table : RuleTable) : Type 0 where
   -- script and rule are read, and their tables hold them
   pub both : BothHeld script words parts table
   -- the patience and the number of moves fit
@@ -51,10 +52,10 @@ pub record LetIn (script moves words : List ℕ) (patience : ℕ) (parts : Table
 
 -- questions 1 to 16 are answered by yes, and the state represents the machine that the moves leave
 pub record StateHeld (script moves words : List ℕ) (patience : ℕ) (parts : Table) (table : RuleTable) (s : State) : Type 0 where
-  pub let-in : LetIn script moves words patience parts table
+  pub entered : Entered script moves words patience parts table
   pub machine : ClosureMachine
-  pub runs : closureRun (parts .count) 0 moves (begun (let-in .both .held .read .0)) ≡ completed machine
-  pub stands : Represents script (parts .kinds) (parts .starts) (parts .count) (length moves) s (machine .tree)
+  pub runs : closureRun (parts .count) 0 moves (begun (entered .both .held .read .0)) ≡ completed machine
+  pub represents : Represents script (parts .kinds) (parts .starts) (parts .count) (length moves) s (machine .tree)
   pub bound : boundIn script s ≡ machine .bindings
 
 -- the state can be written

@@ -33,7 +33,7 @@ ghost use Rattle.theory_decision.specs.Walk.{says};
 ghost use Rattle.theory_call.specs.Call.{accepted, refusal, asking, terms, answer};
 ghost use Rattle.checker.specs.Answering.{verdictOf, answerOf, askedOf, callOf};
 ghost use Rattle.theory_call.specs.Standing.{Decides, Reduces, Returned, Readmitted, MovesBounded, WeightHolds, WeightBounded};
-ghost use Rattle.checker.specs.Calling.{ScriptHeld, BothHeld, LetIn, StateHeld, Writable, Walkable, ComesTo, Greatest};
+ghost use Rattle.checker.specs.Calling.{ScriptHeld, BothHeld, Entered, StateHeld, Writable, Walkable, ComesTo, Greatest};
 
 // The most visits that may be asked for, and the most moves of a list: questions 13 and 14.
 const MOST_PATIENCE: u32 = 16777216;
@@ -245,7 +245,7 @@ fn with_terms<'a, 'b>(
     patience: u32,
     out: &'b mut [u32],
 ) -> Answer
-    requires { ⌜ LetIn (now script) (now moves) (now rule) patience parts table ⌝ }
+    requires { ⌜ Entered (now script) (now moves) (now rule) patience parts table ⌝ }
     ensures { λ r. ⌜ answerOf r (now (out .exit)) ≡ answer (callOf (now (script .entry)) (now (moves .entry)) (now (rule .entry)) patience (now (out .entry))) ⌝ }
 {
     let kinds = parts.kinds;

@@ -1,5 +1,5 @@
--- The words that messages are written with: of a message, of an action's items, and of items with one PATH each; and that
--- what is kept of them with the bindings is right. Assumes nothing: these are definitions.
+-- The words that messages are written with: of a message, of an action's items, and of items with one PATH each; that what
+-- is kept of them with the bindings is right; and what the functions ask that count them. Assumes nothing: these are definitions.
 use Prim.Native.Nat.{ℕ, suc, _+_, _^_, _<_, min}
 use mathlib.Core.List.{List, [], _∷_}
 use lib.ListN.{length}

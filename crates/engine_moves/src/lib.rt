@@ -151,7 +151,7 @@ pub fn make_move<'a, 'b>(
 }
 
 // The move (a, t) where the machine can make it, and whether it can.
-pub fn try_move<'a, 'b>(
+pub fn make_if_possible<'a, 'b>(
     script: &'a [u32],
     sets: &'b mut [u64; 131],
     numbers: &'b mut [u32; 481],
@@ -161,7 +161,7 @@ pub fn try_move<'a, 'b>(
     requires { ⌜ (a < 64) × (t < 64) × LentReady (now script) (now sets) (now numbers) ⌝ }
     ensures lends { λ r. ⌜ LentReady (now (script .entry)) (now (sets .exit)) (now (numbers .exit)) ⌝ }
     ensures table { λ r. ⌜ (kindsIn (now (numbers .exit)) ≡ kindsIn (now (numbers .entry))) × (startsIn (now (numbers .exit)) ≡ startsIn (now (numbers .entry))) ⌝ }
-    ensures tried { λ r. ⌜ MakesOrLeaves (now (script .entry)) (kindsIn (now (numbers .entry))) (startsIn (now (numbers .entry))) (ownState (now (sets .entry)) (now (numbers .entry))) (ownState (now (sets .exit)) (now (numbers .exit))) r a t ⌝ }
+    ensures made { λ r. ⌜ MakesOrLeaves (now (script .entry)) (kindsIn (now (numbers .entry))) (startsIn (now (numbers .entry))) (ownState (now (sets .entry)) (now (numbers .entry))) (ownState (now (sets .exit)) (now (numbers .exit))) r a t ⌝ }
 {
     let top = sets[64];
     let kids = bodies(sets, top);

@@ -2,7 +2,7 @@
 pub mod Heads
 pub mod Holding
 pub mod Focus
-pub mod Looking
+pub mod Filling
 pub mod Deeds
 pub mod Moving
 pub mod Homes

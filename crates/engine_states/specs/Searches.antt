@@ -62,7 +62,7 @@ Settles σ bodies after heads left r fuel =
     (b : Closure) → left ≡ tops b → Held bodies heads b → ((j : ℕ) → timesIn j b ≤ 1) → parts b ≤ fuel
     → (r ≡ tops (settleUnder σ b)) × Held after heads (settleUnder σ b) × ((j : ℕ) → timesIn j b ≡ 0 → bodies j ≡ after j)
 
--- the same for all heads and bindings of which `busy` has the parts at which settling looks, and kinds the ambients
+-- the same for all heads and bindings of which `busy` has the parts that settling concerns, and kinds the ambients
 abbrev pub SettlesBy : (busy kinds : List ℕ) (bodies after : ℕ → List ℕ) (left r : List ℕ) (fuel : ℕ) → Type 0
 SettlesBy busy kinds bodies after left r fuel =
     (σ : Bindings) (heads : ℕ → ClosureHead) → Busy σ heads busy → Ambients heads kinds → Settles σ bodies after heads left r fuel

@@ -53,7 +53,7 @@ actOf kind item = cond (eqb kind 2) (itemAct item) (cond (eqb kind 3) 4 0)
 unfoldable pub aimOf : (kind : ℕ) → First → (isOutput : Bool) → Named → Bool
 aimOf kind item o n = cond (eqb kind 2) (sameName (itemName item) n) (cond (eqb kind 3) o false)
 
--- whether settling looks at the part: an ambient, whose body it settles, or an action with no items left, which goes
+-- whether settling concerns the part: an ambient, whose body it settles, or an action with no items left, which goes
 unfoldable pub busyOf : (kind : ℕ) → First → Bool
 busyOf kind item = cond (eqb kind 1) true (cond (eqb kind 2) (isNothing item) false)
 
@@ -97,7 +97,7 @@ pub record Seen (σ : Bindings) (w : ℕ → ClosureHead) (l : PartNotes) : Type
   pub names : (i : ℕ) → i < 64 → nameIn (l .named) (l .names) i ≡ headName (viewUnder σ) (w i)
   pub deeds : (i : ℕ) → i < 64 → Does σ w (w i) (deedIn l i)
 
--- l has the parts at which settling looks, and kinds says which of them are ambients
+-- l has the parts that settling concerns, and kinds says which of them are ambients
 abbrev pub Busy : Bindings → (ℕ → ClosureHead) → List ℕ → Type 0
 Busy σ w l = (i : ℕ) → i < 64 → elem i l ≡ busyUnder σ (w i)
 

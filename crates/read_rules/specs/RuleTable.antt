@@ -1,5 +1,5 @@
--- What the readers of rules answer, and the rule table that they fill, as a function of the rule that the words are read as.
--- Assumes nothing: these are definitions.
+-- What the readers of rules ask and answer, and the rule table that they fill, as a function of the rule that the words are
+-- read as. Assumes nothing: these are definitions.
 use Prim.Native.Nat.{ℕ, _+_, _≤_}
 use mathlib.Core.List.{List}
 use lib.ListN.{length, set, replicate}

@@ -1,4 +1,4 @@
--- What the contracts of `read_scripts` cite. Assumes nothing: these are definitions.
+-- What the contracts of `read_scripts` cite, and examples of it. Assumes nothing: these are definitions.
 pub mod Tree
 pub mod Script
 pub mod Table

@@ -1,5 +1,5 @@
--- The part table that the reader fills, as a function of the tree that the words are read as.
--- Assumes nothing: these are definitions.
+-- The part table that the reader fills, as a function of the tree that the words are read as, and what the readers ask of
+-- what they are called with. Assumes nothing: these are definitions.
 use Prim.Native.Nat.{ℕ, _+_, _≤_, _<_}
 use mathlib.Core.Bool.{cond}
 use mathlib.Core.List.{List}

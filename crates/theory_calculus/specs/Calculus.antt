@@ -14,7 +14,7 @@ use Rattle.read_rule_words.specs.Rule.{Names, termName, Rule, truth, negation, 
 
 infixr 30 _‖_
 infix 20 _≅_ _⟶_ _⟶*_ _↓_ _↓*_
--- "Expressions and Processes". The expressions are the messages: name n, in M, out M, open M, ε, M.M'. The paper's bound
+-- Expressions and Processes. The expressions are the messages: name n, in M, out M, open M, ε, M.M'. The paper's bound
 -- names are the variables here, a vocabulary of their own.
 pub data Process : Type 0 where
   𝟎 : Process  -- inactivity
@@ -43,7 +43,7 @@ occurs v (action m p) = mentions v m + occurs v p
 occurs v (input x p) = cond (eqb x v) (suc (occurs v p)) (occurs v p)
 occurs v (output m) = mentions v m
 
--- "Structural Congruence": P ≡ Q. The paper's (Struct Refl) makes α-equivalent processes congruent: here `StructRefl`,
+-- Structural Congruence: P ≡ Q. The paper's (Struct Refl) makes α-equivalent processes congruent: here `StructRefl`,
 -- `StructAlpha`, which renames the variable of one input to one that does not occur, and the rules for compositions, ambients,
 -- actions and inputs together are it. `StructPath` is the paper's (Struct .).
 pub data _≅_ : Process → Process → Type 0 where
@@ -61,7 +61,7 @@ pub data _≅_ : Process → Process → Type 0 where
   Structε : {p : Process} → action emptyMessage p ≅ p
   StructPath : {m k : Message} {p : Process} → action (path m k) p ≅ action m (action k p)
 
--- "Reduction": P → Q. `RedIO` is the paper's (Red I/O), `RedCong` its (Red ≡).
+-- Reduction: P → Q. `RedIO` is the paper's (Red I/O), `RedCong` its (Red ≡).
 pub data _⟶_ : Process → Process → Type 0 where
   RedIn : {n m : ℕ} {p q r : Process} → ambient (name n) (action (enter (name m)) p ‖ q) ‖ ambient (name m) r ⟶ ambient (name m) (ambient (name n) (p ‖ q) ‖ r)
   RedOut : {n m : ℕ} {p q r : Process} → ambient (name m) (ambient (name n) (action (exit (name m)) p ‖ q) ‖ r) ⟶ ambient (name n) (p ‖ q) ‖ ambient (name m) r
@@ -71,11 +71,11 @@ pub data _⟶_ : Process → Process → Type 0 where
   RedAmb : {n : ℕ} {p q : Process} → p ⟶ q → ambient (name n) p ⟶ ambient (name n) q
   RedCong : {p p′ q q′ : Process} → p′ ≅ p → p ⟶ q → q ≅ q′ → p′ ⟶ q′
 
--- "Sublocation": P ↓ Q, (Loc): the second is "the whole interior of a top-level ambient" of the first, one that has a name
+-- Sublocation: P ↓ Q, (Loc): the second is the whole interior of a top-level ambient of the first, one that has a name
 pub data _↓_ : Process → Process → Type 0 where
   Loc : {n : ℕ} {p q r : Process} → p ≅ ambient (name n) q ‖ r → p ↓ q
 
--- "the reflexive and transitive closure of" a relation, here of → and of ↓
+-- the reflexive and transitive closure of a relation, here of → and of ↓
 pub data Star (R : Process → Process → Type 0) : Process → Process → Type 0 where
   stop : {p : Process} → Star R p p
   step : {p q r : Process} → R p q → Star R q r → Star R p r
@@ -86,7 +86,7 @@ _⟶*_ = Star _⟶_
 abbrev pub _↓*_ : Process → Process → Type 0
 _↓*_ = Star _↓_
 
--- "Satisfaction": P ⊨ A, where e are the names that the variables of A represent. Names are 1, 2, 3, ..; the paper's T is
+-- Satisfaction: P ⊨ A, where e are the names that the variables of A represent. Names are 1, 2, 3, ..; the paper's T is
 -- `truth`, its A @ n is PLACED n A.
 unfoldable pub Satisfies : Names → Process → Rule → Type 0
 Satisfies e p (truth i) = Unit {0}

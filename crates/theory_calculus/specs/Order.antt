@@ -1,5 +1,5 @@
--- Trees that differ only in the order and the numbers of their parts and in the variables of their receipts. That they stand
--- for congruent processes and meet the same rules is a law (proofs/Orders.antt). Assumes nothing: these are definitions.
+-- Trees that differ only in the order and the numbers of their parts and in the variables of their receipts. That their
+-- processes are congruent and they meet the same rules is a law (proofs/Orders.antt). Assumes nothing: these are definitions.
 use Prim.Native.Nat.{ℕ}
 use mathlib.Core.Path.{_≡_}
 use Rattle.read_messages.specs.Message.{variable}

@@ -25,6 +25,6 @@ pub data Steps : ℕ → Process → Process → Type 0 where
   stop : {p : Process} → Steps 0 p p
   step : {n : ℕ} {p q r : Process} → p ⟶ q → Steps n q r → Steps (suc n) p r
 
--- "Structural Congruence": the same, where the last process is the given one up to it
+-- the same, where the last process is the given one up to structural congruence
 abbrev pub Leads : ℕ → Process → Process → Type 0
 Leads n p q = (r : Process) × Steps n p r × (r ≅ q)

@@ -52,7 +52,7 @@ pub first-reduced : (c : Call) (p : Script × Cursor) → readScript (c .script)
 first-reduced c p e k m l a =
     let n : length (take k (c .moves)) ≡ k = omega (arith, length-take k (c .moves)) in
     let x : Leads k (calculus.written (p .0)) (process (m .tree)) = subst (λ (j : ℕ). Leads j (calculus.written (p .0)) (process (m .tree))) n (list-leads (c .script) p e (take k (c .moves)) m a) in
-    record { within = l; made = a; last = x .0; steps = x .1; stands = x .2 }
+    record { within = l; made = a; last = x .0; steps = x .1; congruent = x .2 }
 
 -- ---- a list that halts
 
@@ -154,12 +154,12 @@ module _ (c : Call) where
       let s = answer-stands c true e in
       let n : k ≡ length (c .moves) = sym d ∙ accepted-moves true e in
       let x = standing-reduced s k n in
-      (s, x, n, congruent-satisfies (s .rule .0) [] (process (s .machine .tree)) (x .last) (StructSymm (x .stands)) (verdict-yes c s e))
+      (s, x, n, congruent-satisfies (s .rule .0) [] (process (s .machine .tree)) (x .last) (StructSymm (x .congruent)) (verdict-yes c s e))
   reduces (accepted false) k e d =
       let s = answer-stands c false e in
       let n : k ≡ length (c .moves) = sym d ∙ accepted-moves false e in
       let x = standing-reduced s k n in
-      (s, x, n, λ h. verdict-no c s e (congruent-satisfies (s .rule .0) [] (x .last) (process (s .machine .tree)) (x .stands) h))
+      (s, x, n, λ h. verdict-no c s e (congruent-satisfies (s .rule .0) [] (x .last) (process (s .machine .tree)) (x .congruent) h))
   reduces (refused q i) k e d = λ p r.
       let (l, m, a) = answer-begins p r in
       (m, first-reduced c p r k m (omega (arith, d)) (subst (λ (j : ℕ). After c p j m) d a))

@@ -55,7 +55,7 @@ pub record Reduced (c : Call) (p : Script × Cursor) (k : ℕ) (m : Machine) : T
   pub made : After c p k m
   pub last : Process
   pub steps : Steps k (written (p .0)) last
-  pub stands : last ≅ process (m .tree)
+  pub congruent : last ≅ process (m .tree)
 
 -- An answer's verdict and moves, in the paper's terms. Yes: the whole list leads from the script as written to a process that
 -- satisfies the rule; no: to one that does not; refused: what was made of the list, "the moves made are those before it", is a

@@ -1,4 +1,4 @@
--- What the walk's lists hold: the numbers of a span, the divisions of a tree, the insides of its named ambients, and what
+-- What the walk's lists hold: the numbers from one on, the divisions of a tree, the insides of its named ambients, and what
 -- stands after each move, of which none is missing where every part number is below the limit. Assumes nothing.
 use Prim.Native.Nat.{ℕ, zero, suc, _+_, _≤_, _<_}
 use mathlib.Core.List.{List, [], _∷_, List·Memᴰ, List·Memᴰ·head, List·Memᴰ·tail, List·Memᴰ·not-nil, List·Memᴰ·cases-cons, List·Memᴰ·append-cases, Memᴰ·append-left, Memᴰ·append-right}

@@ -20,7 +20,7 @@ use Rattle.read_scripts.proofs.Tabled.{tops-map}
 use Rattle.theory_machine.proofs.Options.{bind-map, bind-same, orElse-map, cond-inv, cond-map, onward-map}
 use Rattle.theory_machine.proofs.Inversion.{isNamed-inv, variableOf-inv, messageOf-inv, found, Makes, inside-inv, anywhere-inv}
 
--- Looking up and rewriting, with other heads.
+-- Finding parts and rewriting, with other heads.
 module _ {G H : Type 0} (F : G → H) where
   abbrev pub mapPart : G × Body G → H × Body H
   mapPart p = (F (p .0), mapHeads F (p .1))

@@ -1,5 +1,5 @@
--- Looking parts up in a body and rewriting it, by part numbers; `removePart` goes through the parts as `remove` does through
--- the numbers of a list (crate sets). Assumes nothing: these are definitions.
+-- Finding parts in a body and rewriting it, by part numbers; `removePart` goes through the parts as `removed` does through
+-- the numbers of a list (base_sets, Sets). Assumes nothing: these are definitions.
 use Prim.Native.Nat.{ℕ}
 use mathlib.Core.Bool.{Bool, true, false, cond}
 use mathlib.Core.Option.{Option, none, some}

@@ -74,7 +74,7 @@ pub stage-piece : (words : List ℕ) (table : RuleTable) (script kinds starts : 
     → Stage words table script kinds starts limits chosen somes left (withTop kids m s) i weight spent from e r c
 stage-piece words table script kinds starts limits chosen somes left s index weight spent from e q b kids top sets long S c m P em r i ruled stood later = record {
   ready = ready-top script kinds starts s kids m (S .ready);
-  stands = focused script kinds starts weight spent s b kids top sets long (S .stands) c m P em;
+  represents = focused script kinds starts weight spent s b kids top sets long (S .represents) c m P em;
   slack = S .slack;
   below = λ j l. omega (arith, fewer (bodyIn (s .kids)) (heads script kinds starts (s .offsets)) b c P j, S .below j l);
   light = S .light;

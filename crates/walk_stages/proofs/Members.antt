@@ -119,7 +119,7 @@ module _ (program script sets numbers choices : List ℕ) (top somes left index 
   unfolding look
   void-finds r small er X e =
       er
-      ∙ ap (λ (x : Bool). says x (countOf c)) (sym (void-told top (X .tree) small (top-told script (kindsIn numbers) (startsIn numbers) (X .weight) (X .spent) (stateIn sets numbers top) (X .tree) (stretch 0 65 sets) top refl (length-stretch 0 65 sets) (X .stage .stands))))
+      ∙ ap (λ (x : Bool). says x (countOf c)) (sym (void-told top (X .tree) small (top-told script (kindsIn numbers) (startsIn numbers) (X .weight) (X .spent) (stateIn sets numbers top) (X .tree) (stretch 0 65 sets) top refl (length-stretch 0 65 sets) (X .stage .represents))))
       ∙ as-told X (void index) (told X 3 e)
 
   -- a word of any other kind stands in no rule
@@ -185,7 +185,7 @@ module _ (program script sets numbers choices : List ℕ) (top somes left index 
   lent-own X i low d room =
       let z : 0 + i ≡ i = omega arith in
       ap members (sym (getD-stretch 0 65 i sets (omega arith) ∙ ap (λ (x : ℕ). getD sets x 0) z))
-      ∙ sym (lent-told script (kindsIn numbers) (startsIn numbers) (X .weight) (X .spent) state (X .tree) (stretch 0 65 sets) top refl (length-stretch 0 65 sets) (X .stage .stands) i (λ e. omega arith))
+      ∙ sym (lent-told script (kindsIn numbers) (startsIn numbers) (X .weight) (X .spent) state (X .tree) (stretch 0 65 sets) top refl (length-stretch 0 65 sets) (X .stage .represents) i (λ e. omega arith))
       ∙ room .own
 
   -- AT: no part, or several
@@ -196,7 +196,7 @@ module _ (program script sets numbers choices : List ℕ) (top somes left index 
   unfolding look ifAny walkedOf
   at-several h X e =
       let (q, eq, ei, R, s) = told X 4 e in
-      ap (ifOne X q) (sym (at-none script (kindsIn numbers) (startsIn numbers) (X .weight) (X .spent) state (X .tree) (stretch 0 65 sets) top refl (length-stretch 0 65 sets) (X .stage .stands) (termName (X .names) (termOf (operand (getD (X .words) index 0)))) h))
+      ap (ifOne X q) (sym (at-none script (kindsIn numbers) (startsIn numbers) (X .weight) (X .spent) state (X .tree) (stretch 0 65 sets) top refl (length-stretch 0 65 sets) (X .stage .represents) (termName (X .names) (termOf (operand (getD (X .words) index 0)))) h))
       ∙ as-told X (at index (termOf (operand (getD (X .words) index 0))) q) eq
 
   -- one part, which is asked for its name
@@ -206,7 +206,7 @@ module _ (program script sets numbers choices : List ℕ) (top somes left index 
         → (i < 64) × ((d : Closure) × Room k w (X .tree) i d × (only (boundIn script state) (termName (X .names) (termOf (operand (getD (X .words) index 0)))) (X .tree) ≡ cond called (some (here script sets numbers top d)) none))
     at-told X s =
         let n = name-is X small said en s in
-        let (low, (d, room, o)) = at-one script (kindsIn numbers) (startsIn numbers) (X .weight) (X .spent) state (X .tree) (stretch 0 65 sets) top refl (length-stretch 0 65 sets) (X .stage .stands) (X .stage .ready) (few X) (termName (X .names) (termOf (operand (getD (X .words) index 0)))) i one first in
+        let (low, (d, room, o)) = at-one script (kindsIn numbers) (startsIn numbers) (X .weight) (X .spent) state (X .tree) (stretch 0 65 sets) top refl (length-stretch 0 65 sets) (X .stage .represents) (X .stage .ready) (few X) (termName (X .names) (termOf (operand (getD (X .words) index 0)))) i one first in
         let same : sameName (Called (termName (X .names) (termOf (operand (getD (X .words) index 0))))) (nameIn (getD sets 129 0) (stretch 192 64 numbers) i) ≡ called =
         ap (λ (x : ℕ). sameName (Called x) (nameIn (getD sets 129 0) (stretch 192 64 numbers) i)) (sym (n .0)) ∙ sym (ec low) in
         (low, (d, room, o ∙ ap (λ (x : Bool). cond x (some (here script sets numbers top d)) none) same))

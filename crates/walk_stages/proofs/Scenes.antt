@@ -75,7 +75,7 @@ module _ {program script sets numbers choices : List ℕ} {top somes left index 
       → Stage (X .words) (X .table) script (kindsIn numbers) (startsIn numbers) limits choices′ somes′ k (stateIn sets numbers top) i (X .weight) (X .spent) (X .from) names q (X .tree)
   stage-under choices′ somes′ k h names q i ruled stood later named = record {
     ready = X .stage .ready;
-    stands = X .stage .stands;
+    represents = X .stage .represents;
     slack = omega (arith, X .stage .slack);
     below = X .stage .below;
     light = X .stage .light;
@@ -156,7 +156,7 @@ module _ (program script sets numbers choices : List ℕ) (top somes left index 
     pub stage-moved : Stage (X .words) (X .table) script (kindsIn numbers′) (startsIn numbers′) limits choices somes left (stateIn sets′ numbers′ top′) index (X .weight) (X .spent + 1) (X .from) (X .names) (X .rule) (m .body)
     stage-moved = record {
       ready = L .ready;
-      stands = subst (λ (k : List ℕ). Represents script k (startsIn numbers′) (X .weight) (X .spent + 1) (stateIn sets′ numbers′ top′) (m .body)) (sym ek)
+      represents = subst (λ (k : List ℕ). Represents script k (startsIn numbers′) (X .weight) (X .spent + 1) (stateIn sets′ numbers′ top′) (m .body)) (sym ek)
           (subst (λ (k : List ℕ). Represents script (kindsIn numbers) k (X .weight) (X .spent + 1) (stateIn sets′ numbers′ top′) (m .body)) (sym es) R);
       slack = omega (arith, X .stage .slack);
       below = move-low (boundIn script (stateIn sets numbers top)) (limits .parts + X .from) a t (X .tree) m (X .stage .below) e .2;
@@ -187,7 +187,7 @@ module _ (program script sets numbers choices : List ℕ) (top somes left index 
     pub stage-placed : Stage (X .words) (X .table) script (kindsIn numbers′) (startsIn numbers′) limits choices somes left (stateIn sets′ numbers′ top′) i (X .weight + 1) (X .spent) (suc j) (X .names) q (part (limits .parts + j) (ambient (name n)) (X .tree) close)
     stage-placed = record {
       ready = L .ready;
-      stands = R (X .weight) (X .spent) (X .tree) (X .stage .stands) (X .stage .below (limits .parts + j) (omega arith)) (omega (arith, X .stage .light, X .stage .limited, X .stage .few));
+      represents = R (X .weight) (X .spent) (X .tree) (X .stage .represents) (X .stage .below (limits .parts + j) (omega arith)) (omega (arith, X .stage .light, X .stage .limited, X .stage .few));
       slack = omega (arith, X .stage .slack);
       below = below-placed;
       light = omega (arith, X .stage .light);

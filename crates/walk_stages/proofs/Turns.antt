@@ -86,7 +86,7 @@ module _ (program script sets numbers choices : List ℕ) (top somes left index 
   few X = omega (arith, X .stage .slack)
 
   tops-told : (X : Here) → members top ≡ tops (X .tree)
-  tops-told X = top-told script (kindsIn numbers) (startsIn numbers) (X .weight) (X .spent) state (X .tree) (stretch 0 65 sets) top refl (length-stretch 0 65 sets) (X .stage .stands)
+  tops-told X = top-told script (kindsIn numbers) (startsIn numbers) (X .weight) (X .spent) state (X .tree) (stretch 0 65 sets) top refl (length-stretch 0 65 sets) (X .stage .represents)
 
   -- the rule that is visited, as one inside itself
   itself : (X : Here) (q : Rule) → X .rule ≡ q → Inside program script sets numbers choices top somes left index limits X q index
@@ -120,7 +120,7 @@ module _ (program script sets numbers choices : List ℕ) (top somes left index 
     turn : (X : Here) (q p : Rule) → X .rule ≡ beside index q p
         → (d : Closure × Closure) × (remaining (X .tree) place-now ≡ d ∷ remaining (X .tree) (suc place-now)) × (walkedOf x ≡ halves X q p (shares σ d) (countOf now))
     turn X q p e =
-        let (d, r, v) = remaining-first (X .tree) top share (D .shared) (tops-told X) k w (X .stage .stands .held) in
+        let (d, r, v) = remaining-first (X .tree) top share (D .shared) (tops-told X) k w (X .stage .represents .held) in
         (d, r, Z X q p d e v)
 
     pub dividing-again : (d : Counts) → x ≡ No d → top < 2 ^ 64 → share < 2 ^ 64 → (share ≡ top → ⊥) → (next : ℕ) → next < 2 ^ 64
@@ -271,7 +271,7 @@ module _ (program script sets numbers choices : List ℕ) (top somes left index 
   pub seeking-holds : (c : Counts) (rest : ℕ) → members rest ≡ inBoth (members top) (members (getD sets 129 0)) → Seeking c c rest
   unfolding Seeking
   seeking-holds c rest e X q eq =
-      let (cs, i, R) = rooms-told script (kindsIn numbers) (startsIn numbers) (X .weight) (X .spent) state (X .tree) (stretch 0 65 sets) top refl (length-stretch 0 65 sets) (X .stage .stands) (X .stage .ready) (few X) rest e in
+      let (cs, i, R) = rooms-told script (kindsIn numbers) (startsIn numbers) (X .weight) (X .spent) state (X .tree) (stretch 0 65 sets) top refl (length-stretch 0 65 sets) (X .stage .represents) (X .stage .ready) (few X) rest e in
       (cs, R, ap (λ (l : List ClosureMachine). firstYes (seeking X q) l (countOf c)) i)
 
   module _ (c now : Counts) (rest i others : ℕ) (N : Seeking c now rest) (small : rest < 2 ^ 64) (some-left : rest ≡ 0 → ⊥) (ei : i ≡ headOr 64 (members rest)) (eo : members others ≡ tail (members rest))
@@ -286,7 +286,7 @@ module _ (program script sets numbers choices : List ℕ) (top somes left index 
         let z : 0 + i ≡ i = omega arith in
         let own : members (getD sets i 0) ≡ tops d =
         ap members (sym (getD-stretch 0 65 i sets (omega arith) ∙ ap (λ (y : ℕ). getD sets y 0) z))
-        ∙ sym (lent-told script (kindsIn numbers) (startsIn numbers) (X .weight) (X .spent) state (X .tree) (stretch 0 65 sets) top refl (length-stretch 0 65 sets) (X .stage .stands) i (λ h. omega arith))
+        ∙ sym (lent-told script (kindsIn numbers) (startsIn numbers) (X .weight) (X .spent) state (X .tree) (stretch 0 65 sets) top refl (length-stretch 0 65 sets) (X .stage .represents) i (λ h. omega arith))
         ∙ room .own in (
           d,
           ds,
@@ -340,12 +340,12 @@ module _ (program script sets numbers choices : List ℕ) (top somes left index 
   module _ (homes targets : List ℕ) (P : Located (members (getD sets 129 0)) (bodyIn (state .kids)) (λ i. getD homes i 0))
       (T : (a : ℕ) → a < 64 → TargetsOf (bodyIn (state .kids)) (getD (state .notes .acts) a 0) (members (getD (state .notes .aims) a 0)) (λ i. getD homes i 0) a (members (getD targets a 0))) where
     placed : (X : Here) (i : ℕ) → i < 64 → getD homes i 0 ≡ home σ i (X .tree)
-    placed X = state-homes script (kindsIn numbers) (startsIn numbers) (X .weight) (X .spent) state (X .tree) (X .stage .ready) (few X) (X .stage .stands) (λ i. getD homes i 0) P
+    placed X = state-homes script (kindsIn numbers) (startsIn numbers) (X .weight) (X .spent) state (X .tree) (X .stage .ready) (few X) (X .stage .represents) (λ i. getD homes i 0) P
 
     aimed : (X : Here) (a : ℕ) → a < limits .limit → (t : ℕ) → t < 64 → elem t (members (getD targets a 0)) ≡ isSome (closureMove σ a t (X .tree))
     aimed X a h =
         let low : a < 64 = omega (arith, X .stage .few) in
-        state-targets script (kindsIn numbers) (startsIn numbers) (X .weight) (X .spent) state (X .tree) (X .stage .ready) (few X) (X .stage .stands) (λ i. getD homes i 0) P a low (members (getD targets a 0)) (T a low)
+        state-targets script (kindsIn numbers) (startsIn numbers) (X .weight) (X .spent) state (X .tree) (X .stage .ready) (few X) (X .stage .represents) (λ i. getD homes i 0) P a low (members (getD targets a 0)) (T a low)
 
     pub trying-holds : (c : Counts) (outer rest : ℕ) → Turns targets (limits .limit) outer rest (pairsFrom targets 0 (limits .limit - 0)) → Trying targets c c outer rest
     trying-holds c outer rest U = record {
@@ -371,7 +371,7 @@ module _ (program script sets numbers choices : List ℕ) (top somes left index 
         turn-tried : (X : Here) (q : Rule) → X .rule ≡ sometime index q → (m : ClosureMachine) × (after σ (X .tree) a t ≡ some m) × (walkedOf x ≡ trying X q m (countOf now))
         turn-tried X q e =
             let is = tried-makes (after σ (X .tree)) (trying X q) (nexts σ (limits .limit) (X .tree)) c now a t others (tried-first X q e) in
-            let (m, em, R, eb) = M (X .weight) (X .spent) (X .tree) (omega (arith, X .stage .slack)) (X .stage .stands) (placed X, after-made σ (X .tree) a t is) in (
+            let (m, em, R, eb) = M (X .weight) (X .spent) (X .tree) (omega (arith, X .stage .slack)) (X .stage .represents) (placed X, after-made σ (X .tree) a t is) in (
               here script sets′ numbers′ top′ (m .body),
               after-is σ (boundIn script (stateIn sets′ numbers′ top′)) (X .tree) a t m em eb,
               visited (scene-moved program script sets numbers choices top somes left index limits X sets′ numbers′ top′ L ek es a t m em R) ∙ ap (λ (y : Rule). visits limits left (X .names) y (here script sets′ numbers′ top′ (m .body)) (countOf now)) e,

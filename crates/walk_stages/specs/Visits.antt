@@ -53,7 +53,7 @@ pub record Chosen (greatest : ℕ) (e : Names) (chosen : List ℕ) (somes : ℕ)
 pub record Stage (words : List ℕ) (table : RuleTable) (script kinds starts : List ℕ) (limits : Limits) (chosen : List ℕ) (somes left : ℕ) (s : State) (index : ℕ)
     (weight spent from : ℕ) (e : Names) (q : Rule) (b : Closure) : Type 0 where
   pub ready : Ready script kinds starts s
-  pub stands : Represents script kinds starts weight spent s b
+  pub represents : Represents script kinds starts weight spent s b
   pub slack : spent + left < 4294967295
   pub below : (i : ℕ) → limits .parts + from ≤ i → timesIn i b ≡ 0
   pub light : weight ≤ limits .parts + from
@@ -137,8 +137,8 @@ module _ (program script sets numbers chosen : List ℕ) (top somes left index :
       → Divides (bodyIn (stateIn sets numbers top .kids)) (heads script (kindsIn numbers) (startsIn numbers) (stateIn sets numbers top .offsets)) (X .tree) top share d
       → walkedOf r ≡ onYes (visits limits left (X .names) q (here script sets numbers top (d .0)) (countOf c)) (λ n. visits limits left (X .names) p (here script sets numbers top (d .1)) n)
 
--- r is what the whole walk answers, for every rule that the words and the table hold and every closure for which the state
--- stands, all of whose parts are the script's
+-- r is what the whole walk answers, for every rule that the words and the table hold and every closure that the state
+-- represents, all of whose parts are the script's
 abbrev pub Walks : (words : List ℕ) (table : RuleTable) (script kinds starts : List ℕ) → State → Limits → Walked → Type 0
 Walks words table script kinds starts s limits r =
     (weight spent : ℕ) (b : Closure) (p : Rule × Cursor) → Tabled (limits .parts) words table p → Later 0 (p .0) → limits .limit ≡ limits .parts + table .count

@@ -232,10 +232,10 @@ pub fn loaded(rule: &[u32], rights: [u16; 256], placings: [u8; 256]) -> [u32; 76
     let mut i: usize = 0;
     while i < 256 {
         let right = rights[i];
-        let place = placings[i];
+        let placing = placings[i];
         program[i] = word_at(rule, i);
         program[256 + i] = right as u32;
-        program[512 + i] = place as u32;
+        program[512 + i] = placing as u32;
         i += 1;
     }
     program

@@ -43,7 +43,7 @@ whole-walk program words script kinds starts sets numbers choices table top s li
       loaded = record { word = λ i h. ew i (omega (arith, T .few)) h; right = λ i h. et i h .0; number = λ i h. et i h .1 };
       stage = record {
         ready = carried (λ (k : List ℕ) (l : List ℕ) (x : State). Ready script k l x) kinds _ starts _ s _ ek es e ready;
-        stands = carried (λ (k : List ℕ) (l : List ℕ) (x : State). Represents script k l weight spent x b) kinds _ starts _ s _ ek es e R;
+        represents = carried (λ (k : List ℕ) (l : List ℕ) (x : State). Represents script k l weight spent x b) kinds _ starts _ s _ ek es e R;
         slack = slack;
         below = λ i h. below i (omega arith);
         light = omega arith;

@@ -1,5 +1,5 @@
 -- `ask_terms` meets its contract: questions 13 and 14. Assumes nothing.
-use Rattle.checker.proofs.Calling.{no-patience, too-patient, too-many, let-in}
+use Rattle.checker.proofs.Calling.{no-patience, too-patient, too-many, entered}
 use Rattle.checker.proofs.ask_terms.Statement.{statement}
 use Rattle.checker.proofs.ask_terms.Tie as tie
 
@@ -13,7 +13,7 @@ returns-3 : tie.Need-returns-3
 returns-3 c = search too-many
 
 returns-4 : tie.Need-returns-4
-returns-4 c = search let-in
+returns-4 c = search entered
 
 pub ask-terms-spec : {M : Type 1} → statement M
 ask-terms-spec = tie.close (tie.spec returns returns-2 returns-3 returns-4)

@@ -8,7 +8,7 @@ use Rattle.engine_bindings.specs.Bindings.{bindingsIn}
 use Rattle.theory_machine.specs.Moves.{headName}
 use Rattle.theory_closures.specs.Closure.{viewUnder}
 use Rattle.engine_states.specs.Represents.{heads}
-use Rattle.engine_states.proofs.Looking.{Filled, filled-none, filled-next, not-named}
+use Rattle.engine_states.proofs.Filling.{Filled, filled-none, filled-next, not-named}
 use borrow.Author.Needs.{needs}
 use Rattle.engine_states.proofs.name_parts.Statement.{statement}
 use Rattle.engine_states.proofs.name_parts.Tie as tie

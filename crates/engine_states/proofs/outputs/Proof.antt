@@ -6,7 +6,7 @@ use Rattle.base_sets.specs.Sets.{members}
 use Rattle.base_sets.proofs.Members.{members-empty}
 use Rattle.engine_states.specs.Represents.{heads}
 use Rattle.engine_states.specs.Seen.{isOutput}
-use Rattle.engine_states.proofs.Looking.{Upto, upto-none, upto-next, upto-all}
+use Rattle.engine_states.proofs.Filling.{Upto, upto-none, upto-next, upto-all}
 use borrow.Author.Needs.{needs}
 use Rattle.engine_states.proofs.outputs.Statement.{statement}
 use Rattle.engine_states.proofs.outputs.Tie as tie

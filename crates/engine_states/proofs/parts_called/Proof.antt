@@ -5,7 +5,7 @@ use lib.Dec.{eqb}
 use lib.ListN.{getD}
 use Rattle.base_sets.specs.Sets.{members, elem}
 use Rattle.base_sets.proofs.Members.{members-empty}
-use Rattle.engine_states.proofs.Looking.{Upto, upto-none, upto-next, upto-all, called-set}
+use Rattle.engine_states.proofs.Filling.{Upto, upto-none, upto-next, upto-all, called-set}
 use borrow.Author.Needs.{needs}
 use Rattle.engine_states.proofs.parts_called.Statement.{statement}
 use Rattle.engine_states.proofs.parts_called.Tie as tie

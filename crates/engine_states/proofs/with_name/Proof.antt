@@ -6,7 +6,7 @@ use lib.ListN.{length}
 use Rattle.read_messages.specs.declared.Named.{Named}
 use Rattle.engine_states.specs.Seen.{nameIn}
 use native.Mathlib.Omega.{arith}
-use Rattle.engine_states.proofs.Looking.{name-added, no-name-added}
+use Rattle.engine_states.proofs.Filling.{name-added, no-name-added}
 use borrow.Author.Needs.{needs}
 use Rattle.engine_states.proofs.with_name.Statement.{statement}
 use Rattle.engine_states.proofs.with_name.Tie as tie

@@ -22,8 +22,8 @@ mul-right c = search needs
 array-read-right : tie.Need-array-read-right Inv-loop μ-loop
 array-read-right c = search needs
 
-array-read-place : tie.Need-array-read-place Inv-loop μ-loop
-array-read-place c = search needs
+array-read-placing : tie.Need-array-read-placing Inv-loop μ-loop
+array-read-placing c = search needs
 
 word-at-requires : tie.Need-word-at-requires Inv-loop μ-loop
 word-at-requires c κs = search needs
@@ -77,5 +77,5 @@ loaded-spec =
     Inv-loop
     μ-loop
     loop-holds
-    mul-right array-read-right array-read-place word-at-requires mul-program array-write-program cast-program add-program mul-program-2
+    mul-right array-read-right array-read-placing word-at-requires mul-program array-write-program cast-program add-program mul-program-2
     array-write-program-2 cast-program-2 add-program-2 mul-program-3 array-write-program-3 add-i loop-less loop-again returns)

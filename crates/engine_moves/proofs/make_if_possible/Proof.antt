@@ -1,4 +1,4 @@
--- `try_move` meets its contract: the target is among those of the actor, or the move cannot be made. Assumes nothing.
+-- `make_if_possible` meets its contract: the target is among those of the actor, or the move cannot be made. Assumes nothing.
 use mathlib.Core.Bool.{true, false, true≢false}
 use mathlib.Core.Path.{_≡_, refl, sym, _∙_}
 use native.Mathlib.Omega.{arith}
@@ -9,8 +9,8 @@ use Rattle.engine_targets.specs.Targets.{isSome}
 use Rattle.engine_state_arrays.specs.Lent.{ownState}
 use Rattle.engine_moves.proofs.Trying.{lent-homes, lent-targets}
 use borrow.Author.Needs.{needs}
-use Rattle.engine_moves.proofs.try_move.Statement.{statement}
-use Rattle.engine_moves.proofs.try_move.Tie as tie
+use Rattle.engine_moves.proofs.make_if_possible.Statement.{statement}
+use Rattle.engine_moves.proofs.make_if_possible.Tie as tie
 
 has-requires : tie.Need-has-requires
 has-requires c κs = omega (arith, c .before .before .before .before .before .before .before .before .before .before .before .before .pre .0, c .before .before .before .before .before .before .before .before .before .before .before .before .pre .1)
@@ -44,8 +44,8 @@ returns-2 c = (
   ),
 )
 
-pub try-move-spec : {M : Type 1} → statement M
-try-move-spec =
+pub make-if-possible-spec : {M : Type 1} → statement M
+make-if-possible-spec =
     tie.close
     (tie.spec
     (λ c. search needs) (λ c κs. search needs) (λ c. search needs) (λ c κs. search needs) (λ c. search needs) (λ c. search needs)
