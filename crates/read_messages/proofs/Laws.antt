@@ -11,7 +11,7 @@ use lib.ListN.{length, getD, drop, length-drop}
 use borrow.Author.Tests.{leb-true}
 use Rattle.read_messages.specs.Reading.{Cursor, cursor, Reading, refuse, got, _>>=_, ask, takeWord, nextWord, outcome}
 use Rattle.read_messages.specs.Message.{Message, name, variable, enter, exit, opens, emptyMessage, path}
-use Rattle.read_messages.specs.ReadMessage.{messageWord, wordFits, bound, messageFrom, readMessage, follow, asked}
+use Rattle.read_messages.specs.ReadMessage.{messageWord, wordFits, bound, messageFrom, readMessage, follow, asked, MessageReadable}
 use Rattle.read_messages.specs.declared.MessageWord.{MessageWord}
 use Rattle.read_messages.specs.declared.MessageWord.the-variants.{Name, Variable, Enter, Exit, Open, Empty, Path, Unfit}
 use Rattle.read_messages.specs.declared.Asked.{Asked}
@@ -225,11 +225,11 @@ module _ (x : First) where
       subst (Level (x .nest)) (sym (x .answers) ∙ e) (level-told (x .nest) (wordFits m) (bound (x .around) m) (leb (x .nest) 64) (follow m) refl)
 
   -- what stands behind the first word may be read, and is less
-  pub shorter : (t : ℕ) → length (x .words) ≡ t → x .nest ≤ 64 → x .at + length (x .words) ≤ 1024 → (length (part (x .words) 1) < t) × ((x .at + 1 + length (part (x .words) 1) ≤ 1024) × (x .nest + 1 ≤ 65))
+  pub shorter : (t : ℕ) → length (x .words) ≡ t → x .nest ≤ 64 → x .at + length (x .words) ≤ 1024 → (length (part (x .words) 1) < t) × MessageReadable (part (x .words) 1) (x .at + 1) (x .nest + 1)
   shorter t e n h =
       let l = length-part (x .words) 1 in
       let s = x .some in
-      (omega arith, (omega arith, omega arith))
+      (omega arith, record { few = omega arith; shallow = omega arith })
 
   module _ (number : ℕ) where
     -- the cursor at the first word, and the one behind it

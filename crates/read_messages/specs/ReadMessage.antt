@@ -1,9 +1,10 @@
 -- How a message is read from words: questions 2, 3, 4 and 5 (document 01, "Questions at the door").
 -- Assumes nothing: these are definitions.
-use Prim.Native.Nat.{ℕ, zero, suc}
+use Prim.Native.Nat.{ℕ, zero, suc, _+_, _≤_}
 use mathlib.Core.Bool.{Bool, true, false, cond}
 use mathlib.Core.List.{List}
 use lib.Dec.{leb, eqb}
+use lib.ListN.{length}
 use Rattle.read_messages.specs.Words.{kind, operand, nameFits, member}
 use Rattle.read_messages.specs.Reading.{Cursor, Reading, refuse, got, _>>=_, ask, nextWord}
 use Rattle.read_messages.specs.Message.{Message, name, variable, enter, exit, opens, emptyMessage, path}
@@ -103,6 +104,13 @@ levelled nest a = cond (leb nest 64) a (No 4)
 unfoldable pub asked : (nest : ℕ) (around : List ℕ) → MessageWord → Asked
 asked nest around m =
     cond (wordFits m) (cond (bound around m) (levelled nest (follow m)) (No 3)) (No 2)
+
+-- what the reader of a message is called with: the words, the first of which has the index `at` and the nesting `nest`
+pub record MessageReadable (words : List ℕ) (at nest : ℕ) : Type 0 where
+  -- a script has at most 1,024 words
+  pub few : at + length words ≤ 1024
+  -- question 4 lets in a nesting of at most 64, and is still to ask
+  pub shallow : nest ≤ 65
 
 -- To unfold this is to unfold every definition of this module: for a proof by computation.
 unfoldable pub computing : Unit {0}

@@ -1,10 +1,10 @@
 // The reader of one message of a script: questions 2, 3, 4 and 5 of document 01.
 ghost use mathlib.Core.Path.{_≡_};
-ghost use Prim.Native.Nat.{ℕ, _+_, _≤_};
+ghost use Prim.Native.Nat.{ℕ};
 ghost use lib.ListN.{length};
 ghost use Rattle.read_messages.specs.Words.{member};
 ghost use Rattle.read_messages.specs.Reading.{cursor, outcome};
-ghost use Rattle.read_messages.specs.ReadMessage.{messageWord, levelled, asked, readMessage};
+ghost use Rattle.read_messages.specs.ReadMessage.{messageWord, levelled, asked, readMessage, MessageReadable};
 
 // What a message is asked for: the name that it is, or that it is none.
 pub enum Named {
@@ -125,7 +125,7 @@ pub fn ask_message(w: u32, nest: usize, around: &[u16]) -> Asked
 
 // The message at the front of s, the script's words from index at on; its first word has the nesting nest.
 pub fn read_message(s: &[u32], at: usize, nest: usize, around: &[u16]) -> Outcome
-    requires { ⌜ (at + length (now s) ≤ 1024) × (nest ≤ 65) ⌝ }
+    requires { ⌜ MessageReadable (now s) at nest ⌝ }
     ensures { λ r. ⌜ ((number : ℕ) → r ≡ outcome (readMessage (length (now (s .entry))) nest (now (around .entry)) (cursor at number (now (s .entry))))) ⌝ }
 {
     if s.len() == 0 {

@@ -1,6 +1,6 @@
 -- What the readers of rules ask and answer, and the rule table that they fill, as a function of the rule that the words are
 -- read as. Assumes nothing: these are definitions.
-use Prim.Native.Nat.{ℕ, _+_, _≤_}
+use Prim.Native.Nat.{ℕ, _+_, _≤_, _<_}
 use mathlib.Core.List.{List}
 use lib.ListN.{length, set, replicate}
 use Rattle.read_messages.specs.Reading.{Cursor, Reading, refuse, got}
@@ -53,6 +53,20 @@ pub record Readable (words : List ℕ) (at around first count : ℕ) : Type 0 wh
   pub somes : first ≤ 8
   -- the PLACED words are among the words
   pub fewer : count ≤ at
+
+-- what a PLACED word is entered with: its index, and so many PLACED words before it
+pub record Enterable (at count : ℕ) : Type 0 where
+  -- a rule has at most 256 words
+  pub inside : at < 256
+  -- the PLACED words before it are fewer: its place among them is one byte
+  pub fewer : count < 256
+
+-- what a SOME is added to those around with: the index from which on the array has them
+pub record SomeAddable (first : ℕ) : Type 0 where
+  -- there is room for one more
+  pub room : 0 < first
+  -- they stand in an array of 8
+  pub somes : first ≤ 8
 
 -- To unfold this is to unfold every definition of this module: for a proof by computation.
 unfoldable pub computing : Unit {0}

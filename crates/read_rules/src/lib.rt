@@ -3,12 +3,12 @@ use read_messages::Outcome;
 use read_rule_words::Asked;
 use read_rule_words::ask_rule;
 ghost use mathlib.Core.Path.{_≡_};
-ghost use Prim.Native.Nat.{_≤_, _<_};
+ghost use Prim.Native.Nat.{_<_};
 ghost use lib.ListN.{length, drop};
 ghost use Rattle.base_slices.specs.Fronts.{Fronted};
 ghost use Rattle.read_messages.specs.Reading.{cursor};
 ghost use Rattle.read_rule_words.specs.ReadRule.{readRule};
-ghost use Rattle.read_rules.specs.RuleTable.{vacant, refusedAt, turned, entered, scanned, Readable};
+ghost use Rattle.read_rules.specs.RuleTable.{vacant, refusedAt, turned, entered, scanned, Readable, Enterable, SomeAddable};
 ghost use Rattle.read_rules.specs.Ruled.{Answers};
 
 // The rule's words by index: of an OR or BESIDE where its right rule starts, of a PLACED its place among the PLACED words.
@@ -65,7 +65,7 @@ fn turn(table: RuleTable, at: usize, right: u16) -> RuleTable
 
 // The table with one PLACED word more, at the index at.
 fn enter(table: RuleTable, at: usize) -> RuleTable
-    requires { ⌜ (at < 256) × (table .count < 256) ⌝ }
+    requires { ⌜ Enterable at (table .count) ⌝ }
     ensures { λ r. ⌜ r ≡ entered at (table .count) table ⌝ }
 {
     let n = table.count;
@@ -77,7 +77,7 @@ fn enter(table: RuleTable, at: usize) -> RuleTable
 
 // The SOMEs around the rule of the SOME at the index at.
 fn with_some(somes: Somes, at: u16) -> Somes
-    requires { ⌜ (0 < somes .first) × (somes .first ≤ 8) ⌝ }
+    requires { ⌜ SomeAddable (somes .first) ⌝ }
     ensures { λ r. ⌜ Fronted at (somes .first) (somes .indices) (r .first) (r .indices) ⌝ }
 {
     let first = somes.first - 1;

@@ -93,3 +93,10 @@ pub record GuardedReadable (kind : ℕ) (words : List ℕ) (at nest first count 
   -- it is one of the two kinds
   pub least : 1 ≤ kind
   pub most : kind ≤ 2
+
+-- what a receipt is added to those around with: the index from which on the array has them
+pub record ReceiptAddable (first : ℕ) : Type 0 where
+  -- there is room for one more
+  pub room : 0 < first
+  -- they stand in an array of 65
+  pub receipts : first ≤ 65

@@ -2,13 +2,13 @@
 // document 01.
 use read_messages::Outcome;
 ghost use mathlib.Core.Path.{_≡_};
-ghost use Prim.Native.Nat.{suc, _+_, _-_, _≤_, _<_};
+ghost use Prim.Native.Nat.{suc, _+_, _-_, _<_};
 ghost use lib.ListN.{length, drop};
 ghost use Rattle.base_slices.specs.Fronts.{Fronted};
 ghost use Rattle.read_messages.specs.Reading.{cursor};
 ghost use Rattle.read_messages.specs.ReadMessage.{readMessage};
 ghost use Rattle.read_scripts.specs.Script.{partWord, askedPart, guardedHead, guardedFrom, partFrom, readBody};
-ghost use Rattle.read_scripts.specs.Table.{vacant, refusedAt, entered, scanned, scannedPart, Readable, PartReadable, GuardedReadable};
+ghost use Rattle.read_scripts.specs.Table.{vacant, refusedAt, entered, scanned, scannedPart, Readable, PartReadable, GuardedReadable, ReceiptAddable};
 ghost use Rattle.read_scripts.specs.Represents.{Answers};
 ghost use Rattle.read_scripts.specs.Measures.{greatestName};
 
@@ -121,7 +121,7 @@ fn enter_part(table: Table, owner: usize, kind: u8, start: u32) -> Table
 
 // The receipts around the body of the receipt at the index at.
 fn with_receipt(around: Around, at: u16) -> Around
-    requires { ⌜ (0 < around .first) × (around .first ≤ 65) ⌝ }
+    requires { ⌜ ReceiptAddable (around .first) ⌝ }
     ensures { λ r. ⌜ Fronted at (around .first) (around .indices) (r .first) (r .indices) ⌝ }
 {
     let first = around.first - 1;

@@ -12,19 +12,18 @@ use engine_message_words::given;
 use read_messages::MessageWord;
 ghost use mathlib.Core.Path.{_≡_};
 ghost use mathlib.Core.List.{[], _∷_};
-ghost use Prim.Native.Nat.{ℕ, _+_, _-_, _≤_, _<_, _^_};
-ghost use lib.ListN.{length, drop};
+ghost use Prim.Native.Nat.{_-_};
+ghost use lib.ListN.{drop};
 ghost use Rattle.read_messages.specs.Words.{word};
 ghost use Rattle.read_messages.specs.Message.{items};
 ghost use Rattle.read_messages.specs.Spelling.{spelled, messageAt};
-ghost use Rattle.read_messages.specs.declared.MessageWord.the-variants.{Name};
 ghost use Rattle.theory_closures.specs.Resolve.{resolve};
 ghost use Rattle.engine_bindings.specs.Bindings.{bindingsIn};
 ghost use Rattle.engine_bindings.specs.Passes.{firsts, allItems, ownItems};
 ghost use Rattle.theory_written_trees.specs.Write.{newIndex, writeMessage, oneMessage};
 ghost use Rattle.write_messages.specs.Buffer.{Wrote};
 ghost use Rattle.write_messages.specs.Indices.{indicesIn, Indexed};
-ghost use Rattle.write_messages.specs.Asked.{MessagesAsked, ItemsAsked};
+ghost use Rattle.write_messages.specs.Asked.{PlainWordAsked, MessageAsked, MessagesAsked, ItemsAsked, OwnItemsAsked, PendingItemsAsked};
 ghost use Rattle.write_messages.specs.Passes.{allWritten, plainWord, link, strung};
 
 // Writes one word, if there is room; says how many words it wrote.
@@ -52,7 +51,7 @@ fn variable_word(v: u32, receipts: &[u32], indices: &[u32]) -> u32
 
 // The word that is written for a word of a message, no variable with a binding.
 fn plain_word(m: MessageWord, receipts: &[u32], indices: &[u32]) -> u32
-    requires { ⌜ Indexed (now receipts) (now indices) × ((n : ℕ) → m ≡ Name n → n ≤ 255) ⌝ }
+    requires { ⌜ PlainWordAsked m (now receipts) (now indices) ⌝ }
     ensures { λ r. ⌜ r ≡ plainWord (indicesIn (now (receipts .entry)) (now (indices .entry))) m ⌝ }
 {
     match m {
@@ -135,7 +134,7 @@ pub fn write_message(
     indices: &[u32],
     out: &mut [u32],
 ) -> usize
-    requires { ⌜ (length (now sources) ≡ length (now variables)) × Indexed (now receipts) (now indices) ⌝ }
+    requires { ⌜ MessageAsked (now variables) (now sources) (now receipts) (now indices) ⌝ }
     ensures { λ r. ⌜ Wrote (writeMessage (indicesIn (now (receipts .entry)) (now (indices .entry))) (resolve (bindingsIn (now (script .entry)) (now (variables .entry)) (now (sources .entry))) (messageAt (drop at (now (script .entry)))))) (now (out .entry)) (now (out .exit)) r ⌝ }
 {
     write_from(
@@ -181,7 +180,7 @@ fn write_own(
     indices: &[u32],
     out: &mut [u32],
 ) -> usize
-    requires { ⌜ ItemsAsked (now script) offset (now variables) (now sources) (now counts) (now receipts) (now indices) (now out) × (offset < length (ownItems (bindingsIn (now script) (now variables) (now sources)) (now words))) ⌝ }
+    requires { ⌜ OwnItemsAsked (now script) (now words) offset (now variables) (now sources) (now counts) (now receipts) (now indices) (now out) ⌝ }
     ensures { λ r. ⌜ Wrote (strung (indicesIn (now (receipts .entry)) (now (indices .entry))) left (drop offset (ownItems (bindingsIn (now (script .entry)) (now (variables .entry)) (now (sources .entry))) (now (words .entry))))) (now (out .entry)) (now (out .exit)) r ⌝ }
 {
     let k = bound(first_word(words), variables);
@@ -230,7 +229,7 @@ fn write_rest(
     indices: &[u32],
     out: &mut [u32],
 ) -> usize
-    requires { ⌜ (pending + length (now words) < 2 ^ 64) × ItemsAsked (now script) offset (now variables) (now sources) (now counts) (now receipts) (now indices) (now out) ⌝ }
+    requires { ⌜ PendingItemsAsked (now script) (now words) pending offset (now variables) (now sources) (now counts) (now receipts) (now indices) (now out) ⌝ }
     ensures { λ r. ⌜ Wrote (strung (indicesIn (now (receipts .entry)) (now (indices .entry))) left (drop offset (allItems (bindingsIn (now (script .entry)) (now (variables .entry)) (now (sources .entry))) (firsts pending (spelled (now (words .entry))))))) (now (out .entry)) (now (out .exit)) r ⌝ }
 {
     if pending == 0 {

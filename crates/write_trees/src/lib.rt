@@ -11,7 +11,7 @@ use write_messages::write_message;
 use write_messages::write_word;
 ghost use mathlib.Core.Path.{_≡_};
 ghost use mathlib.Core.List.{List, []};
-ghost use Prim.Native.Nat.{ℕ, _≤_, _<_};
+ghost use Prim.Native.Nat.{ℕ, _≤_};
 ghost use lib.ListN.{length};
 ghost use Rattle.base_sets.specs.Sets.{members};
 ghost use Rattle.read_messages.specs.Words.{word};
@@ -19,17 +19,15 @@ ghost use Rattle.read_scripts.specs.Tree.{kindNumber, tops, parts};
 ghost use Rattle.read_scripts.specs.Represents.{Held, bodyIn};
 ghost use Rattle.engine_bindings.specs.Bindings.{bindingsIn};
 ghost use Rattle.base_slices.specs.Sums.{capped};
-ghost use Rattle.engine_held_bindings.specs.Sizes.{Cached};
 ghost use Rattle.theory_closures.specs.Closure.{Closure, unfoldHead, unfolded};
 ghost use Rattle.engine_states.specs.Represents.{headOf, heads};
 ghost use Rattle.theory_written_trees.specs.Write.{Indices, writeHead, write};
 ghost use Rattle.write_messages.specs.Buffer.{Wrote};
 ghost use Rattle.write_messages.specs.Indices.{indicesIn};
-ghost use Rattle.write_messages.specs.Asked.{ItemsAsked};
 ghost use Rattle.write_trees.specs.Room.{Fitted};
 ghost use Rattle.write_trees.specs.Around.{indicesOf, NoneAround, BodyAround};
-ghost use Rattle.write_trees.specs.Asked.{AroundAsked, HeadAsked, PartAsked, BodyAsked};
-ghost use Rattle.write_trees.specs.Bodies.{hasBody, writeLabel, Scripted, CountsPart, CountsBody, Writes, WritesPart};
+ghost use Rattle.write_trees.specs.Asked.{HeadCountAsked, PartCountAsked, TreeAsked, AroundAsked, LabelAsked, HeadAsked, PartAsked, BodyAsked};
+ghost use Rattle.write_trees.specs.Bodies.{hasBody, writeLabel, CountsPart, CountsBody, Writes, WritesPart};
 
 // The receipts around what is written, innermost first, from first on: their variables and their new indices.
 struct Around {
@@ -57,7 +55,7 @@ fn count_head(
     sizes: &[u32],
     bulks: &[u32],
 ) -> u32
-    requires { ⌜ Cached (now script) (now variables) (now sources) (now counts) (now sizes) (now bulks) × (start < 65536) × (offset < 4294967295) ⌝ }
+    requires { ⌜ HeadCountAsked (now script) start offset (now variables) (now sources) (now counts) (now sizes) (now bulks) ⌝ }
     ensures { λ r. ⌜ ((ix : Indices) → r ≡ capped (length (writeHead ix (unfoldHead (bindingsIn (now (script .entry)) (now (variables .entry)) (now (sources .entry))) (headOf (now (script .entry)) kind start offset))))) ⌝ }
 {
     let at = wide(start);
@@ -100,7 +98,7 @@ fn count_part<'a>(
     i: usize,
     fuel: usize,
 ) -> u32
-    requires { ⌜ Cached (now script) (now variables) (now sources) (now counts) (now sizes) (now bulks) × Scripted (now starts) (now offsets) × (i < 64) ⌝ }
+    requires { ⌜ PartCountAsked (now script) (now starts) (now offsets) (now variables) (now sources) (now counts) (now sizes) (now bulks) i ⌝ }
     ensures { λ r. ⌜ CountsPart (bindingsIn (now (script .entry)) (now (variables .entry)) (now (sources .entry))) (bodyIn (now (kids .entry))) (heads (now (script .entry)) (now (kinds .entry)) (now (starts .entry)) (now (offsets .entry))) (bodyIn (now (kids .entry)) i) (heads (now (script .entry)) (now (kinds .entry)) (now (starts .entry)) (now (offsets .entry)) i) fuel r ⌝ }
 {
     let kind = kinds[i];
@@ -155,7 +153,7 @@ fn count_body<'a>(
     left: u64,
     fuel: usize,
 ) -> u32
-    requires { ⌜ Cached (now script) (now variables) (now sources) (now counts) (now sizes) (now bulks) × Scripted (now starts) (now offsets) ⌝ }
+    requires { ⌜ TreeAsked (now script) (now starts) (now offsets) (now variables) (now sources) (now counts) (now sizes) (now bulks) ⌝ }
     ensures { λ r. ⌜ CountsBody (bindingsIn (now (script .entry)) (now (variables .entry)) (now (sources .entry))) (bodyIn (now (kids .entry))) (heads (now (script .entry)) (now (kinds .entry)) (now (starts .entry)) (now (offsets .entry))) (members left) fuel r ⌝ }
 {
     if left == 0 {
@@ -212,7 +210,7 @@ pub fn count_words<'a>(
     sizes: &'a [u32],
     bulks: &'a [u32],
 ) -> u32
-    requires { ⌜ Cached (now script) (now variables) (now sources) (now counts) (now sizes) (now bulks) × Scripted (now starts) (now offsets) ⌝ }
+    requires { ⌜ TreeAsked (now script) (now starts) (now offsets) (now variables) (now sources) (now counts) (now sizes) (now bulks) ⌝ }
     ensures { λ r. ⌜ CountsBody (bindingsIn (now (script .entry)) (now (variables .entry)) (now (sources .entry))) (bodyIn (now (kids .entry))) (heads (now (script .entry)) (now (kinds .entry)) (now (starts .entry)) (now (offsets .entry))) (bodyIn (now (kids .entry)) 64) 64 r ⌝ }
 {
     let top = kids[64];
@@ -284,7 +282,7 @@ fn write_label(
     indices: &[u32],
     out: &mut [u32],
 ) -> usize
-    requires { ⌜ ItemsAsked (now script) offset (now variables) (now sources) (now counts) (now receipts) (now indices) (now out) × (start < 65536) ⌝ }
+    requires { ⌜ LabelAsked (now script) start offset (now variables) (now sources) (now counts) (now receipts) (now indices) (now out) ⌝ }
     ensures { λ r. ⌜ Wrote (writeLabel (indicesIn (now (receipts .entry)) (now (indices .entry))) (unfoldHead (bindingsIn (now (script .entry)) (now (variables .entry)) (now (sources .entry))) (headOf (now (script .entry)) kind start offset))) (now (out .entry)) (now (out .exit)) r ⌝ }
 {
     let at = wide(start);
@@ -473,7 +471,7 @@ pub fn write_tree<'a, 'b>(
     bulks: &'a [u32],
     out: &'b mut [u32],
 ) -> Fitting
-    requires { ⌜ Cached (now script) (now variables) (now sources) (now counts) (now sizes) (now bulks) × Scripted (now starts) (now offsets) ⌝ }
+    requires { ⌜ TreeAsked (now script) (now starts) (now offsets) (now variables) (now sources) (now counts) (now sizes) (now bulks) ⌝ }
     ensures { λ r. ⌜ ((b : Closure) → bodyIn (now (kids .entry)) 64 ≡ tops b → Held (bodyIn (now (kids .entry))) (heads (now (script .entry)) (now (kinds .entry)) (now (starts .entry)) (now (offsets .entry))) b → parts b ≤ 64 → Fitted (write [] 0 (unfolded (bindingsIn (now (script .entry)) (now (variables .entry)) (now (sources .entry))) b)) (now (out .entry)) (now (out .exit)) r) ⌝ }
 {
     let n = count_words(

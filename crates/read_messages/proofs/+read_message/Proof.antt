@@ -82,7 +82,7 @@ module _ (t : ℕ) where
   read-message-requires-3 c κs =
       let x = at-two (read-left (second-left c) .before) in let b = bounds (second-left c) in
       let l = length-part (x .words) (second-left c .left .given .0 .0 - x .at) in
-      (omega arith, (omega arith, omega (arith, level x _ refl)))
+      (omega arith, record { few = omega arith; shallow = omega (arith, level x _ refl) })
 
 pub +read-message-spec : {M : Type 1} → statement M
 +read-message-spec =

@@ -10,7 +10,7 @@ use Rattle.read_scripts.proofs.with_receipt.Tie as tie
 returns : tie.Need-returns
 returns c =
     let l : length (c .before .args .around .indices) ≡ 65 = search needs in
-    record { sooner = omega arith; holds = drop-set _ _ _ (c .before .pre .0) (omega arith) }
+    record { sooner = omega arith; holds = drop-set _ _ _ (c .before .pre .room) (omega arith) }
 
 pub with-receipt-spec : {M : Type 1} → statement M
 with-receipt-spec = tie.close (tie.spec (λ c. search needs) (λ c. search needs) (λ c. search needs) returns)

@@ -156,7 +156,7 @@ module _ (t : ℕ) where
       (wrote-more (partly-given g) (g .write-from .ensures) (m .write-from2 .ensures))
 
   plain-word-requires : At lts.Need-plain-word-requires
-  plain-word-requires c κs = let s = found-start (c .before) in (s .pre .1 .indexed, λ n e. first-name (s .args .words .now) n (sym (first (c .before)) ∙ e))
+  plain-word-requires c κs = let s = found-start (c .before) in record { indexed = s .pre .1 .indexed; small = λ n e. first-name (s .args .words .now) n (sym (first (c .before)) ∙ e) }
 
   write-behind-requires : At lts.Need-write-from-requires-3
   write-behind-requires c κs = let s = word-start (c .before) in (rank-less _ _ _ _ (s .pre .0) (less-word (c .before) .1), record { room = omega (arith, less-word (c .before) .0, s .pre .1 .room); aligned = s .pre .1 .aligned; indexed = s .pre .1 .indexed })

@@ -115,7 +115,7 @@ module _ (t : ℕ) where
       let a = s .args in
       let few = few-words (a .script .now) (getD (a .sources .now) (f .bound .result) 0) (older-given o .given .ensures) (s .good .0 .1) in
       let fewer = fewer-older (a .variables .now) (f .bound .result) (older-tail o .tail .ensures) (older-given o .before .if1 .taken) in
-      (rank-older _ _ _ _ _ (s .pre .0) fewer (omega (arith, few)), (few, record { counted = older-kept (s .pre .1 .0 .counted) (f .bound .result + 1) (older-tail o .tail .ensures) (o .before .tail2 .ensures) (o .tail3 .ensures); indexed = s .pre .1 .0 .indexed; small = s .pre .1 .0 .small }))
+      (rank-older _ _ _ _ _ (s .pre .0) fewer (omega (arith, few)), record { room = few; asked = record { counted = older-kept (s .pre .1 .asked .counted) (f .bound .result + 1) (older-tail o .tail .ensures) (o .before .tail2 .ensures) (o .tail3 .ensures); indexed = s .pre .1 .asked .indexed; small = s .pre .1 .asked .small } })
 
   given-returns : AtOwn own-lts.Need-returns
   given-returns c =
@@ -124,11 +124,11 @@ module _ (t : ℕ) where
       let f = older-found o in
       let s = own-start f in
       let a = s .args in
-      let own = given-own (a .script .now) (a .variables .now) (a .sources .now) (s .pre .1 .0 .counted .aligned) _ (older-given o .before .if1 .taken) (a .words .now) (first-bound _ _ (f .before .first-word .ensures) (f .bound .ensures)) (older-tail o .tail .ensures) (o .before .tail2 .ensures) (older-given o .given .ensures) in
+      let own = given-own (a .script .now) (a .variables .now) (a .sources .now) (s .pre .1 .asked .counted .aligned) _ (older-given o .before .if1 .taken) (a .words .now) (first-bound _ _ (f .before .first-word .ensures) (f .bound .ensures)) (older-tail o .tail .ensures) (o .before .tail2 .ensures) (older-given o .given .ensures) in
       wrote-as (ap (λ (l : List Message). strung (indicesIn (a .receipts .now) (a .indices .now)) (a .left) (drop (a .offset) l)) own) (g .write-rest .ensures)
 
   single-requires : AtOwn own-lts.Need-write-from-requires
-  single-requires c κs = let s = own-start (link-else (behind-link (c .before)) .before) in record { room = omega (arith, s .good .1 .0); aligned = s .pre .1 .0 .counted .aligned; indexed = s .pre .1 .0 .indexed }
+  single-requires c κs = let s = own-start (link-else (behind-link (c .before)) .before) in record { room = omega (arith, s .good .1 .0); aligned = s .pre .1 .asked .counted .aligned; indexed = s .pre .1 .asked .indexed }
 
   single-length : AtOwn own-lts.Need-same-length-2
   single-length c = let m = end-more c in partly-kept (partly-link (more-link m)) (m .write-from .last .1 .1 .1 .1 .1 .1 .1 .0) (m .write-from .kept .1 .1 .1 .1 .1 .1 .1 .0)
@@ -141,11 +141,11 @@ module _ (t : ℕ) where
       let s = own-start f in
       let a = s .args in
       let free = unbound-free (a .script .now) (a .variables .now) (a .sources .now) (firstWord (a .words .now)) (omega (arith, first-bound _ _ (f .before .first-word .ensures) (f .bound .ensures), link-else w .if1 .left)) in
-      wrote-as (strung-single _ _ (a .left) _ (a .words .now) (single _ (a .words .now) (a .offset) free (s .pre .1 .1))) (wrote-more (partly-link w) (w .write-link .ensures) (m .write-from .ensures))
+      wrote-as (strung-single _ _ (a .left) _ (a .words .now) (single _ (a .words .now) (a .offset) free (s .pre .1 .within))) (wrote-more (partly-link w) (w .write-link .ensures) (m .write-from .ensures))
 
   own-met : {M : Type 1} → own-lts.Closed own-claims own-at write-own.Post M
   own-met = own-lts.spec own-claims own-at write-own.Post (λ c κs. search needs) (λ c κs. search needs)
-      (λ c. omega (arith, c .if1 .taken, own-start (c .before) .good .1 .1 .1 .1 .0)) (λ c κs. omega (arith, own-start (c .before) .pre .1 .0 .counted .aligned, c .if1 .taken))
+      (λ c. omega (arith, c .if1 .taken, own-start (c .before) .good .1 .1 .1 .1 .0)) (λ c κs. omega (arith, own-start (c .before) .pre .1 .asked .counted .aligned, c .if1 .taken))
       (λ c κs. search needs) (λ c κs. search needs) (λ c κs. search needs) given-requires (λ c. search needs) given-returns (λ c κs. search needs)
       (λ c. partly-bytes (partly-link (behind-link c))) (λ c. partly-behind (partly-link (behind-link c))) (λ c. partly-behind (partly-link (behind-link c))) (λ c. omega arith)
       single-requires (λ c. partly-sum (partly-link (more-link (end-more c))) (end-more c .write-from .ensures .within)) single-length single-returns
@@ -203,7 +203,7 @@ module _ (t : ℕ) where
   own-items c = let s = rest-start c in ownItems (σ s) (s .args .words .now)
 
   counted : (c : AtRest rest-lts.After-after-own) → c .before .own .result ≡ capped (length (own-items c))
-  counted c = let s = rest-start c in c .before .own .ensures (s .args .script .now) (s .args .sources .now) (s .pre .1 .1 .counted)
+  counted c = let s = rest-start c in c .before .own .ensures (s .args .script .now) (s .args .sources .now) (s .pre .1 .asked .counted)
 
   -- what is pending is the word's own items and those behind them
   pending-after : (c : AtRest rest-lts.After-after-own) {ws : List ℕ} → ws ≡ drop (c .after-own .result .used) (rest-start c .args .words .now)
@@ -224,17 +224,17 @@ module _ (t : ℕ) where
       let s = rest-start n in
       let l = ap length (c .before .tail .ensures) in
       let p = n .after-own .ensures in
-      (rank-less _ _ _ _ (s .pre .0) (omega (arith, l, p .less)), (omega (arith, l, p .room, s .pre .1 .0), record { counted = s .pre .1 .1 .counted; indexed = s .pre .1 .1 .indexed; small = omega (arith, s .pre .1 .1 .small) }))
+      (rank-less _ _ _ _ (s .pre .0) (omega (arith, l, p .less)), record { room = omega (arith, l, p .room, s .pre .1 .room); asked = record { counted = s .pre .1 .asked .counted; indexed = s .pre .1 .asked .indexed; small = omega (arith, s .pre .1 .asked .small) } })
 
   past-returns : AtRest rest-lts.Need-returns-2
   past-returns c =
       let l = past-tail (end-past c) in
       let n = tail-after l in
       let s = rest-start n in
-      wrote-as (ap (strung _ (s .args .left)) (drop-past _ (own-items n) _ (s .args .offset) (n .before .own .result) (pending-after n (l .tail .ensures)) (counted n) (l .before .if2 .taken) (omega (arith, s .pre .1 .1 .small)))) (end-past c .write-rest .ensures)
+      wrote-as (ap (strung _ (s .args .left)) (drop-past _ (own-items n) _ (s .args .offset) (n .before .own .result) (pending-after n (l .tail .ensures)) (counted n) (l .before .if2 .taken) (omega (arith, s .pre .1 .asked .small)))) (end-past c .write-rest .ensures)
 
   own-requires : AtRest rest-lts.Need-write-own-requires
-  own-requires c κs = let e = c .before in let s = else-start e in (rank-less _ _ _ _ (s .pre .0) (omega arith), (s .pre .1 .1, below-count _ _ _ (counted (e .before)) (e .if2 .left)))
+  own-requires c κs = let e = c .before in let s = else-start e in (rank-less _ _ _ _ (s .pre .0) (omega arith), record { asked = s .pre .1 .asked; within = below-count _ _ _ (counted (e .before)) (e .if2 .left) })
 
   behind-requires : AtRest rest-lts.Need-write-rest-requires-2
   behind-requires c κs =
@@ -242,7 +242,7 @@ module _ (t : ℕ) where
       let s = else-start (own-else w) in
       let l = ap length (c .before .tail2 .ensures) in
       let p = own-else w .before .after-own .ensures in
-      (rank-less _ _ _ _ (s .pre .0) (omega (arith, l, p .less)), (omega (arith, l, p .room, s .pre .1 .0), record { counted = s .pre .1 .1 .counted; indexed = s .pre .1 .1 .indexed; small = omega (arith, s .pre .1 .1 .small, partly-lent (partly-own w)) }))
+      (rank-less _ _ _ _ (s .pre .0) (omega (arith, l, p .less)), record { room = omega (arith, l, p .room, s .pre .1 .room); asked = record { counted = s .pre .1 .asked .counted; indexed = s .pre .1 .asked .indexed; small = omega (arith, s .pre .1 .asked .small, partly-lent (partly-own w)) } })
 
   behind-length : AtRest rest-lts.Need-same-length-2
   behind-length c = let m = end-rest c in partly-kept (partly-own (behind-own (more-behind m))) (m .write-rest2 .last .1 .1 .1 .1 .1 .1 .1 .1 .1 .1 .0) (m .write-rest2 .kept .1 .1 .1 .1 .1 .1 .1 .1 .1 .1 .0)
@@ -254,12 +254,12 @@ module _ (t : ℕ) where
       let w = behind-own l in
       let n = own-else w .before in
       let s = rest-start n in
-      wrote-if (λ h. strung-split _ (s .args .left) (s .args .offset) (n .before .own .result) (l .before .less .result) _ (own-items n) _ (pending-after n (l .tail2 .ensures)) (counted n) (own-else w .if2 .left) (l .before .less .ensures) (omega (arith, h, s .pre .1 .1 .small)))
+      wrote-if (λ h. strung-split _ (s .args .left) (s .args .offset) (n .before .own .result) (l .before .less .result) _ (own-items n) _ (pending-after n (l .tail2 .ensures)) (counted n) (own-else w .if2 .left) (l .before .less .ensures) (omega (arith, h, s .pre .1 .asked .small)))
       (wrote-more (partly-own w) (w .write-own .ensures) (m .write-rest2 .ensures))
 
   rest-met : {M : Type 1} → rest-lts.Closed rest-claims rest-at write-rest.Post M
-  rest-met = rest-lts.spec rest-claims rest-at write-rest.Post none-returns (λ c κs. kept-length (known-start (c .before) .pre .1 .1 .counted))
-      (λ c κs. (omega (arith, c .before .if1 .left), counted-start c .pre .1 .0))
+  rest-met = rest-lts.spec rest-claims rest-at write-rest.Post none-returns (λ c κs. kept-length (known-start (c .before) .pre .1 .asked .counted))
+      (λ c κs. (omega (arith, c .before .if1 .left), counted-start c .pre .1 .room))
       (λ c κs. search needs) past-requires (λ c. search needs) past-returns own-requires
       (λ c. omega (arith, own-else (known-own c) .if2 .left)) (λ c κs. search needs) (λ c κs. search needs)
       (λ c. partly-bytes (partly-own (behind-own c))) (λ c. partly-behind (partly-own (behind-own c))) (λ c. partly-behind (partly-own (behind-own c))) (λ c. omega arith)

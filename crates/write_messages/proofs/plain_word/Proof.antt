@@ -20,7 +20,7 @@ pub plain-word-spec : {M : Type 1} → statement M
 unfolding plainWord word
 plain-word-spec =
     tie.close
-    (tie.spec (λ c. search needs) (λ c. omega (arith, name-start (c .before) .pre .1 _ (c .before .m .given .1))) (λ c. search needs) (λ c κs. search needs)
+    (tie.spec (λ c. search needs) (λ c. omega (arith, name-start (c .before) .pre .small _ (c .before .m .given .1))) (λ c. search needs) (λ c κs. search needs)
     (λ c. search needs) (λ c. search needs) (λ c. search needs) (λ c. search needs) (λ c. search needs) (λ c. search needs)
     (λ c. rw (c .before .m .given .1))
     (λ c. rw (word-variable c .m2 .given .1) (c .variable-word .ensures))

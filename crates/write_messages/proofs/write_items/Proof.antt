@@ -59,7 +59,7 @@ returns c =
 
 -- one message is pending, before words that are fewer than 2^64
 write-rest-requires : tie.Need-write-rest-requires
-write-rest-requires c κs = let s = count-start (tail-count (c .before)) in (few-words (s .args .script .now) (s .args .at) (c .before .tail .ensures) (s .good .0 .1), s .pre)
+write-rest-requires c κs = let s = count-start (tail-count (c .before)) in record { room = few-words (s .args .script .now) (s .args .at) (c .before .tail .ensures) (s .good .0 .1); asked = s .pre }
 
 returns-2 : tie.Need-returns-2
 returns-2 c =

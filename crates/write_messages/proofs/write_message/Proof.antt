@@ -16,7 +16,7 @@ end-written c = c .before .before
 
 -- one message is pending, before words that are fewer than 2^64
 write-from-requires : tie.Need-write-from-requires
-write-from-requires c κs = let s = tail-start (c .before) in record { room = few-words (s .args .script .now) (s .args .at) (c .before .tail .ensures) (s .good .0 .1); aligned = s .pre .0; indexed = s .pre .1 }
+write-from-requires c κs = let s = tail-start (c .before) in record { room = few-words (s .args .script .now) (s .args .at) (c .before .tail .ensures) (s .good .0 .1); aligned = s .pre .aligned; indexed = s .pre .indexed }
 
 returns : tie.Need-returns
 returns c =

@@ -96,7 +96,7 @@ module _ (t : ℕ) where
   part-requires : AtBody body-lts.Need-count-part-requires
   part-requires c κs =
       let s = first-start c in
-      (omega (arith, s .pre .0, fuel-left c), (s .pre .1 .0, s .pre .1 .1, first-below (s .args .left) (c .first .result) (tail (members (s .args .left))) (first-then c)))
+      (omega (arith, s .pre .0, fuel-left c), record { cached = s .pre .1 .cached; scripted = s .pre .1 .scripted; part = first-below (s .args .left) (c .first .result) (tail (members (s .args .left))) (first-then c) })
 
   rest-requires : AtBody body-lts.Need-rest-requires
   rest-requires c κs = let f = c .before in let s = first-start f in not-none (s .args .left) (s .fits .left .fits) (first-else f .if1 .left)
@@ -143,7 +143,7 @@ module _ (t : ℕ) where
   part-heads s = heads (s .args .script .now) (s .args .kinds .now) (s .args .starts .now) (s .args .offsets .now)
 
   head-requires : AtPart part-lts.Need-count-head-requires
-  head-requires c κs = let s = offset-start c in (s .pre .1 .0, s .pre .1 .1 .placed (s .args .i), omega (arith, s .pre .1 .1 .spent (s .args .i)))
+  head-requires c κs = let s = offset-start c in record { cached = s .pre .1 .cached; placed = s .pre .1 .scripted .placed (s .args .i); below = omega (arith, s .pre .1 .scripted .spent (s .args .i)) }
 
   inside-returns : AtPart part-lts.Need-returns
   inside-returns c =
@@ -159,10 +159,10 @@ module _ (t : ℕ) where
       counts-only _ (bodyIn (s .args .kids .now)) (part-heads s) _ (s .args .fuel) (part-heads s (s .args .i)) (h .before .count-head .ensures) (sym (h .has-body .ensures (s .args .script .now) _ _) ∙ c .if1 .left)
 
   part-met : {M : Type 1} → part-lts.Closed part-claims part-at count-part.Post M
-  part-met = part-lts.spec part-claims part-at count-part.Post (λ c. search needs) (λ c. omega (arith, kind-start c .pre .1 .2)) (λ c. kind-start c .pre .1 .2)
-      (λ c. omega (arith, kind-start (c .before) .pre .1 .2)) (λ c. kind-start (c .before) .pre .1 .2) head-requires (λ c κs. search needs)
-      (λ c. omega (arith, has-start (c .before) .pre .1 .2)) (λ c. omega (arith, has-start (c .before) .pre .1 .2))
-      (λ c κs. (omega (arith, inside-start c .pre .0), (inside-start c .pre .1 .0, inside-start c .pre .1 .1))) (λ c κs. search needs) inside-returns only-returns
+  part-met = part-lts.spec part-claims part-at count-part.Post (λ c. search needs) (λ c. omega (arith, kind-start c .pre .1 .part)) (λ c. kind-start c .pre .1 .part)
+      (λ c. omega (arith, kind-start (c .before) .pre .1 .part)) (λ c. kind-start (c .before) .pre .1 .part) head-requires (λ c κs. search needs)
+      (λ c. omega (arith, has-start (c .before) .pre .1 .part)) (λ c. omega (arith, has-start (c .before) .pre .1 .part))
+      (λ c κs. (omega (arith, inside-start c .pre .0), record { cached = inside-start c .pre .1 .cached; scripted = inside-start c .pre .1 .scripted })) (λ c κs. search needs) inside-returns only-returns
 
 pub +count-body+count-part-spec : {M : Type 1} → statement M
 +count-body+count-part-spec = close μ-body μ-part (λ t. body-met t) (λ t. part-met t)

@@ -35,7 +35,7 @@ write-label-requires : tie.Need-write-label-requires
 write-label-requires c κs =
     let l = c .before in
     let s = word-start (tails-word l) in
-    (record { counted = s .pre .counted; indexed = tails-indexed (s .args .around) (tails-first l .tail .ensures) (l .tail2 .ensures) (s .pre .right); small = omega (arith, s .pre .small, partly-lent (partly (tails-word l))) }, s .pre .placed)
+    record { asked = record { counted = s .pre .counted; indexed = tails-indexed (s .args .around) (tails-first l .tail .ensures) (l .tail2 .ensures) (s .pre .right); small = omega (arith, s .pre .small, partly-lent (partly (tails-word l))) }; placed = s .pre .placed }
 
 same-length : tie.Need-same-length
 same-length c = let m = end-label c in partly-kept (partly (tails-word (label-tails m))) (m .write-label .last .1 .1 .1 .1 .1 .1 .1 .1 .1 .0) (m .write-label .kept .1 .1 .1 .1 .1 .1 .1 .1 .1 .0)

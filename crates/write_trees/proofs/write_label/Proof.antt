@@ -28,10 +28,10 @@ message-else c = c .before .before
 -- ---- the needs
 
 write-items-requires : tie.Need-write-items-requires
-write-items-requires c κs = let t = c .before in wide-start (t .before) .pre .0
+write-items-requires c κs = let t = c .before in wide-start (t .before) .pre .asked
 
 write-message-requires : tie.Need-write-message-requires
-write-message-requires c κs = let s = wide-start (message-wide (c .before)) in (s .pre .0 .counted .aligned, s .pre .0 .indexed)
+write-message-requires c κs = let s = wide-start (message-wide (c .before)) in record { aligned = s .pre .asked .counted .aligned; indexed = s .pre .asked .indexed }
 
 returns : tie.Need-returns
 returns c = let w = end-items c in let t = items-then w in wrote-as (label-action _ _ _ _ _ _ (t .before .wide .ensures) (t .if1 .taken)) (w .write-items .ensures)
@@ -44,7 +44,7 @@ returns-3 c =
     let w = end-message c in
     let e = message-else w in
     let v = message-wide e in
-    wrote-as (label-message _ _ _ _ _ _ (v .wide .ensures) (e .before .if1 .left) (e .if2 .left) (wide-start v .pre .1)) (w .write-message .ensures)
+    wrote-as (label-message _ _ _ _ _ _ (v .wide .ensures) (e .before .if1 .left) (e .if2 .left) (wide-start v .pre .placed)) (w .write-message .ensures)
 
 pub write-label-spec : {M : Type 1} → statement M
 write-label-spec = tie.close (tie.spec (λ c κs. search needs) write-items-requires (λ c. search needs) returns returns-2 write-message-requires (λ c. search needs) returns-3)

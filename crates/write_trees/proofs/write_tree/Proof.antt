@@ -59,7 +59,7 @@ write-body-requires c κs =
     let n = c .before in
     let w = around-wide n in
     let s = wide-start w in
-    record { counted = s .pre .0 .counted; scripted = s .pre .1; right = n .nothing-around .ensures .right; deep = omega (arith, n .nothing-around .ensures .room); small = omega (arith, lent n, w .wide .ensures, w .before .if1 .left) }
+    record { counted = s .pre .cached .counted; scripted = s .pre .scripted; right = n .nothing-around .ensures .right; deep = omega (arith, n .nothing-around .ensures .room); small = omega (arith, lent n, w .wide .ensures, w .before .if1 .left) }
 
 returns-3 : tie.Need-returns-3
 returns-3 c b e h p =

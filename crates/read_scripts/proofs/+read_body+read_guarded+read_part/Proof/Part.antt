@@ -42,7 +42,7 @@ module _ (t : ℕ) where
 
   pub with-receipt-requires : lts.Need-with-receipt-requires (read-part-claims t) (read-part-at t) reads.Post
   unfolding partFits
-  with-receipt-requires c κs = omega (arith, receipt-start c .pre .1 .reads, passed (receipt-start c .pre .1) Receipt refl (c .enum-told4 .given .1))
+  with-receipt-requires c κs = let r = receipt-start c .pre .1 in record { room = omega (arith, r .reads .room, passed r Receipt refl (c .enum-told4 .given .1)); receipts = r .reads .receipts }
 
   pub read-body-requires : lts.Need-read-body-requires (read-part-claims t) (read-part-at t) reads.Post
   read-body-requires c κs =
