@@ -58,7 +58,7 @@ pub record Readable (words : List ℕ) (at around first count : ℕ) : Type 0 wh
 pub record Enterable (at count : ℕ) : Type 0 where
   -- a rule has at most 256 words
   pub inside : at < 256
-  -- the PLACED words before it are fewer: its place among them is one byte
+  -- the PLACED words before it are fewer: its placing is one byte
   pub fewer : count < 256
 
 -- what a SOME is added to those around with: the index from which on the array has them

@@ -20,7 +20,7 @@ tell-requires : tie.Need-tell-requires
 tell-requires c κs = search (tellable, needs)
 
 returns-2 : tie.Need-returns-2
-returns-2 c = told-whole _ _ _ _ (told-call (told c) .call .ensures .0) (search needs) (told c .tell .ensures _)
+returns-2 c = told-whole _ _ _ _ (search needs) (search needs) (told c .tell .ensures _)
 
 pub skycorbel-call-spec : {M : Type 1} → statement M
 skycorbel-call-spec =

@@ -179,8 +179,11 @@ module _ (t : ℕ) where
   abbrev own-else : AtRest rest-lts.After-write-own → AtRest rest-lts.Else2
   own-else c = c .before .before
 
+  abbrev else-after : AtRest rest-lts.Else2 → AtRest rest-lts.After-after-own
+  else-after c = c .before
+
   abbrev else-start : AtRest rest-lts.Else2 → AtRest rest-lts.Start
-  else-start c = rest-start (c .before)
+  else-start c = rest-start (else-after c)
 
   abbrev known-own : AtRest rest-lts.After-slice-known3 → AtRest rest-lts.After-write-own
   known-own c = c .before .before
@@ -234,7 +237,7 @@ module _ (t : ℕ) where
       wrote-as (ap (strung _ (s .args .left)) (drop-past _ (own-items n) _ (s .args .offset) (n .before .own .result) (pending-after n (l .tail .ensures)) (counted n) (l .before .if2 .taken) (omega (arith, s .pre .1 .asked .small)))) (end-past c .write-rest .ensures)
 
   own-requires : AtRest rest-lts.Need-write-own-requires
-  own-requires c κs = let e = c .before in let s = else-start e in (rank-less _ _ _ _ (s .pre .0) (omega arith), record { asked = s .pre .1 .asked; within = below-count _ _ _ (counted (e .before)) (e .if2 .left) })
+  own-requires c κs = let e = c .before in let s = else-start e in (rank-less _ _ _ _ (s .pre .0) (omega arith), record { asked = s .pre .1 .asked; within = below-count _ _ _ (counted (else-after e)) (e .if2 .left) })
 
   behind-requires : AtRest rest-lts.Need-write-rest-requires-2
   behind-requires c κs =

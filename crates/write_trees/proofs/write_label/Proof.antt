@@ -16,6 +16,9 @@ end-items c = c .before .before
 abbrev items-then : tie.After-write-items → tie.Then1
 items-then c = c .before .before
 
+abbrev then-wide : tie.Then1 → tie.After-wide
+then-wide c = c .before
+
 abbrev message-wide : tie.Else2 → tie.After-wide
 message-wide c = c .before .before
 
@@ -28,7 +31,7 @@ message-else c = c .before .before
 -- ---- the needs
 
 write-items-requires : tie.Need-write-items-requires
-write-items-requires c κs = let t = c .before in wide-start (t .before) .pre .asked
+write-items-requires c κs = wide-start (then-wide (c .before)) .pre .asked
 
 write-message-requires : tie.Need-write-message-requires
 write-message-requires c κs = let s = wide-start (message-wide (c .before)) in record { aligned = s .pre .asked .counted .aligned; indexed = s .pre .asked .indexed }
