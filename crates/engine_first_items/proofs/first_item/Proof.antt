@@ -165,7 +165,7 @@ after-own-requires : At tie.Need-after-own-requires
 after-own-requires c κs =
     let b = shape-bound (c .before) in
     let l = bound-loop b .loop .inv in
-    (bound-test b .if1 .taken, omega (arith, ap length (bound-first b .before .tail .ensures), left-length (bound-start b .args .script .now) (s b .left) (l .within), l .room, bound-start b .good .0))
+    record { some = bound-test b .if1 .taken; room = omega (arith, ap length (bound-first b .before .tail .ensures), left-length (bound-start b .args .script .now) (s b .left) (l .within), l .room, bound-start b .good .0) }
 
 returns-2 : At tie.Need-returns-2
 returns-2 c = let l = end-loop c .loop in sought-none _ _ _ (l .s) (omega (arith, c .if1 .left)) ∙ sym (l .inv .same)

@@ -141,7 +141,7 @@ module _ (t : ℕ) where
 
   from-met : {M : Type 1} → from-lts.Closed from-claims from-at bulk-from.Post M
   from-met = from-lts.spec from-claims from-at bulk-from.Post none-returns (λ c κs. kept-length (known-start (c .before) .pre .1 .cached .counted))
-      (λ c κs. (omega (arith, c .before .if1 .left), counted-start c .pre .1 .room))
+      (λ c κs. record { some = omega (arith, c .before .if1 .left); room = counted-start c .pre .1 .room })
       (λ c κs. search needs) past-requires past-returns own-requires (λ c κs. search needs) behind-requires (λ c κs. search needs) behind-returns
 
   -- ---- own_bulk: the points of the code, and the way from each to those before it
