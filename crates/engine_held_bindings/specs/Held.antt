@@ -1,6 +1,6 @@
 -- The bindings as they are held: arrays of 32, filled from the end, so that those from `first` on are newest first.
 -- Assumes nothing: these are definitions.
-use Prim.Native.Nat.{ℕ, _-_, _≤_}
+use Prim.Native.Nat.{ℕ, _-_, _≤_, _<_}
 use mathlib.Core.List.{List, [], _∷_}
 use mathlib.Core.Path.{_≡_}
 use lib.ListN.{drop}
@@ -27,6 +27,13 @@ bindingsOf script b = bindingsIn script (drop (b .first) (b .variables)) (drop (
 pub record Held (script : List ℕ) (b : Bindings) : Type 0 where
   pub within : b .first ≤ 32
   pub cached : Cached script (drop (b .first) (b .variables)) (drop (b .first) (b .sources)) (drop (b .first) (b .counts)) (drop (b .first) (b .sizes)) (drop (b .first) (b .bulks))
+
+-- what is asked where one more is to be bound
+pub record BindAsked (script : List ℕ) (b : Bindings) : Type 0 where
+  -- the bindings are held right
+  pub held : Held script b
+  -- there is room for one more
+  pub room : 0 < b .first
 
 -- no bindings are held
 pub record NoneHeld (script : List ℕ) (b : Bindings) : Type 0 where

@@ -227,7 +227,7 @@ module _ (t : ℕ) where
       (λ c. let g = c .before in omega (arith, g .if1 .taken, own-start (g .before) .good .1 .1 .1 .0))
       (λ c κs. let g = c .before in omega (arith, own-start (g .before) .pre .1 .cached .counted .aligned, g .if1 .taken))
       (λ c κs. search needs) (λ c κs. search needs) (λ c κs. search needs) (λ c κs. search needs) (λ c κs. search needs) given-requires given-returns
-      (λ c κs. (omega (arith, own-start (c .before) .good .1 .0), kept-length (own-start (c .before) .pre .1 .cached .sized))) (λ c κs. search needs) single-returns
+      (λ c κs. record { room = omega (arith, own-start (c .before) .good .1 .0); aligned = kept-length (own-start (c .before) .pre .1 .cached .sized) }) (λ c κs. search needs) single-returns
 
 pub +bulk-from+own-bulk-spec : {M : Type 1} → statement M
 +bulk-from+own-bulk-spec = close μ-from μ-own (λ t. from-met t) (λ t. own-met t)
