@@ -3,11 +3,11 @@
 ghost use mathlib.Core.Path.{_≡_};
 ghost use Prim.Native.Nat.{ℕ, _+_, _≤_, _<_};
 ghost use lib.ListN.{length, getD};
-ghost use Rattle.base_arrays.specs.Stretches.{stretch, Put};
+ghost use Rattle.base_arrays.specs.Stretches.{stretch, Put, PutAsked, Widened};
 
 // Writes the numbers of from at the index at.
 pub fn put_numbers<'a, 'b>(to: &'b mut [u32; 481], at: usize, from: &'a [u32])
-    requires { ⌜ (length (now to) ≡ 481) × (at + length (now from) ≤ 481) ⌝ }
+    requires { ⌜ PutAsked 481 at (now from) (now to) ⌝ }
     ensures kept { λ r. ⌜ length (now (to .exit)) ≡ 481 ⌝ }
     ensures put { λ r. ⌜ Put at (now (from .entry)) (now (to .entry)) (now (to .exit)) ⌝ }
 {
@@ -20,7 +20,7 @@ pub fn put_numbers<'a, 'b>(to: &'b mut [u32; 481], at: usize, from: &'a [u32])
 
 // Writes the sets of from at the index at.
 pub fn put_sets<'a, 'b>(to: &'b mut [u64; 131], at: usize, from: &'a [u64])
-    requires { ⌜ (length (now to) ≡ 131) × (at + length (now from) ≤ 131) ⌝ }
+    requires { ⌜ PutAsked 131 at (now from) (now to) ⌝ }
     ensures kept { λ r. ⌜ length (now (to .exit)) ≡ 131 ⌝ }
     ensures put { λ r. ⌜ Put at (now (from .entry)) (now (to .entry)) (now (to .exit)) ⌝ }
 {
@@ -111,7 +111,7 @@ pub fn narrow(from: [u32; 64]) -> [u8; 64]
 
 // Bytes as numbers.
 pub fn widen(from: [u8; 64]) -> [u32; 64]
-    ensures { λ r. ⌜ (r ≡ from) × ((i : ℕ) → i < 64 → getD r i 0 < 256) ⌝ }
+    ensures { λ r. ⌜ Widened from r ⌝ }
 {
     let mut r: [u32; 64] = [0; 64];
     let mut j: usize = 0;

@@ -2,3 +2,4 @@
 pub mod Bindings
 pub mod Measures
 pub mod Passes
+pub mod Asked

@@ -23,6 +23,7 @@ ghost use Rattle.engine_bindings.specs.Bindings.{bindingsIn, messageOf};
 ghost use Rattle.base_slices.specs.Sums.{capped};
 ghost use Rattle.engine_bindings.specs.Measures.{itemCount, Kept};
 ghost use Rattle.engine_bindings.specs.Passes.{firsts, allItems, ownItems, Skipped, Passed};
+ghost use Rattle.engine_bindings.specs.Asked.{AfterOwnAsked, CountAsked};
 
 // Where a pass stands behind a word's own items: the words used, and the messages still pending.
 pub struct Behind {
@@ -90,7 +91,7 @@ pub fn own(words: &[u32], variables: &[u32], counts: &[u32]) -> u32
 
 // Where a pass over the items of the first `pending` messages stands behind the first word's own items.
 pub fn after_own(words: &[u32], pending: usize) -> Behind
-    requires { ⌜ (0 < pending) × (pending + length (now words) < 2 ^ 64) ⌝ }
+    requires { ⌜ AfterOwnAsked (now words) pending ⌝ }
     ensures { λ r. ⌜ Passed (now (words .entry)) pending r ⌝ }
 {
     let s = shape_of(first_word(words));
@@ -104,7 +105,7 @@ pub fn after_own(words: &[u32], pending: usize) -> Behind
 
 // The number of items of the first `pending` messages of the words, after the bindings.
 fn count_from(words: &[u32], pending: usize, variables: &[u32], counts: &[u32]) -> u32
-    requires { ⌜ (pending + length (now words) < 2 ^ 64) × (length (now counts) ≡ length (now variables)) ⌝ }
+    requires { ⌜ CountAsked (now words) pending (now variables) (now counts) ⌝ }
     ensures { λ r. ⌜ ((script sources : List ℕ) → Kept itemCount script (now (variables .entry)) sources (now (counts .entry)) → r ≡ capped (length (allItems (bindingsIn script (now (variables .entry)) sources) (firsts pending (spelled (now (words .entry))))))) ⌝ }
 {
     if pending == 0 {

@@ -155,7 +155,7 @@ module _ {script vs ps cs : List ℕ} (ok : Kept itemCount script vs ps cs) (ite
     past : getD cs k 0 ≤ s .before → r ≡ searching (s .left - 1) (s .pending - 1) (s .before - getD cs k 0) (s .older) → Finding script vs ps item r
     past q x = rw x record { within = omega (arith, st .within); room = omega (arith, st .room); small = omega (arith, st .small); older = st .older; same = st .same ∙ sought-past ok (s .left) (s .pending) (s .before) (s .older) some k j at e h (st .within) q (st .small) }
 
-    pub on-variable : {place : ℕ} → place ≡ getD ps k 0 → AtVariable s (length script) k (getD cs k 0) place r → length script < 2 ^ 64 → On script vs ps item s r
+    pub on-variable : {source : ℕ} → source ≡ getD ps k 0 → AtVariable s (length script) k (getD cs k 0) source r → length script < 2 ^ 64 → On script vs ps item s r
     on-variable x y w =
         let v = rw x at y in
         byTest (ltb (s .before) (getD cs k 0))

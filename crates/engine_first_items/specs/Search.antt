@@ -9,8 +9,8 @@ searching l p b o = record { left = l; pending = p; before = b; older = o }
 
 -- r is how the search s goes on at a variable whose binding is the k-th, the message of which has so many items and begins
 -- at a word of the script's n
-pub record AtVariable (s : Search) (n k count place : ℕ) (r : Search) : Type 0 where
+pub record AtVariable (s : Search) (n k count source : ℕ) (r : Search) : Type 0 where
   -- in that message, where the item is in it
-  pub inside : s .before < count → r ≡ searching (n - place) 1 (s .before) (k + 1)
+  pub inside : s .before < count → r ≡ searching (n - source) 1 (s .before) (k + 1)
   -- behind the variable, where it is not
   pub past : count ≤ s .before → r ≡ searching (s .left - 1) (s .pending - 1) (s .before - count) (s .older)

@@ -9,14 +9,14 @@ use engine_message_words::plain_item;
 use engine_message_words::shape_of;
 use read_messages::First;
 ghost use mathlib.Core.Path.{_≡_};
-ghost use Prim.Native.Nat.{_+_, _-_, _<_, _^_};
+ghost use Prim.Native.Nat.{_-_};
 ghost use lib.ListN.{drop};
 ghost use Rattle.read_messages.specs.Message.{items, firstItem};
 ghost use Rattle.read_messages.specs.Spelling.{messageAt};
 ghost use Rattle.theory_closures.specs.Resolve.{resolve};
 ghost use Rattle.engine_bindings.specs.Bindings.{bindingsIn};
-ghost use Rattle.engine_bindings.specs.Measures.{itemCount, Kept};
 ghost use Rattle.engine_first_items.specs.Search.{AtVariable};
+ghost use Rattle.engine_first_items.specs.Asked.{VariableAsked, ItemAsked};
 
 // Where a search for an item stands: before which words left in the script, how many messages of these are pending, how many
 // of their items come before the item, and from which binding on the older ones are that the messages lie under.
@@ -36,13 +36,13 @@ fn less(a: usize, b: usize) -> usize
 
 // The search at a variable whose binding is the k-th: in its message, which has so many items and begins at a word of the
 // script's n, or behind the variable.
-fn at_variable(s: Search, n: usize, k: usize, count: u32, place: usize) -> Search
-    requires { ⌜ (0 < s .pending) × (k + 1 < 2 ^ 64) ⌝ }
-    ensures { λ r. ⌜ AtVariable s n k count place r ⌝ }
+fn at_variable(s: Search, n: usize, k: usize, count: u32, source: usize) -> Search
+    requires { ⌜ VariableAsked s k ⌝ }
+    ensures { λ r. ⌜ AtVariable s n k count source r ⌝ }
 {
     if s.before < count {
         return Search {
-            left: less(n, place),
+            left: less(n, source),
             pending: 1,
             before: s.before,
             older: k + 1,
@@ -66,7 +66,7 @@ pub fn first_item(
     sources: &[u32],
     counts: &[u32],
 ) -> First
-    requires { ⌜ Kept itemCount (now script) (now variables) (now sources) (now counts) × (offset < 4294967295) ⌝ }
+    requires { ⌜ ItemAsked (now script) offset (now variables) (now sources) (now counts) ⌝ }
     ensures { λ r. ⌜ r ≡ firstItem (drop offset (items (resolve (bindingsIn (now (script .entry)) (now (variables .entry)) (now (sources .entry))) (messageAt (drop at (now (script .entry))))))) ⌝ }
 {
     let n = script.len();

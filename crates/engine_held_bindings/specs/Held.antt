@@ -1,6 +1,6 @@
 -- The bindings as they are held: arrays of 32, filled from the end, so that those from `first` on are newest first.
 -- Assumes nothing: these are definitions.
-use Prim.Native.Nat.{ℕ, _-_, _≤_}
+use Prim.Native.Nat.{ℕ, _-_, _≤_, _<_}
 use mathlib.Core.List.{List, [], _∷_}
 use mathlib.Core.Path.{_≡_}
 use lib.ListN.{drop}
@@ -24,14 +24,21 @@ unfoldable pub bindingsOf : (script : List ℕ) → Bindings → List (ℕ × Me
 bindingsOf script b = bindingsIn script (drop (b .first) (b .variables)) (drop (b .first) (b .sources))
 
 -- there is no more than fits, and what is kept with the bindings is right
-pub record Held (script : List ℕ) (b : Bindings) : Type 0 where
+pub record BindingsHeld (script : List ℕ) (b : Bindings) : Type 0 where
   pub within : b .first ≤ 32
   pub cached : Cached script (drop (b .first) (b .variables)) (drop (b .first) (b .sources)) (drop (b .first) (b .counts)) (drop (b .first) (b .sizes)) (drop (b .first) (b .bulks))
+
+-- what is asked where one more is to be bound
+pub record BindAsked (script : List ℕ) (b : Bindings) : Type 0 where
+  -- the bindings are held right
+  pub held : BindingsHeld script b
+  -- there is room for one more
+  pub room : 0 < b .first
 
 -- no bindings are held
 pub record NoneHeld (script : List ℕ) (b : Bindings) : Type 0 where
   -- what is kept with them is right
-  pub held : Held script b
+  pub held : BindingsHeld script b
   -- there are none
   pub none : bindingsOf script b ≡ []
   -- there is room for 32
@@ -40,7 +47,7 @@ pub record NoneHeld (script : List ℕ) (b : Bindings) : Type 0 where
 -- r holds the bindings that b holds, and one more, of the message at a word of the script
 pub record OneMore (script : List ℕ) (b : Bindings) (v at : ℕ) (r : Bindings) : Type 0 where
   -- what is kept with them is right
-  pub held : Held script r
+  pub held : BindingsHeld script r
   -- the new binding comes first
   pub bindings : bindingsOf script r ≡ (v, messageAt (drop at script)) ∷ bindingsOf script b
   -- there is room for one less

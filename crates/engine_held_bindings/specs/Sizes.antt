@@ -78,3 +78,10 @@ pub record PendingAsked (script words : List ℕ) (pending offset : ℕ) (variab
   pub cached : Cached script variables sources counts sizes bulks
   -- the offset is no count that stopped
   pub below : offset < 4294967295
+
+-- and where the words are counted that an action's items from an offset on are written with
+pub record ItemWordsAsked (script : List ℕ) (offset : ℕ) (variables sources counts sizes bulks : List ℕ) : Type 0 where
+  -- what is kept with the bindings is right
+  pub cached : Cached script variables sources counts sizes bulks
+  -- the offset is no count that stopped
+  pub below : offset < 4294967295

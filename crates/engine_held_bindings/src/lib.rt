@@ -13,7 +13,7 @@ use engine_message_words::first_word;
 use engine_message_words::given;
 use read_messages::MessageWord;
 ghost use mathlib.Core.Path.{_≡_};
-ghost use Prim.Native.Nat.{ℕ, _+_, _<_, _^_};
+ghost use Prim.Native.Nat.{ℕ};
 ghost use mathlib.Core.List.{List};
 ghost use lib.ListN.{length, drop};
 ghost use Rattle.read_messages.specs.Message.{items};
@@ -23,8 +23,9 @@ ghost use Rattle.engine_bindings.specs.Bindings.{bindingsIn};
 ghost use Rattle.base_slices.specs.Sums.{capped};
 ghost use Rattle.engine_bindings.specs.Measures.{Kept};
 ghost use Rattle.engine_bindings.specs.Passes.{firsts, allItems, ownItems};
-ghost use Rattle.engine_held_bindings.specs.Sizes.{messageSize, itemsSize, bulk, cappedItems, Cached, allSizes, ownSize, OwnAsked, PendingAsked};
-ghost use Rattle.engine_held_bindings.specs.Held.{Measures, bindingsOf, Held, NoneHeld, OneMore};
+ghost use Rattle.engine_bindings.specs.Asked.{CountAsked};
+ghost use Rattle.engine_held_bindings.specs.Sizes.{messageSize, itemsSize, bulk, cappedItems, Cached, allSizes, ownSize, OwnAsked, PendingAsked, ItemWordsAsked};
+ghost use Rattle.engine_held_bindings.specs.Held.{Measures, bindingsOf, BindingsHeld, BindAsked, NoneHeld, OneMore};
 
 // What is counted of a message when it is bound: its items, the words that it is written with, and the words of its items
 // with one PATH each; each at most 2^32 - 1.
@@ -58,7 +59,7 @@ fn own_size(m: MessageWord, variables: &[u32], sizes: &[u32]) -> u32
 
 // The number of words that the first `pending` messages of the words are written with, after the bindings.
 fn size_from(words: &[u32], pending: usize, variables: &[u32], sizes: &[u32]) -> u32
-    requires { ⌜ (pending + length (now words) < 2 ^ 64) × (length (now sizes) ≡ length (now variables)) ⌝ }
+    requires { ⌜ CountAsked (now words) pending (now variables) (now sizes) ⌝ }
     ensures { λ r. ⌜ ((script sources : List ℕ) → Kept messageSize script (now (variables .entry)) sources (now (sizes .entry)) → r ≡ capped (allSizes (bindingsIn script (now (variables .entry)) sources) (firsts pending (spelled (now (words .entry)))))) ⌝ }
 {
     if pending == 0 {
@@ -214,7 +215,7 @@ pub fn item_words(
     sizes: &[u32],
     bulks: &[u32],
 ) -> u32
-    requires { ⌜ Cached (now script) (now variables) (now sources) (now counts) (now sizes) (now bulks) × (offset < 4294967295) ⌝ }
+    requires { ⌜ ItemWordsAsked (now script) offset (now variables) (now sources) (now counts) (now sizes) (now bulks) ⌝ }
     ensures { λ r. ⌜ r ≡ cappedItems (itemsSize (drop offset (items (resolve (bindingsIn (now (script .entry)) (now (variables .entry)) (now (sources .entry))) (messageAt (drop at (now (script .entry)))))))) ⌝ }
 {
     let b = bulk_from(
@@ -253,7 +254,7 @@ fn measure(
 
 // The same, after the bindings that are held.
 fn measure_held(script: &[u32], at: usize, b: Bindings) -> Measured
-    requires { ⌜ Held (now script) b ⌝ }
+    requires { ⌜ BindingsHeld (now script) b ⌝ }
     ensures { λ r. ⌜ Measures (resolve (bindingsOf (now (script .entry)) b) (messageAt (drop at (now (script .entry))))) r ⌝ }
 {
     let variables = b.variables;
@@ -289,7 +290,7 @@ pub fn none() -> Bindings
 
 // The bindings with one more, of the message at a word of the script.
 pub fn bind(script: &[u32], b: Bindings, v: u32, at: u32) -> Bindings
-    requires { ⌜ Held (now script) b × (0 < b .first) ⌝ }
+    requires { ⌜ BindAsked (now script) b ⌝ }
     ensures { λ r. ⌜ OneMore (now (script .entry)) b v at r ⌝ }
 {
     let m = measure_held(script, wide(at), b);

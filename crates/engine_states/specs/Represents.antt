@@ -33,7 +33,7 @@ boundIn script s = bindingsOf script (s .bindings)
 
 -- what is counted with the bindings is right
 abbrev pub Counted : (script : List ℕ) → arrays.Bindings → Type 0
-Counted script b = bindings.Held script b
+Counted script b = bindings.BindingsHeld script b
 
 -- the same of the state's, and what is kept of the parts is right, as long as no offset is 2^32 - 1
 pub record Ready (script kinds starts : List ℕ) (s : State) : Type 0 where

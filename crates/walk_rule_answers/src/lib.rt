@@ -5,18 +5,19 @@ use read_rule_words::term_of;
 use walk_stages::Counts;
 use walk_stages::Walked;
 ghost use mathlib.Core.Path.{_≡_};
-ghost use Prim.Native.Nat.{ℕ, _+_, _≤_, _<_, max};
+ghost use Prim.Native.Nat.{_<_};
 ghost use lib.Dec.{eqb};
-ghost use lib.ListN.{getD};
 ghost use Rattle.read_messages.specs.Words.{operand};
 ghost use Rattle.read_rule_words.specs.ReadRule.{termOf};
 ghost use Rattle.theory_decision.specs.Walk.{turned as reversed, says};
 ghost use Rattle.walk_stages.specs.Visits.{countOf, walkedOf, nameSaid};
+ghost use Rattle.walk_rule_answers.specs.Visited.{VisitAsked, OneMoreVisit};
+ghost use Rattle.walk_rule_answers.specs.ChosenNames.{ChosenAt};
 
 // The counts after one more visit, at that depth.
 pub fn next_count(c: Counts, depth: usize) -> Counts
-    requires { ⌜ (c .visits < 4294967295) × (depth ≤ 257) ⌝ }
-    ensures { λ r. ⌜ (r .visits ≡ c .visits + 1) × (r .deepest ≡ max depth (c .deepest)) ⌝ }
+    requires { ⌜ VisitAsked c depth ⌝ }
+    ensures { λ r. ⌜ OneMoreVisit c depth r ⌝ }
 {
     let deepest = c.deepest;
     let d = depth as u32;
@@ -72,7 +73,7 @@ pub fn name_said(w: u32, chosen: &[u32; 256]) -> u32
 // The names with n at that index.
 fn replaced(names: [u32; 256], at: usize, n: u32) -> [u32; 256]
     requires { ⌜ at < 256 ⌝ }
-    ensures { λ r. ⌜ (getD r at 0 ≡ n) × ((i : ℕ) → (i ≡ at → ⊥) → getD r i 0 ≡ getD names i 0) ⌝ }
+    ensures { λ r. ⌜ ChosenAt names at n r ⌝ }
 {
     let mut next = names;
     next[at] = n;
@@ -82,7 +83,7 @@ fn replaced(names: [u32; 256], at: usize, n: u32) -> [u32; 256]
 // The chosen names with n for the SOME at that index.
 pub fn with_name(chosen: &[u32; 256], at: usize, n: u32) -> [u32; 256]
     requires { ⌜ at < 256 ⌝ }
-    ensures { λ r. ⌜ (getD r at 0 ≡ n) × ((i : ℕ) → (i ≡ at → ⊥) → getD r i 0 ≡ getD (now (chosen .entry)) i 0) ⌝ }
+    ensures { λ r. ⌜ ChosenAt (now (chosen .entry)) at n r ⌝ }
 {
     let old = *chosen;
     replaced(old, at, n)

@@ -20,7 +20,7 @@ pub put-numbers-spec : {M : Type 1} → statement M
 put-numbers-spec =
     tie.close
     (tie.spec
-    Inv-loop μ-loop (λ c. record { within = omega arith; kept = c .pre .0; puts = putting-none (c .args .at) (c .args .from .now) (c .args .to .now) })
+    Inv-loop μ-loop (λ c. record { within = omega arith; kept = c .pre .long; puts = putting-none (c .args .at) (c .args .from .now) (c .args .to .now) })
     (λ c. search needs) (λ c. search needs) (λ c. search needs) (λ c. search needs) (λ c. search needs) (λ c. search needs) (λ c. search needs)
     loop-again
     (λ c. (c .before .loop .inv .kept, put-all _ _ _ _ _ (omega arith) (c .before .loop .inv .puts))))

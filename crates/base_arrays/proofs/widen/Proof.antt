@@ -5,6 +5,7 @@ use mathlib.Core.Path.{_≡_, refl, sym, subst}
 use lib.ListN.{getD}
 use mir.Syntax.{w8}
 use mir.Val.{Fits}
+use Rattle.base_arrays.specs.Stretches.{Widened}
 use Rattle.base_arrays.proofs.Copying.{Filling, filling-none, filling-next, copy-filled}
 use borrow.Author.Needs.{needs}
 use Rattle.base_arrays.proofs.widen.Statement.{statement}
@@ -20,8 +21,8 @@ abbrev μ-loop : tie.MeasureT-loop
 byte : (c : tie.At-loop Inv-loop μ-loop) (i : ℕ) → Fits w8 (getD (c .before .args .t1) i 0)
 byte c i = search needs
 
-widened : (l r : List ℕ) → r ≡ l → ((i : ℕ) → Fits w8 (getD l i 0)) → (r ≡ l) × ((i : ℕ) → i < 64 → getD r i 0 < 256)
-widened l r e low = (e, λ i m. subst (λ (x : List ℕ). getD x i 0 < 256) (sym e) (low i .fits))
+widened : (l r : List ℕ) → r ≡ l → ((i : ℕ) → Fits w8 (getD l i 0)) → Widened l r
+widened l r e low = record { same = e; bytes = λ i m. subst (λ (x : List ℕ). getD x i 0 < 256) (sym e) (low i .fits) }
 
 loop-again : tie.Need-loop-again Inv-loop μ-loop
 loop-again c = filling-next _ _ _ _ _ (c .before .loop .inv) (c .loop-test .taken) refl

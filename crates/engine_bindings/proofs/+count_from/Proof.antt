@@ -52,7 +52,7 @@ module _ (t : ℕ) where
   none-returns c script sources ok = no-items _ (none-pending (bindingsIn script (known-start (c .before) .args .variables .now) sources) _ (spelled (known-start (c .before) .args .words .now)) (c .if1 .taken))
 
   behind-requires : At lts.Need-count-from-requires
-  behind-requires c κs = let l = ap length (c .tail .ensures) in let p = c .before .after-own .ensures in (omega arith, (omega arith, tail-start c .pre .1 .1))
+  behind-requires c κs = let l = ap length (c .tail .ensures) in let p = c .before .after-own .ensures in (omega arith, record { room = omega arith; aligned = tail-start c .pre .1 .aligned })
 
   behind-returns : At lts.Need-returns-2
   behind-returns c script sources ok =
@@ -64,7 +64,7 @@ module _ (t : ℕ) where
       (l .before .after-own .ensures .split σ) (tail-own l .own .ensures script sources ok) (rw (l .tail .ensures) at (c .before .count-from .ensures script sources ok)) (c .sum .ensures)
 
   met : {M : Type 1} → lts.Closed claims at count-from.Post M
-  met = lts.spec claims at count-from.Post none-returns (λ c κs. known-start (c .before) .pre .1 .1) (λ c κs. omega arith)
+  met = lts.spec claims at count-from.Post none-returns (λ c κs. known-start (c .before) .pre .1 .aligned) (λ c κs. record { some = omega arith; room = omega arith })
       (λ c κs. search needs) behind-requires (λ c κs. search needs) behind-returns
 
 pub +count-from-spec : {M : Type 1} → statement M

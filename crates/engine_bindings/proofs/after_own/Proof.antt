@@ -31,14 +31,14 @@ returns : tie.Need-returns
 returns c =
     let l = c .before in
     let a = tail-start l .args in
-    let less = room (a .words .now) (a .pending) _ (c .skip .result) (tail-start l .pre .0) (opened-small l) in
+    let less = room (a .words .now) (a .pending) _ (c .skip .result) (tail-start l .pre .some) (opened-small l) in
     record {
       room = less .0;
       less = less .1;
-      split = λ σ. split-first σ (a .words .now) (a .pending) (c .skip .result) (tail-start l .pre .0) (shape l) (l .tail .ensures) (c .skip .ensures .behind);
+      split = λ σ. split-first σ (a .words .now) (a .pending) (c .skip .result) (tail-start l .pre .some) (shape l) (l .tail .ensures) (c .skip .ensures .behind);
     }
 
 pub after-own-spec : {M : Type 1} → statement M
 after-own-spec = tie.close (tie.spec (λ c κs. search needs) (λ c κs. search needs) (λ c κs. search needs) skip-requires
     (λ c. search needs) (λ c. search needs)
-    (λ c. let s = tail-start (c .before) in omega (arith, room (s .args .words .now) (s .args .pending) _ 0 (s .pre .0) (opened-small (c .before)) .0, s .pre .1)) returns)
+    (λ c. let s = tail-start (c .before) in omega (arith, room (s .args .words .now) (s .args .pending) _ 0 (s .pre .some) (opened-small (c .before)) .0, s .pre .room)) returns)

@@ -22,4 +22,4 @@ returns c =
 
 pub item-count-spec : {M : Type 1} → statement M
 item-count-spec = tie.close (tie.spec (λ c κs. search needs)
-    (λ c κs. (omega (arith, ap length (c .tail .ensures), length-drop (tail-start c .args .at) (tail-start c .args .script .now)), kept-length (tail-start c .pre))) returns)
+    (λ c κs. record { room = omega (arith, ap length (c .tail .ensures), length-drop (tail-start c .args .at) (tail-start c .args .script .now)); aligned = kept-length (tail-start c .pre) }) returns)

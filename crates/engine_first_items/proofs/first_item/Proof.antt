@@ -122,7 +122,7 @@ on-bound c =
     let t = variable-then c in
     let b = then-bound t in
     let a = bound-start b in
-    on-variable (a .pre .0) _ (s b) (bound-loop b .loop .inv) (bound-test b .if1 .taken) _ (b .bound .result) refl (binding b) (t .if2 .taken) (c .at-variable .result) (c .before .wide .ensures) (c .at-variable .ensures) (omega (arith, a .good .0))
+    on-variable (a .pre .counted) _ (s b) (bound-loop b .loop .inv) (bound-test b .if1 .taken) _ (b .bound .result) refl (binding b) (t .if2 .taken) (c .at-variable .result) (c .before .wide .ensures) (c .at-variable .ensures) (omega (arith, a .good .0))
 
 on-free : (c : At tie.After-less2)
     → let k = less-else c .before in Onward (shape-bound k) (searching (c .less2 .result) (c .before .after-own .result .left) (s (shape-bound k) .before - known-shape k .shape-of .result .items) (s (shape-bound k) .older))
@@ -130,14 +130,14 @@ on-free c =
     let e = less-else c in
     let k = e .before in
     let b = shape-bound k in
-    on-behind (bound-start b .pre .0) _ (s b) (bound-loop b .loop .inv) (bound-test b .if1 .taken) (free (known-shape k .before)) (shape k) (e .if3 .left) _ (bound-first b .before .tail .ensures) (c .before .after-own .ensures) (c .less2 .ensures)
+    on-behind (bound-start b .pre .counted) _ (s b) (bound-loop b .loop .inv) (bound-test b .if1 .taken) (free (known-shape k .before)) (shape k) (e .if3 .left) _ (bound-first b .before .tail .ensures) (c .before .after-own .ensures) (c .less2 .ensures)
 
 -- ---- the needs
 
 loop-holds : At tie.Need-loop-holds
 loop-holds c =
     let a = less-start c in
-    rw (c .less .ensures) (stands-first (a .args .script .now) (a .args .variables .now) (a .args .sources .now) (a .args .at) (a .args .offset) (a .pre .1))
+    rw (c .less .ensures) (stands-first (a .args .script .now) (a .args .variables .now) (a .args .sources .now) (a .args .at) (a .args .offset) (a .pre .below))
 
 add-k : At tie.Need-add-k
 add-k c =
@@ -145,12 +145,12 @@ add-k c =
     omega (arith, bound-within (bound-first b .first-word .result) (b .before .tail2 .result .now), b .bound .ensures, ap length (b .before .tail2 .ensures), length-drop (s b .older) (bound-start b .args .variables .now), bound-loop b .loop .inv .older, bound-start b .good .1 .1 .1 .0)
 
 at-variable-requires : At tie.Need-at-variable-requires
-at-variable-requires c κs = let t = read-then (c .before) in (bound-test (then-bound t) .if1 .taken, omega (arith, t .if2 .taken, bound-start (then-bound t) .good .1 .1 .1 .0))
+at-variable-requires c κs = let t = read-then (c .before) in record { some = bound-test (then-bound t) .if1 .taken; older = omega (arith, t .if2 .taken, bound-start (then-bound t) .good .1 .1 .1 .0) }
 
 name-of-requires : At tie.Need-name-of-requires
 name-of-requires c κs =
     let b = shape-bound (tails-then c .before) in
-    ap length (c .tail4 .ensures) ∙ kept-drop (bound-start b .pre .0) (s b .older) .aligned ∙ ap length (sym (b .before .tail2 .ensures))
+    ap length (c .tail4 .ensures) ∙ kept-drop (bound-start b .pre .counted) (s b .older) .aligned ∙ ap length (sym (b .before .tail2 .ensures))
 
 returns : At tie.Need-returns
 returns c =
@@ -159,13 +159,13 @@ returns c =
     let k = t .before in
     let b = shape-bound k in
     c .plain-item .ensures
-    ∙ stands-here (bound-start b .pre .0) _ (s b) (bound-loop b .loop .inv) (bound-test b .if1 .taken) (free (known-shape k .before)) (shape k) (t .if3 .taken) _ _ (word b) (b .before .tail2 .ensures) (i .tail4 .ensures) (i .before .tail3 .ensures ∙ ap (drop 1) (bound-first b .before .tail .ensures)) (c .before .name-of .ensures)
+    ∙ stands-here (bound-start b .pre .counted) _ (s b) (bound-loop b .loop .inv) (bound-test b .if1 .taken) (free (known-shape k .before)) (shape k) (t .if3 .taken) _ _ (word b) (b .before .tail2 .ensures) (i .tail4 .ensures) (i .before .tail3 .ensures ∙ ap (drop 1) (bound-first b .before .tail .ensures)) (c .before .name-of .ensures)
 
 after-own-requires : At tie.Need-after-own-requires
 after-own-requires c κs =
     let b = shape-bound (c .before) in
     let l = bound-loop b .loop .inv in
-    (bound-test b .if1 .taken, omega (arith, ap length (bound-first b .before .tail .ensures), left-length (bound-start b .args .script .now) (s b .left) (l .within), l .room, bound-start b .good .0))
+    record { some = bound-test b .if1 .taken; room = omega (arith, ap length (bound-first b .before .tail .ensures), left-length (bound-start b .args .script .now) (s b .left) (l .within), l .room, bound-start b .good .0) }
 
 returns-2 : At tie.Need-returns-2
 returns-2 c = let l = end-loop c .loop in sought-none _ _ _ (l .s) (omega (arith, c .if1 .left)) ∙ sym (l .inv .same)
@@ -173,10 +173,10 @@ returns-2 c = let l = end-loop c .loop in sought-none _ _ _ (l .s) (omega (arith
 pub first-item-spec : {M : Type 1} → statement M
 first-item-spec = tie.close (tie.spec Inv-loop μ-loop (λ c κs. search needs) loop-holds
     (λ c. search needs) (λ c κs. search needs) (λ c κs. search needs) (λ c κs. search needs) (λ c κs. search needs) add-k
-    (λ c. let a = bound-start (then-bound c) in omega (arith, kept-length (a .pre .0), c .if2 .taken, a .good .1 .1 .1 .1 .1 .0))
-    (λ c. omega (arith, kept-length (bound-start (then-bound (c .before)) .pre .0), c .before .if2 .taken))
-    (λ c. let a = bound-start (then-bound (c .before)) in omega (arith, a .pre .0 .aligned, c .before .if2 .taken, a .good .1 .1 .1 .1 .0))
-    (λ c. let t = read-then c in omega (arith, bound-start (then-bound t) .pre .0 .aligned, t .if2 .taken))
+    (λ c. let a = bound-start (then-bound c) in omega (arith, kept-length (a .pre .counted), c .if2 .taken, a .good .1 .1 .1 .1 .1 .0))
+    (λ c. omega (arith, kept-length (bound-start (then-bound (c .before)) .pre .counted), c .before .if2 .taken))
+    (λ c. let a = bound-start (then-bound (c .before)) in omega (arith, a .pre .counted .aligned, c .before .if2 .taken, a .good .1 .1 .1 .1 .0))
+    (λ c. let t = read-then c in omega (arith, bound-start (then-bound t) .pre .counted .aligned, t .if2 .taken))
     (λ c κs. search needs) at-variable-requires (λ c. on-bound c .fewer) (λ c. on-bound c .stands)
     (λ c κs. search needs) (λ c κs. search needs) (λ c κs. search needs) name-of-requires (λ c κs. search needs) returns after-own-requires
     (λ c κs. search needs) (λ c. search needs) (λ c. on-free (end-less c) .fewer) (λ c. on-free (end-less c) .stands) returns-2)

@@ -141,7 +141,7 @@ module _ (t : ℕ) where
 
   from-met : {M : Type 1} → from-lts.Closed from-claims from-at bulk-from.Post M
   from-met = from-lts.spec from-claims from-at bulk-from.Post none-returns (λ c κs. kept-length (known-start (c .before) .pre .1 .cached .counted))
-      (λ c κs. (omega (arith, c .before .if1 .left), counted-start c .pre .1 .room))
+      (λ c κs. record { some = omega (arith, c .before .if1 .left); room = counted-start c .pre .1 .room })
       (λ c κs. search needs) past-requires past-returns own-requires (λ c κs. search needs) behind-requires (λ c κs. search needs) behind-returns
 
   -- ---- own_bulk: the points of the code, and the way from each to those before it
@@ -227,7 +227,7 @@ module _ (t : ℕ) where
       (λ c. let g = c .before in omega (arith, g .if1 .taken, own-start (g .before) .good .1 .1 .1 .0))
       (λ c κs. let g = c .before in omega (arith, own-start (g .before) .pre .1 .cached .counted .aligned, g .if1 .taken))
       (λ c κs. search needs) (λ c κs. search needs) (λ c κs. search needs) (λ c κs. search needs) (λ c κs. search needs) given-requires given-returns
-      (λ c κs. (omega (arith, own-start (c .before) .good .1 .0), kept-length (own-start (c .before) .pre .1 .cached .sized))) (λ c κs. search needs) single-returns
+      (λ c κs. record { room = omega (arith, own-start (c .before) .good .1 .0); aligned = kept-length (own-start (c .before) .pre .1 .cached .sized) }) (λ c κs. search needs) single-returns
 
 pub +bulk-from+own-bulk-spec : {M : Type 1} → statement M
 +bulk-from+own-bulk-spec = close μ-from μ-own (λ t. from-met t) (λ t. own-met t)

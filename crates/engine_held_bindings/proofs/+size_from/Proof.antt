@@ -66,7 +66,7 @@ module _ (t : ℕ) where
   none-returns c script sources ok = let a = known-start (c .before) .args in none-size (bindingsIn script (a .variables .now) sources) (a .pending) (spelled (a .words .now)) (c .if1 .taken)
 
   behind-requires : At lts.Need-size-from-requires
-  behind-requires c κs = (omega (arith, less c .1, tail-start c .pre .0), (omega (arith, less c .0, tail-start c .pre .1 .0), tail-start c .pre .1 .1))
+  behind-requires c κs = (omega (arith, less c .1, tail-start c .pre .0), record { room = omega (arith, less c .0, tail-start c .pre .1 .room); aligned = tail-start c .pre .1 .aligned })
 
   behind-returns : At lts.Need-returns-2
   behind-returns c script sources ok =
@@ -77,8 +77,8 @@ module _ (t : ℕ) where
       (o .before .own-size .ensures script sources ok) (c .before .size-from .ensures script sources ok) (c .sum .ensures)
 
   met : {M : Type 1} → lts.Closed claims at size-from.Post M
-  met = lts.spec claims at size-from.Post none-returns (λ c κs. search needs) (λ c κs. first-start c .pre .1 .1) (λ c κs. search needs) (λ c κs. search needs)
-      (λ c. omega (arith, pending-left c)) (λ c. omega (arith, less c .0, tail-start c .pre .1 .0)) behind-requires (λ c κs. search needs) behind-returns
+  met = lts.spec claims at size-from.Post none-returns (λ c κs. search needs) (λ c κs. first-start c .pre .1 .aligned) (λ c κs. search needs) (λ c κs. search needs)
+      (λ c. omega (arith, pending-left c)) (λ c. omega (arith, less c .0, tail-start c .pre .1 .room)) behind-requires (λ c κs. search needs) behind-returns
 
 pub +size-from-spec : {M : Type 1} → statement M
 +size-from-spec = close μ (λ t. met t)

@@ -21,17 +21,17 @@ unfolding bindingsOf
 returns c =
     let s = known-start c in
     let l-variables : length (s .args .b .variables) ≡ 32 = search needs in
-    let l-places : length (s .args .b .sources) ≡ 32 = search needs in
+    let l-sources : length (s .args .b .sources) ≡ 32 = search needs in
     let l-counts : length (s .args .b .counts) ≡ 32 = search needs in
     let l-sizes : length (s .args .b .sizes) ≡ 32 = search needs in
     let l-bulks : length (s .args .b .bulks) ≡ 32 = search needs in
-    let variables = drop-set (s .args .b .variables) (s .args .b .first) (s .args .v) (s .pre .1) (omega arith) in
-    let sources = drop-set (s .args .b .sources) (s .args .b .first) (s .args .at) (s .pre .1) (omega arith) in
-    let counts = drop-set (s .args .b .counts) (s .args .b .first) (c .before .measure-held .result .count) (s .pre .1) (omega arith) in
-    let sizes = drop-set (s .args .b .sizes) (s .args .b .first) (c .before .measure-held .result .size) (s .pre .1) (omega arith) in
-    let bulks = drop-set (s .args .b .bulks) (s .args .b .first) (c .before .measure-held .result .bulk) (s .pre .1) (omega arith) in
+    let variables = drop-set (s .args .b .variables) (s .args .b .first) (s .args .v) (s .pre .room) (omega arith) in
+    let sources = drop-set (s .args .b .sources) (s .args .b .first) (s .args .at) (s .pre .room) (omega arith) in
+    let counts = drop-set (s .args .b .counts) (s .args .b .first) (c .before .measure-held .result .count) (s .pre .room) (omega arith) in
+    let sizes = drop-set (s .args .b .sizes) (s .args .b .first) (c .before .measure-held .result .size) (s .pre .room) (omega arith) in
+    let bulks = drop-set (s .args .b .bulks) (s .args .b .first) (c .before .measure-held .result .bulk) (s .pre .room) (omega arith) in
     record {
-      held = record { within = omega arith; cached = cached-as variables sources counts sizes bulks (cached-more (s .args .v) (s .args .at) (c .before .measure-held .result) (s .pre .0 .cached) (known-wide c .wide .ensures) (c .before .measure-held .ensures)) };
+      held = record { within = omega arith; cached = cached-as variables sources counts sizes bulks (cached-more (s .args .v) (s .args .at) (c .before .measure-held .result) (s .pre .held .cached) (known-wide c .wide .ensures) (c .before .measure-held .ensures)) };
       bindings = bindings-more _ variables sources;
       room = refl;
     }

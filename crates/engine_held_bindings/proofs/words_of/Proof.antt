@@ -18,4 +18,4 @@ returns c = let s = tail-start (c .before) in c .size-from .ensures (s .args .sc
 
 pub words-of-spec : {M : Type 1} → statement M
 words-of-spec = tie.close (tie.spec (λ c κs. search needs)
-    (λ c κs. (omega (arith, ap length (c .tail .ensures), length-drop (tail-start c .args .at) (tail-start c .args .script .now)), kept-length (tail-start c .pre))) returns)
+    (λ c κs. record { room = omega (arith, ap length (c .tail .ensures), length-drop (tail-start c .args .at) (tail-start c .args .script .now)); aligned = kept-length (tail-start c .pre) }) returns)

@@ -36,12 +36,12 @@ received-requires c κs =
 put-sets-requires : tie.Need-put-sets-requires
 put-sets-requires c κs =
     let l : length (c .before .before .before .before .to-arrays .result .sets) ≡ 131 = search needs in
-    (c .before .before .before .before .before .before .before .before .before .before .before .before .before .before .before .pre .3 .sets-long, omega (arith, l))
+    record { long = c .before .before .before .before .before .before .before .before .before .before .before .before .before .before .before .pre .3 .sets-long; room = omega (arith, l) }
 
 put-numbers-requires : tie.Need-put-numbers-requires
 put-numbers-requires c κs =
     let l : length (c .before .before .before .before .before .before .before .to-arrays .result .numbers) ≡ 481 = search needs in
-    (c .before .before .before .before .before .before .before .before .before .before .before .before .before .before .before .before .before .before .pre .3 .numbers-long, omega (arith, l))
+    record { long = c .before .before .before .before .before .before .before .before .before .before .before .before .before .before .before .before .before .before .pre .3 .numbers-long; room = omega (arith, l) }
 
 returns : tie.Need-returns
 returns c =

@@ -9,7 +9,7 @@ use Rattle.engine_state_arrays.proofs.all_sets.Statement.{statement}
 use Rattle.engine_state_arrays.proofs.all_sets.Tie as tie
 
 put-sets-requires-2 : tie.Need-put-sets-requires-2
-put-sets-requires-2 c κs = (c .before .before .put-sets .ensures .0, search needs)
+put-sets-requires-2 c κs = record { long = c .before .before .put-sets .ensures .0; room = search needs }
 
 returns : tie.Need-returns
 returns c =

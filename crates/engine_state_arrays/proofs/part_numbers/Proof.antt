@@ -9,16 +9,16 @@ use Rattle.engine_state_arrays.proofs.part_numbers.Statement.{statement
 use Rattle.engine_state_arrays.proofs.part_numbers.Tie as tie
 
 put-numbers-requires-2 : tie.Need-put-numbers-requires-2
-put-numbers-requires-2 c κs = (c .before .before .put-numbers .ensures .0, search needs)
+put-numbers-requires-2 c κs = record { long = c .before .before .put-numbers .ensures .0; room = search needs }
 
 put-numbers-requires-3 : tie.Need-put-numbers-requires-3
-put-numbers-requires-3 c κs = (c .before .before .put-numbers2 .ensures .0, search needs)
+put-numbers-requires-3 c κs = record { long = c .before .before .put-numbers2 .ensures .0; room = search needs }
 
 put-numbers-requires-4 : tie.Need-put-numbers-requires-4
-put-numbers-requires-4 c κs = (c .before .before .put-numbers3 .ensures .0, search needs)
+put-numbers-requires-4 c κs = record { long = c .before .before .put-numbers3 .ensures .0; room = search needs }
 
 put-numbers-requires-5 : tie.Need-put-numbers-requires-5
-put-numbers-requires-5 c κs = (c .before .before .put-numbers4 .ensures .0, search needs)
+put-numbers-requires-5 c κs = record { long = c .before .before .put-numbers4 .ensures .0; room = search needs }
 
 returns : tie.Need-returns
 returns c =
@@ -34,7 +34,7 @@ returns c =
     ∙ put-here 0 (c .before .before .before .before .before .before .before .before .before .before .before .before .before .before .before .before .widen .result) (replicate 481 0) (c .before .before .before .before .before .before .before .before .before .before .before .before .put-numbers .last .0) (c .before .before .before .before .before .before .before .before .before .before .before .before .put-numbers .ensures .1) 64 a in
     let acts : stretch 256 64 (c .put-numbers5 .last .0) ≡ c .before .before .before .before .before .before .before .before .before .before .before .before .before .before .before .widen2 .result = put-here 256 (c .before .before .before .before .before .before .before .before .before .before .before .before .before .before .before .widen2 .result) (c .before .before .before .put-numbers4 .last .0) (c .put-numbers5 .last .0) (c .put-numbers5 .ensures .1) 64 f in (
       (
-        kinds ∙ c .before .before .before .before .before .before .before .before .before .before .before .before .before .before .before .before .widen .ensures .0,
+        kinds ∙ c .before .before .before .before .before .before .before .before .before .before .before .before .before .before .before .before .widen .ensures .same,
         put-before 256 (c .before .before .before .before .before .before .before .before .before .before .before .before .before .before .before .widen2 .result) (c .before .before .before .put-numbers4 .last .0) (c .put-numbers5 .last .0) (c .put-numbers5 .ensures .1) 64 64 (omega arith)
             ∙ put-before 192 (c .before .before .before .before .before .before .before .before .before .before .before .before .before .before .before .before .before .args .t4) (c .before .before .before .before .before .before .put-numbers3 .last .0) (c .before .before .before .put-numbers4 .last .0) (c .before .before .before .put-numbers4 .ensures .1) 64 64 (omega arith)
             ∙ put-before 128 (c .before .before .before .before .before .before .before .before .before .before .before .before .before .before .before .before .before .args .t3) (c .before .before .before .before .before .before .before .before .before .put-numbers2 .last .0) (c .before .before .before .before .before .before .put-numbers3 .last .0) (c .before .before .before .before .before .before .put-numbers3 .ensures .1) 64 64 (omega arith)
@@ -44,9 +44,9 @@ returns c =
             ∙ put-here 128 (c .before .before .before .before .before .before .before .before .before .before .before .before .before .before .before .before .before .args .t3) (c .before .before .before .before .before .before .before .before .before .put-numbers2 .last .0) (c .before .before .before .before .before .before .put-numbers3 .last .0) (c .before .before .before .before .before .before .put-numbers3 .ensures .1) 64 d,
         put-before 256 (c .before .before .before .before .before .before .before .before .before .before .before .before .before .before .before .widen2 .result) (c .before .before .before .put-numbers4 .last .0) (c .put-numbers5 .last .0) (c .put-numbers5 .ensures .1) 192 64 (omega arith)
             ∙ put-here 192 (c .before .before .before .before .before .before .before .before .before .before .before .before .before .before .before .before .before .args .t4) (c .before .before .before .before .before .before .put-numbers3 .last .0) (c .before .before .before .put-numbers4 .last .0) (c .before .before .before .put-numbers4 .ensures .1) 64 e,
-        acts ∙ c .before .before .before .before .before .before .before .before .before .before .before .before .before .before .before .widen2 .ensures .0,
+        acts ∙ c .before .before .before .before .before .before .before .before .before .before .before .before .before .before .before .widen2 .ensures .same,
       ),
-      λ i m. (from-start (c .put-numbers5 .last .0) (small-in 0 (c .put-numbers5 .last .0) (c .before .before .before .before .before .before .before .before .before .before .before .before .before .before .before .before .widen .result) kinds (c .before .before .before .before .before .before .before .before .before .before .before .before .before .before .before .before .widen .ensures .1)) i m, small-in 256 (c .put-numbers5 .last .0) (c .before .before .before .before .before .before .before .before .before .before .before .before .before .before .before .widen2 .result) acts (c .before .before .before .before .before .before .before .before .before .before .before .before .before .before .before .widen2 .ensures .1) i m),
+      λ i m. (from-start (c .put-numbers5 .last .0) (small-in 0 (c .put-numbers5 .last .0) (c .before .before .before .before .before .before .before .before .before .before .before .before .before .before .before .before .widen .result) kinds (c .before .before .before .before .before .before .before .before .before .before .before .before .before .before .before .before .widen .ensures .bytes)) i m, small-in 256 (c .put-numbers5 .last .0) (c .before .before .before .before .before .before .before .before .before .before .before .before .before .before .before .widen2 .result) acts (c .before .before .before .before .before .before .before .before .before .before .before .before .before .before .before .widen2 .ensures .bytes) i m),
     )
 
 pub part-numbers-spec : {M : Type 1} → statement M

@@ -31,19 +31,19 @@ long-bulks : (s : Start) → length (s .args .bindings .bulks) ≡ 32
 long-bulks s = search needs
 
 put-numbers-requires : tie.Need-put-numbers-requires
-put-numbers-requires c κs = (search needs, omega (arith, long-variables (c .before .before .before .before .before .before .before)))
+put-numbers-requires c κs = record { long = search needs; room = omega (arith, long-variables (c .before .before .before .before .before .before .before)) }
 
 put-numbers-requires-2 : tie.Need-put-numbers-requires-2
-put-numbers-requires-2 c κs = (c .before .before .put-numbers .ensures .0, omega (arith, long-sources (c .before .before .before .before .before .before .before .before .before .before)))
+put-numbers-requires-2 c κs = record { long = c .before .before .put-numbers .ensures .0; room = omega (arith, long-sources (c .before .before .before .before .before .before .before .before .before .before)) }
 
 put-numbers-requires-3 : tie.Need-put-numbers-requires-3
-put-numbers-requires-3 c κs = (c .before .before .put-numbers2 .ensures .0, omega (arith, long-counts (c .before .before .before .before .before .before .before .before .before .before .before .before .before)))
+put-numbers-requires-3 c κs = record { long = c .before .before .put-numbers2 .ensures .0; room = omega (arith, long-counts (c .before .before .before .before .before .before .before .before .before .before .before .before .before)) }
 
 put-numbers-requires-4 : tie.Need-put-numbers-requires-4
-put-numbers-requires-4 c κs = (c .before .before .put-numbers3 .ensures .0, omega (arith, long-sizes (c .before .before .before .before .before .before .before .before .before .before .before .before .before .before .before .before)))
+put-numbers-requires-4 c κs = record { long = c .before .before .put-numbers3 .ensures .0; room = omega (arith, long-sizes (c .before .before .before .before .before .before .before .before .before .before .before .before .before .before .before .before)) }
 
 put-numbers-requires-5 : tie.Need-put-numbers-requires-5
-put-numbers-requires-5 c κs = (c .before .before .put-numbers4 .ensures .0, omega (arith, long-bulks (c .before .before .before .before .before .before .before .before .before .before .before .before .before .before .before .before .before .before .before)))
+put-numbers-requires-5 c κs = record { long = c .before .before .put-numbers4 .ensures .0; room = omega (arith, long-bulks (c .before .before .before .before .before .before .before .before .before .before .before .before .before .before .before .before .before .before .before)) }
 
 cast-r : tie.Need-cast-r
 cast-r c = omega (arith, c .before .before .before .before .before .before .before .before .before .before .before .before .before .before .before .before .before .before .before .before .pre)

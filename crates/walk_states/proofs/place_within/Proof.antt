@@ -32,12 +32,12 @@ as-arrays-requires c κs = c .before .before .place-part .ensures .0 .0 .bound .
 put-sets-requires : tie.Need-put-sets-requires
 put-sets-requires c κs =
     let a = c .before .before .before .before in
-    (a .before .before .before .before .before .before .before .before .before .before .pre .2 .sets-long, omega (arith, a .as-arrays .ensures .0 .3))
+    record { long = a .before .before .before .before .before .before .before .before .before .before .pre .2 .sets-long; room = omega (arith, a .as-arrays .ensures .0 .3) }
 
 put-numbers-requires : tie.Need-put-numbers-requires
 put-numbers-requires c κs =
     let a = c .before .before .before .before .before .before .before in
-    (a .before .before .before .before .before .before .before .before .before .before .pre .2 .numbers-long, omega (arith, a .as-arrays .ensures .0 .4))
+    record { long = a .before .before .before .before .before .before .before .before .before .before .pre .2 .numbers-long; room = omega (arith, a .as-arrays .ensures .0 .4) }
 
 returns : tie.Need-returns
 returns c =

@@ -262,7 +262,7 @@ module _ (t : ℕ) where
 
   rest-met : {M : Type 1} → rest-lts.Closed rest-claims rest-at write-rest.Post M
   rest-met = rest-lts.spec rest-claims rest-at write-rest.Post none-returns (λ c κs. kept-length (known-start (c .before) .pre .1 .asked .counted))
-      (λ c κs. (omega (arith, c .before .if1 .left), counted-start c .pre .1 .room))
+      (λ c κs. record { some = omega (arith, c .before .if1 .left); room = counted-start c .pre .1 .room })
       (λ c κs. search needs) past-requires (λ c. search needs) past-returns own-requires
       (λ c. omega (arith, own-else (known-own c) .if2 .left)) (λ c κs. search needs) (λ c κs. search needs)
       (λ c. partly-bytes (partly-own (behind-own c))) (λ c. partly-behind (partly-own (behind-own c))) (λ c. partly-behind (partly-own (behind-own c))) (λ c. omega arith)

@@ -33,5 +33,5 @@ returns-3 c ix =
     count-message _ _ _ _ ix _ (v .wide .ensures) (e .before .if1 .left) (e .if2 .left) (wide-start v .pre .placed) (c .before .words-of .ensures) (c .sum2 .ensures)
 
 pub count-head-spec : {M : Type 1} → statement M
-count-head-spec = tie.close (tie.spec (λ c κs. search needs) (λ c κs. (wide-start (c .before) .pre .cached, wide-start (c .before) .pre .below)) (λ c κs. search needs) returns returns-2
+count-head-spec = tie.close (tie.spec (λ c κs. search needs) (λ c κs. record { cached = wide-start (c .before) .pre .cached; below = wide-start (c .before) .pre .below }) (λ c κs. search needs) returns returns-2
     (λ c κs. wide-start (message-wide c) .pre .cached .sized) (λ c κs. search needs) returns-3)

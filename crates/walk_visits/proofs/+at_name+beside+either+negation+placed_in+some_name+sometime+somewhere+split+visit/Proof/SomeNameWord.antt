@@ -47,7 +47,7 @@ module _ (t : ℕ) where
   enum-known-w c = search needs
 
   pub returns-2 : lts.Need-returns-2 (some-name-claims t) (some-name-at t) reads.Post Inv-loop μ-loop
-  returns-2 c = let x = c .before .before .before .before .before .before .before .before .before .before .before .args in naming-stops (x .program .now) (x .script .now) (x .sets .now) (x .numbers .now) (x .chosen .now) (x .spot .top) (x .spot .somes) (x .spot .left) (x .spot .at) (x .limits) _ _ _ (c .before .before .before .before .before .before .before .loop .inv .3) (omega (arith, c .before .before .before .before .before .before .loop-test .taken, c .before .before .before .before .before .before .before .loop .inv .2)) _ (c .before .before .before .before .before .with-name .ensures .0) (c .before .before .before .before .before .with-name .ensures .1) _ (c .before .visit .ensures) (c .match .keys2)
+  returns-2 c = let x = c .before .before .before .before .before .before .before .before .before .before .before .args in naming-stops (x .program .now) (x .script .now) (x .sets .now) (x .numbers .now) (x .chosen .now) (x .spot .top) (x .spot .somes) (x .spot .left) (x .spot .at) (x .limits) _ _ _ (c .before .before .before .before .before .before .before .loop .inv .3) (omega (arith, c .before .before .before .before .before .before .loop-test .taken, c .before .before .before .before .before .before .before .loop .inv .2)) _ (c .before .before .before .before .before .with-name .ensures .here) (c .before .before .before .before .before .with-name .ensures .elsewhere) _ (c .before .visit .ensures) (c .match .keys2)
 
   pub add-n : lts.Need-add-n (some-name-claims t) (some-name-at t) reads.Post Inv-loop μ-loop
   add-n c = search needs
@@ -56,7 +56,7 @@ module _ (t : ℕ) where
   loop-less c = omega (arith, c .before .before .before .before .before .before .before .before .loop-test .taken)
 
   pub loop-again : lts.Need-loop-again (some-name-claims t) (some-name-at t) reads.Post Inv-loop μ-loop
-  loop-again c = let x = c .before .before .before .before .before .before .before .before .before .before .before .before .before .args in (omega arith, omega (arith, c .before .before .before .before .before .before .before .before .loop-test .taken), c .before .before .before .before .before .before .before .before .before .loop .inv .2, naming-again (x .program .now) (x .script .now) (x .sets .now) (x .numbers .now) (x .chosen .now) (x .spot .top) (x .spot .somes) (x .spot .left) (x .spot .at) (x .limits) _ _ _ (c .before .before .before .before .before .before .before .before .before .loop .inv .3) (omega (arith, c .before .before .before .before .before .before .before .before .loop-test .taken, c .before .before .before .before .before .before .before .before .before .loop .inv .2)) _ (c .before .before .before .before .before .before .before .with-name .ensures .0) (c .before .before .before .before .before .before .before .with-name .ensures .1) _ (c .before .before .before .visit .ensures) _ (c .before .w .given .1))
+  loop-again c = let x = c .before .before .before .before .before .before .before .before .before .before .before .before .before .args in (omega arith, omega (arith, c .before .before .before .before .before .before .before .before .loop-test .taken), c .before .before .before .before .before .before .before .before .before .loop .inv .2, naming-again (x .program .now) (x .script .now) (x .sets .now) (x .numbers .now) (x .chosen .now) (x .spot .top) (x .spot .somes) (x .spot .left) (x .spot .at) (x .limits) _ _ _ (c .before .before .before .before .before .before .before .before .before .loop .inv .3) (omega (arith, c .before .before .before .before .before .before .before .before .loop-test .taken, c .before .before .before .before .before .before .before .before .before .loop .inv .2)) _ (c .before .before .before .before .before .before .before .with-name .ensures .here) (c .before .before .before .before .before .before .before .with-name .ensures .elsewhere) _ (c .before .before .before .visit .ensures) _ (c .before .w .given .1))
 
   pub returns-3 : lts.Need-returns-3 (some-name-claims t) (some-name-at t) reads.Post Inv-loop μ-loop
   returns-3 c = let x = c .before .before .before .before .before .args in naming-ends (x .program .now) (x .script .now) (x .sets .now) (x .numbers .now) (x .chosen .now) (x .spot .top) (x .spot .somes) (x .spot .left) (x .spot .at) (x .limits) _ _ _ (c .before .loop .inv .3) (omega (arith, c .loop-test .left, c .before .loop .inv .2))

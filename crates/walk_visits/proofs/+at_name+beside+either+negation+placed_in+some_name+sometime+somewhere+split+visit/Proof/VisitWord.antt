@@ -75,34 +75,34 @@ module _ (t : ℕ) where
   placed-in-requires c κs = asked (c .before)
 
   pub returns-4 : lts.Need-returns-4 (visit-claims t) (visit-at t) reads.Post
-  returns-4 c = let x = c .before .before .before .before .before .before .before .before .args in counted-visits (x .program .now) (x .script .now) (x .sets .now) (x .numbers .now) (x .chosen .now) (x .spot .top) (x .spot .somes) (x .spot .left) (x .spot .at) (x .limits) (x .c) (c .before .before .before .before .before .before .if1 .left) (c .before .before .before .before .before .before .before .before .pre .1 .0) (c .before .before .before .before .if2 .left) _ (c .before .next-count .ensures .0) (c .before .next-count .ensures .1) 0 (c .match .keys1) _ (truth-finds (x .program .now) (x .script .now) (x .sets .now) (x .numbers .now) (x .chosen .now) (x .spot .top) (x .spot .somes) (x .spot .left - 1) (x .spot .at) (x .limits) _)
+  returns-4 c = let x = c .before .before .before .before .before .before .before .before .args in counted-visits (x .program .now) (x .script .now) (x .sets .now) (x .numbers .now) (x .chosen .now) (x .spot .top) (x .spot .somes) (x .spot .left) (x .spot .at) (x .limits) (x .c) (c .before .before .before .before .before .before .if1 .left) (c .before .before .before .before .before .before .before .before .pre .1 .0) (c .before .before .before .before .if2 .left) _ (c .before .next-count .ensures .visits) (c .before .next-count .ensures .deepest) 0 (c .match .keys1) _ (truth-finds (x .program .now) (x .script .now) (x .sets .now) (x .numbers .now) (x .chosen .now) (x .spot .top) (x .spot .somes) (x .spot .left - 1) (x .spot .at) (x .limits) _)
 
   pub returns-5 : lts.Need-returns-5 (visit-claims t) (visit-at t) reads.Post
-  returns-5 c = let x = c .before .before .before .before .before .before .before .before .before .args in counted-visits (x .program .now) (x .script .now) (x .sets .now) (x .numbers .now) (x .chosen .now) (x .spot .top) (x .spot .somes) (x .spot .left) (x .spot .at) (x .limits) (x .c) (c .before .before .before .before .before .before .before .if1 .left) (c .before .before .before .before .before .before .before .before .before .pre .1 .0) (c .before .before .before .before .before .if2 .left) _ (c .before .before .next-count .ensures .0) (c .before .before .next-count .ensures .1) 1 (c .before .match .keys2) _ (c .negation .ensures)
+  returns-5 c = let x = c .before .before .before .before .before .before .before .before .before .args in counted-visits (x .program .now) (x .script .now) (x .sets .now) (x .numbers .now) (x .chosen .now) (x .spot .top) (x .spot .somes) (x .spot .left) (x .spot .at) (x .limits) (x .c) (c .before .before .before .before .before .before .before .if1 .left) (c .before .before .before .before .before .before .before .before .before .pre .1 .0) (c .before .before .before .before .before .if2 .left) _ (c .before .before .next-count .ensures .visits) (c .before .before .next-count .ensures .deepest) 1 (c .before .match .keys2) _ (c .negation .ensures)
 
   pub returns-6 : lts.Need-returns-6 (visit-claims t) (visit-at t) reads.Post
-  returns-6 c = let x = c .before .before .before .before .before .before .before .before .before .args in counted-visits (x .program .now) (x .script .now) (x .sets .now) (x .numbers .now) (x .chosen .now) (x .spot .top) (x .spot .somes) (x .spot .left) (x .spot .at) (x .limits) (x .c) (c .before .before .before .before .before .before .before .if1 .left) (c .before .before .before .before .before .before .before .before .before .pre .1 .0) (c .before .before .before .before .before .if2 .left) _ (c .before .before .next-count .ensures .0) (c .before .before .next-count .ensures .1) 2 (c .before .match .keys3) _ (c .either .ensures)
+  returns-6 c = let x = c .before .before .before .before .before .before .before .before .before .args in counted-visits (x .program .now) (x .script .now) (x .sets .now) (x .numbers .now) (x .chosen .now) (x .spot .top) (x .spot .somes) (x .spot .left) (x .spot .at) (x .limits) (x .c) (c .before .before .before .before .before .before .before .if1 .left) (c .before .before .before .before .before .before .before .before .before .pre .1 .0) (c .before .before .before .before .before .if2 .left) _ (c .before .before .next-count .ensures .visits) (c .before .before .next-count .ensures .deepest) 2 (c .before .match .keys3) _ (c .either .ensures)
 
   pub returns-7 : lts.Need-returns-7 (visit-claims t) (visit-at t) reads.Post
-  returns-7 c = let x = c .before .before .before .before .before .before .before .before .before .args in counted-visits (x .program .now) (x .script .now) (x .sets .now) (x .numbers .now) (x .chosen .now) (x .spot .top) (x .spot .somes) (x .spot .left) (x .spot .at) (x .limits) (x .c) (c .before .before .before .before .before .before .before .if1 .left) (c .before .before .before .before .before .before .before .before .before .pre .1 .0) (c .before .before .before .before .before .if2 .left) _ (c .before .before .next-count .ensures .0) (c .before .before .next-count .ensures .1) 3 (c .before .match .keys4) _ (void-finds (x .program .now) (x .script .now) (x .sets .now) (x .numbers .now) (x .chosen .now) (x .spot .top) (x .spot .somes) (x .spot .left - 1) (x .spot .at) (x .limits) _ _ (small (c .before .before .before .before .before .before .before .before .before)) (c .void-rule .ensures))
+  returns-7 c = let x = c .before .before .before .before .before .before .before .before .before .args in counted-visits (x .program .now) (x .script .now) (x .sets .now) (x .numbers .now) (x .chosen .now) (x .spot .top) (x .spot .somes) (x .spot .left) (x .spot .at) (x .limits) (x .c) (c .before .before .before .before .before .before .before .if1 .left) (c .before .before .before .before .before .before .before .before .before .pre .1 .0) (c .before .before .before .before .before .if2 .left) _ (c .before .before .next-count .ensures .visits) (c .before .before .next-count .ensures .deepest) 3 (c .before .match .keys4) _ (void-finds (x .program .now) (x .script .now) (x .sets .now) (x .numbers .now) (x .chosen .now) (x .spot .top) (x .spot .somes) (x .spot .left - 1) (x .spot .at) (x .limits) _ _ (small (c .before .before .before .before .before .before .before .before .before)) (c .void-rule .ensures))
 
   pub returns-8 : lts.Need-returns-8 (visit-claims t) (visit-at t) reads.Post
-  returns-8 c = let x = c .before .before .before .before .before .before .before .before .before .args in counted-visits (x .program .now) (x .script .now) (x .sets .now) (x .numbers .now) (x .chosen .now) (x .spot .top) (x .spot .somes) (x .spot .left) (x .spot .at) (x .limits) (x .c) (c .before .before .before .before .before .before .before .if1 .left) (c .before .before .before .before .before .before .before .before .before .pre .1 .0) (c .before .before .before .before .before .if2 .left) _ (c .before .before .next-count .ensures .0) (c .before .before .next-count .ensures .1) 4 (c .before .match .keys5) _ (c .at-name .ensures)
+  returns-8 c = let x = c .before .before .before .before .before .before .before .before .before .args in counted-visits (x .program .now) (x .script .now) (x .sets .now) (x .numbers .now) (x .chosen .now) (x .spot .top) (x .spot .somes) (x .spot .left) (x .spot .at) (x .limits) (x .c) (c .before .before .before .before .before .before .before .if1 .left) (c .before .before .before .before .before .before .before .before .before .pre .1 .0) (c .before .before .before .before .before .if2 .left) _ (c .before .before .next-count .ensures .visits) (c .before .before .next-count .ensures .deepest) 4 (c .before .match .keys5) _ (c .at-name .ensures)
 
   pub returns-9 : lts.Need-returns-9 (visit-claims t) (visit-at t) reads.Post
-  returns-9 c = let x = c .before .before .before .before .before .before .before .before .before .args in counted-visits (x .program .now) (x .script .now) (x .sets .now) (x .numbers .now) (x .chosen .now) (x .spot .top) (x .spot .somes) (x .spot .left) (x .spot .at) (x .limits) (x .c) (c .before .before .before .before .before .before .before .if1 .left) (c .before .before .before .before .before .before .before .before .before .pre .1 .0) (c .before .before .before .before .before .if2 .left) _ (c .before .before .next-count .ensures .0) (c .before .before .next-count .ensures .1) 5 (c .before .match .keys6) _ (c .beside .ensures)
+  returns-9 c = let x = c .before .before .before .before .before .before .before .before .before .args in counted-visits (x .program .now) (x .script .now) (x .sets .now) (x .numbers .now) (x .chosen .now) (x .spot .top) (x .spot .somes) (x .spot .left) (x .spot .at) (x .limits) (x .c) (c .before .before .before .before .before .before .before .if1 .left) (c .before .before .before .before .before .before .before .before .before .pre .1 .0) (c .before .before .before .before .before .if2 .left) _ (c .before .before .next-count .ensures .visits) (c .before .before .next-count .ensures .deepest) 5 (c .before .match .keys6) _ (c .beside .ensures)
 
   pub returns-10 : lts.Need-returns-10 (visit-claims t) (visit-at t) reads.Post
-  returns-10 c = let x = c .before .before .before .before .before .before .before .before .before .args in counted-visits (x .program .now) (x .script .now) (x .sets .now) (x .numbers .now) (x .chosen .now) (x .spot .top) (x .spot .somes) (x .spot .left) (x .spot .at) (x .limits) (x .c) (c .before .before .before .before .before .before .before .if1 .left) (c .before .before .before .before .before .before .before .before .before .pre .1 .0) (c .before .before .before .before .before .if2 .left) _ (c .before .before .next-count .ensures .0) (c .before .before .next-count .ensures .1) 6 (c .before .match .keys7) _ (c .some-name .ensures)
+  returns-10 c = let x = c .before .before .before .before .before .before .before .before .before .args in counted-visits (x .program .now) (x .script .now) (x .sets .now) (x .numbers .now) (x .chosen .now) (x .spot .top) (x .spot .somes) (x .spot .left) (x .spot .at) (x .limits) (x .c) (c .before .before .before .before .before .before .before .if1 .left) (c .before .before .before .before .before .before .before .before .before .pre .1 .0) (c .before .before .before .before .before .if2 .left) _ (c .before .before .next-count .ensures .visits) (c .before .before .next-count .ensures .deepest) 6 (c .before .match .keys7) _ (c .some-name .ensures)
 
   pub returns-11 : lts.Need-returns-11 (visit-claims t) (visit-at t) reads.Post
-  returns-11 c = let x = c .before .before .before .before .before .before .before .before .before .args in counted-visits (x .program .now) (x .script .now) (x .sets .now) (x .numbers .now) (x .chosen .now) (x .spot .top) (x .spot .somes) (x .spot .left) (x .spot .at) (x .limits) (x .c) (c .before .before .before .before .before .before .before .if1 .left) (c .before .before .before .before .before .before .before .before .before .pre .1 .0) (c .before .before .before .before .before .if2 .left) _ (c .before .before .next-count .ensures .0) (c .before .before .next-count .ensures .1) 7 (c .before .match .keys8) _ (c .sometime .ensures)
+  returns-11 c = let x = c .before .before .before .before .before .before .before .before .before .args in counted-visits (x .program .now) (x .script .now) (x .sets .now) (x .numbers .now) (x .chosen .now) (x .spot .top) (x .spot .somes) (x .spot .left) (x .spot .at) (x .limits) (x .c) (c .before .before .before .before .before .before .before .if1 .left) (c .before .before .before .before .before .before .before .before .before .pre .1 .0) (c .before .before .before .before .before .if2 .left) _ (c .before .before .next-count .ensures .visits) (c .before .before .next-count .ensures .deepest) 7 (c .before .match .keys8) _ (c .sometime .ensures)
 
   pub returns-12 : lts.Need-returns-12 (visit-claims t) (visit-at t) reads.Post
-  returns-12 c = let x = c .before .before .before .before .before .before .before .before .before .args in counted-visits (x .program .now) (x .script .now) (x .sets .now) (x .numbers .now) (x .chosen .now) (x .spot .top) (x .spot .somes) (x .spot .left) (x .spot .at) (x .limits) (x .c) (c .before .before .before .before .before .before .before .if1 .left) (c .before .before .before .before .before .before .before .before .before .pre .1 .0) (c .before .before .before .before .before .if2 .left) _ (c .before .before .next-count .ensures .0) (c .before .before .next-count .ensures .1) 8 (c .before .match .keys9) _ (c .somewhere .ensures)
+  returns-12 c = let x = c .before .before .before .before .before .before .before .before .before .args in counted-visits (x .program .now) (x .script .now) (x .sets .now) (x .numbers .now) (x .chosen .now) (x .spot .top) (x .spot .somes) (x .spot .left) (x .spot .at) (x .limits) (x .c) (c .before .before .before .before .before .before .before .if1 .left) (c .before .before .before .before .before .before .before .before .before .pre .1 .0) (c .before .before .before .before .before .if2 .left) _ (c .before .before .next-count .ensures .visits) (c .before .before .next-count .ensures .deepest) 8 (c .before .match .keys9) _ (c .somewhere .ensures)
 
   pub returns-13 : lts.Need-returns-13 (visit-claims t) (visit-at t) reads.Post
-  returns-13 c = let x = c .before .before .before .before .before .before .before .before .before .args in counted-visits (x .program .now) (x .script .now) (x .sets .now) (x .numbers .now) (x .chosen .now) (x .spot .top) (x .spot .somes) (x .spot .left) (x .spot .at) (x .limits) (x .c) (c .before .before .before .before .before .before .before .if1 .left) (c .before .before .before .before .before .before .before .before .before .pre .1 .0) (c .before .before .before .before .before .if2 .left) _ (c .before .before .next-count .ensures .0) (c .before .before .next-count .ensures .1) 9 (c .before .match .keys10) _ (c .placed-in .ensures)
+  returns-13 c = let x = c .before .before .before .before .before .before .before .before .before .args in counted-visits (x .program .now) (x .script .now) (x .sets .now) (x .numbers .now) (x .chosen .now) (x .spot .top) (x .spot .somes) (x .spot .left) (x .spot .at) (x .limits) (x .c) (c .before .before .before .before .before .before .before .if1 .left) (c .before .before .before .before .before .before .before .before .before .pre .1 .0) (c .before .before .before .before .before .if2 .left) _ (c .before .before .next-count .ensures .visits) (c .before .before .next-count .ensures .deepest) 9 (c .before .match .keys10) _ (c .placed-in .ensures)
 
   pub returns-14 : lts.Need-returns-14 (visit-claims t) (visit-at t) reads.Post
-  returns-14 c = let x = c .before .before .before .before .before .before .before .before .args in counted-visits (x .program .now) (x .script .now) (x .sets .now) (x .numbers .now) (x .chosen .now) (x .spot .top) (x .spot .somes) (x .spot .left) (x .spot .at) (x .limits) (x .c) (c .before .before .before .before .before .before .if1 .left) (c .before .before .before .before .before .before .before .before .pre .1 .0) (c .before .before .before .before .if2 .left) _ (c .before .next-count .ensures .0) (c .before .next-count .ensures .1) _ refl _ (none-finds (x .program .now) (x .script .now) (x .sets .now) (x .numbers .now) (x .chosen .now) (x .spot .top) (x .spot .somes) (x .spot .left - 1) (x .spot .at) (x .limits) _ _ (none-below 10 _ (c .match .rest)) _)
+  returns-14 c = let x = c .before .before .before .before .before .before .before .before .args in counted-visits (x .program .now) (x .script .now) (x .sets .now) (x .numbers .now) (x .chosen .now) (x .spot .top) (x .spot .somes) (x .spot .left) (x .spot .at) (x .limits) (x .c) (c .before .before .before .before .before .before .if1 .left) (c .before .before .before .before .before .before .before .before .pre .1 .0) (c .before .before .before .before .if2 .left) _ (c .before .next-count .ensures .visits) (c .before .next-count .ensures .deepest) _ refl _ (none-finds (x .program .now) (x .script .now) (x .sets .now) (x .numbers .now) (x .chosen .now) (x .spot .top) (x .spot .somes) (x .spot .left - 1) (x .spot .at) (x .limits) _ _ (none-below 10 _ (c .match .rest)) _)
