@@ -18,7 +18,7 @@ use Rattle.theory_call.proofs.Reducing.{reduces}
 use Rattle.theory_call.proofs.Leaving as leaving
 use Rattle.theory_call.proofs.Small.{PlaceWithin, Small, answer-small, weight-bounded}
 use Rattle.host_answer_words.specs.Told.{saidOf, placeOf, told, Tellable}
-use Rattle.capi.specs.Told.{returned, answered, written, Decided, ReducedBy, ReturnedBy, ReadmittedBy, treeWords}
+use Rattle.capi.specs.Told.{returned, answered, bufferAfter, Decided, ReducedBy, ReturnedBy, ReadmittedBy, treeWords}
 
 -- what is kept to where the call returns r, given words for its answer, and leaves these and those in the output buffer
 abbrev pub Keeps : Call → (r : ℕ) → (given words out : List ℕ) → Type 0
@@ -34,7 +34,7 @@ one≢none : {B : Type 0} → _≡_ {A = ℕ} 0 1 → B
 one≢none e = absurd (let z : ⊥ = omega arith in z)
 
 -- no room: nothing is done
-pub short : (c : Call) (words : List ℕ) → length words < 8 → (0 ≡ returned words) × ((words ≡ answered c words) × ((c .buffer ≡ written c words) × Keeps c 0 words words (c .buffer)))
+pub short : (c : Call) (words : List ℕ) → length words < 8 → (0 ≡ returned words) × ((words ≡ answered c words) × ((c .buffer ≡ bufferAfter c words) × Keeps c 0 words words (c .buffer)))
 short c words l =
     let none : Keeps c 0 words words (c .buffer) = (λ e. (refl, refl), (one≢none, (one≢none, ((weight-holds c, one≢none), (one≢none, (one≢none, one≢none)))))) in
     rw (lt-leb 8 (length words) l) (refl, (refl, (refl, none)))
@@ -89,7 +89,7 @@ told-keeps c given rest = (
 
 -- room: the call's answer is told
 pub told-whole : (c : Call) (words : List ℕ) (r : engine.Answer) (out : List ℕ) {exit : List ℕ} → answerOf r out ≡ answer c → 8 ≤ length words → exit ≡ told (answerOf r out) ++ drop 8 words
-    → (1 ≡ returned words) × ((exit ≡ answered c words) × ((out ≡ written c words) × Keeps c 1 words exit out))
+    → (1 ≡ returned words) × ((exit ≡ answered c words) × ((out ≡ bufferAfter c words) × Keeps c 1 words exit out))
 unfolding answerOf
 told-whole c words r out {exit} e l t =
     let x = t ∙ ap (λ (a : Answer). told a ++ drop 8 words) e in

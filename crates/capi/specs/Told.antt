@@ -47,5 +47,5 @@ abbrev pub ReadmittedBy : (said : ℕ) → (tree : List ℕ) → Type 0
 ReadmittedBy w ws = (w ≡ 2 → Readmitted (accepted true) ws) × (w ≡ 1 → Readmitted (accepted false) ws)
 
 -- the words of the output buffer after the call
-abbrev pub written : Call → List ℕ → List ℕ
-written c words = cond (hasRoom words) (answer c .buffer) (c .buffer)
+abbrev pub bufferAfter : Call → List ℕ → List ℕ
+bufferAfter c words = cond (hasRoom words) (answer c .buffer) (c .buffer)

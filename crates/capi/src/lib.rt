@@ -5,7 +5,7 @@ ghost use mathlib.Core.Path.{_≡_};
 ghost use lib.ListN.{getD};
 ghost use Rattle.checker.specs.Answering.{callOf};
 ghost use Rattle.theory_call.specs.Standing.{MovesBounded, WeightHolds, WeightBounded};
-ghost use Rattle.capi.specs.Told.{returned, answered, written, Decided, ReducedBy, ReturnedBy, ReadmittedBy, treeWords};
+ghost use Rattle.capi.specs.Told.{returned, answered, bufferAfter, Decided, ReducedBy, ReturnedBy, ReadmittedBy, treeWords};
 
 // The whole call. Where `answer` has fewer than eight words, nothing is done.
 #[no_mangle]
@@ -19,7 +19,7 @@ pub extern "C" fn skycorbel_call<'a, 'b, 'c>(
 ) -> u32
     ensures returned { λ r. ⌜ r ≡ returned (now (answer .entry)) ⌝ }
     ensures answered { λ _. ⌜ now (answer .exit) ≡ answered (callOf (now (script .entry)) (now (moves .entry)) (now (rule .entry)) patience (now (out .entry))) (now (answer .entry)) ⌝ }
-    ensures written { λ _. ⌜ now (out .exit) ≡ written (callOf (now (script .entry)) (now (moves .entry)) (now (rule .entry)) patience (now (out .entry))) (now (answer .entry)) ⌝ }
+    ensures written { λ _. ⌜ now (out .exit) ≡ bufferAfter (callOf (now (script .entry)) (now (moves .entry)) (now (rule .entry)) patience (now (out .entry))) (now (answer .entry)) ⌝ }
     ensures untouched { λ r. ⌜ (r ≡ 0 → (now (answer .exit) ≡ now (answer .entry)) × (now (out .exit) ≡ now (out .entry))) ⌝ }
     ensures decided { λ r. ⌜ (r ≡ 1 → Decided (callOf (now (script .entry)) (now (moves .entry)) (now (rule .entry)) patience (now (out .entry))) (getD (now (answer .exit)) 0 0)) ⌝ }
     ensures bounded { λ r. ⌜ (r ≡ 1 → MovesBounded (now (script .entry)) (getD (now (answer .exit)) 3 0)) ⌝ }

@@ -23,7 +23,7 @@ use Rattle.walk_stages.specs.Visits.{countOf, walkedOf}
 use Rattle.walk_stages.specs.declared.Counts.{Counts}
 use Rattle.walk_stages.specs.declared.Walked.{Walked}
 use Rattle.walk_stages.specs.declared.Walked.the-variants.{Yes, No, Stopped}
-use Rattle.theory_call.specs.Call.{Call, accepted, refusal, written, finish, roomy, accepting, walked}
+use Rattle.theory_call.specs.Call.{Call, accepted, refusal, standingWords, finish, roomy, accepting, walked}
 use Rattle.theory_call.specs.Call as plain
 use Rattle.checker.specs.Answering.{verdictOf, answerOf, callOf}
 use Rattle.checker.specs.Calling.{ComesTo}
@@ -49,7 +49,7 @@ module _ (c : Call) (m : Machine) (a : Bool) (n : Count) (r : Answer) (after : L
   abbrev ended : Bool → plain.Answer
   ended u = cond u (accepting c m a n) (refusal 19 0 (length (c .moves)) (n .visits) (c .buffer))
 
-  unfit : (u : Bool) (q p k : ℕ) → k ≡ length (c .moves) → Refused q p ≡ cond u (Words (length (written m))) (Refused 19 0) → after ≡ cond u (over (written m) (c .buffer)) (c .buffer)
+  unfit : (u : Bool) (q p k : ℕ) → k ≡ length (c .moves) → Refused q p ≡ cond u (Words (length (standingWords m))) (Refused 19 0) → after ≡ cond u (over (standingWords m) (c .buffer)) (c .buffer)
       → ((b : List ℕ) → answerOf r b ≡ refusal q p k (n .visits) b) → answerOf r after ≡ ended u
   unfit true q p k em e w d = absurd (let z : suc q ≡ 0 = ap questionOf e in let o : ⊥ = omega arith in o)
   unfit false q p k em e w d =
@@ -58,20 +58,20 @@ module _ (c : Call) (m : Machine) (a : Bool) (n : Count) (r : Answer) (after : L
       let p0 : p ≡ 0 = ap placeOf e in
       d after ∙ (λ i. refusal (q19 i) (p0 i) (em i) (n .visits) (w i))
 
-  fit : (u : Bool) (k : ℕ) → Words k ≡ cond u (Words (length (written m))) (Refused 19 0) → after ≡ cond u (over (written m) (c .buffer)) (c .buffer)
+  fit : (u : Bool) (k : ℕ) → Words k ≡ cond u (Words (length (standingWords m))) (Refused 19 0) → after ≡ cond u (over (standingWords m) (c .buffer)) (c .buffer)
       → verdictOf (r .verdict) ≡ accepted a → r .moves ≡ length (c .moves) → r .visits ≡ n .visits → r .deepest ≡ n .deepest → r .weight ≡ weightOf m → r .words ≡ k → answerOf r after ≡ ended u
   unfolding over answerOf
   fit true k e w ev em es ed ew ek =
-      let k0 : k ≡ length (written m) = ap wordsOf e in
+      let k0 : k ≡ length (standingWords m) = ap wordsOf e in
       λ i. record { verdict = ev i; moves = em i; visits = es i; deepest = ed i; weight = ew i; words = (ek ∙ k0) i; buffer = w i }
   fit false k e w ev em es ed ew ek = absurd (let z : 0 ≡ 20 = ap questionOf e in let o : ⊥ = omega arith in o)
 
-  module _ (wrote : after ≡ buffered (written m) (c .buffer)) where
-    ends-refused : (q p k : ℕ) → k ≡ length (c .moves) → Refused q p ≡ answered (written m) (c .buffer) → ((b : List ℕ) → answerOf r b ≡ refusal q p k (n .visits) b) → answerOf r after ≡ finish c m a n
+  module _ (wrote : after ≡ buffered (standingWords m) (c .buffer)) where
+    ends-refused : (q p k : ℕ) → k ≡ length (c .moves) → Refused q p ≡ answered (standingWords m) (c .buffer) → ((b : List ℕ) → answerOf r b ≡ refusal q p k (n .visits) b) → answerOf r after ≡ finish c m a n
     unfolding finish answered buffered room
     ends-refused q p k em e d = unfit (roomy c m) q p k em e wrote d
 
-    ends-words : (k : ℕ) → Words k ≡ answered (written m) (c .buffer) → verdictOf (r .verdict) ≡ accepted a → r .moves ≡ length (c .moves) → r .visits ≡ n .visits → r .deepest ≡ n .deepest
+    ends-words : (k : ℕ) → Words k ≡ answered (standingWords m) (c .buffer) → verdictOf (r .verdict) ≡ accepted a → r .moves ≡ length (c .moves) → r .visits ≡ n .visits → r .deepest ≡ n .deepest
         → r .weight ≡ weightOf m → r .words ≡ k → answerOf r after ≡ finish c m a n
     unfolding finish answered buffered room
     ends-words k e ev em es ed ew ek = fit (roomy c m) k e wrote ev em es ed ew ek

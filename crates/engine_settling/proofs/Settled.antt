@@ -12,7 +12,7 @@ use Rattle.read_messages.specs.Message.{Message}
 use Rattle.base_sets.specs.Sets.{members}
 use Rattle.read_scripts.specs.Tree.{Head, close, part, oneIf, parts, timesIn, mapHeads}
 use Rattle.read_scripts.specs.Script.{Written, Script}
-use Rattle.read_scripts.specs.Represents.{Held, bodyIn, headAt, headIn, written, Tabled}
+use Rattle.read_scripts.specs.Represents.{Held, bodyIn, headAt, headIn, unindexed, Tabled}
 use Rattle.base_slices.proofs.Tails.{zeros}
 use Rattle.read_scripts.proofs.Numbers.{numbered-range}
 use Rattle.engine_bindings.specs.Bindings.{messageOf}
@@ -69,7 +69,7 @@ whole script kind start l = byTest (eqb kind 1)
     (λ t. rw (t, lt-ltb start 65536 l))
     (λ t. byTest (eqb kind 2) (λ u. rw (t, u)) (λ u. byTest (eqb kind 3) (λ v. rw (t, u, v)) (λ v. rw (t, u, v))))
 
-held-whole : (k : ℕ → List ℕ) (w : ℕ → Head Message) (w′ : ℕ → ClosureHead) → ((i : ℕ) → w′ i ≡ wholeHead (w i)) → (b : Script) → Held k w (written b) → Held k w′ (closureOf b)
+held-whole : (k : ℕ → List ℕ) (w : ℕ → Head Message) (w′ : ℕ → ClosureHead) → ((i : ℕ) → w′ i ≡ wholeHead (w i)) → (b : Script) → Held k w (unindexed b) → Held k w′ (closureOf b)
 unfolding closureOf mapHeads
 held-whole k w w′ same close h = tt
 held-whole k w w′ same (part i g b r) h = (

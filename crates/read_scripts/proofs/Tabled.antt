@@ -21,7 +21,7 @@ use Rattle.read_messages.proofs.Readings.{bind-all, got-all, ask-inv}
 use Rattle.read_scripts.specs.Tree.{Body, close, part, tops, totalOver, parts, mapHeads, kindNumber}
 use Rattle.read_scripts.specs.Script.{Written, Script, readBody, readScript}
 use Rattle.read_scripts.specs.Table.{vacant, entered, startOf, tabulate, scanned}
-use Rattle.read_scripts.specs.Represents.{Numbered, Held, bodyIn, headAt, headIn, written, PartsAt, Low, Tabled, Answers}
+use Rattle.read_scripts.specs.Represents.{Numbered, Held, bodyIn, headAt, headIn, unindexed, PartsAt, Low, Tabled, Answers}
 use Rattle.read_scripts.specs.declared.Table.{Table}
 use Rattle.read_scripts.specs.declared.Scan.{Scan}
 use Rattle.read_scripts.proofs.Laws.{body-advances, short}
@@ -160,7 +160,7 @@ starts-low n o (part i w b r) t h L = starts-low n o r _
 record Filled (ws : List ℕ) (o : ℕ) (b : Script) (t u : Table) : Type 0 where
   wrote : Wrote o (t .count) (t .count + parts b) t u
   own : bodyIn (u .kids) o ≡ bodyIn (t .kids) o ++ tops b
-  held : Held (bodyIn (u .kids)) (headIn ws (u .kinds) (u .starts)) (written b)
+  held : Held (bodyIn (u .kids)) (headIn ws (u .kinds) (u .starts)) (unindexed b)
 
 -- what is shown of a body's parts, for every table that they are written to
 abbrev Fills : List ℕ → (o : ℕ) → Script → Type 0
@@ -213,7 +213,7 @@ module _ (ws : List ℕ) (o i : ℕ) (w : Written) (b r : Script) (t t₁ t₂ :
     part-body : bodyIn (t₁ .kids) i ≡ [] → bodyIn (u .kids) i ≡ tops b
     part-body n = ap members (G .wrote .kids-kept i (owned i (omega arith) (omega arith)) (inl (omega (arith, inside-count)))) ∙ F .own ∙ ap (λ (m : List ℕ). m ++ tops b) n
 
-    inside-held : Numbered (t .count + 1) b → Held (bodyIn (u .kids)) (headIn ws (u .kinds) (u .starts)) (written b)
+    inside-held : Numbered (t .count + 1) b → Held (bodyIn (u .kids)) (headIn ws (u .kinds) (u .starts)) (unindexed b)
     inside-held N =
         held-frame (λ w. w .head) (bodyIn (t₂ .kids)) (bodyIn (u .kids)) (headIn ws (t₂ .kinds) (t₂ .starts)) (headIn ws (u .kinds) (u .starts)) (t .count + 1) b N
         (λ j a z. sym (ap members (G .wrote .kids-kept j (owned j (omega arith) (omega arith)) (inl (omega (arith, inside-count))))))

@@ -51,8 +51,8 @@ Low n close = Unit {0}
 Low n (part i w b r) = (startOf w ≤ n) × Low n b × Low n r
 
 -- the tree, its parts being what they are without the indices of their words
-abbrev pub written : Script → Body (Head Message)
-written b = mapHeads (λ w. w .head) b
+abbrev pub unindexed : Script → Body (Head Message)
+unindexed b = mapHeads (λ w. w .head) b
 
 -- the table and the script's words hold the tree: its top parts are those of number 64's body
 pub record Tabled (script : List ℕ) (t : Table) (b : Script) : Type 0 where
@@ -60,7 +60,7 @@ pub record Tabled (script : List ℕ) (t : Table) (b : Script) : Type 0 where
   pub counted : t .count ≡ parts b
   pub numbered : Numbered 0 b
   pub top : bodyIn (t .kids) 64 ≡ tops b
-  pub held : Held (bodyIn (t .kids)) (headIn script (t .kinds) (t .starts)) (written b)
+  pub held : Held (bodyIn (t .kids)) (headIn script (t .kinds) (t .starts)) (unindexed b)
   pub low : (i : ℕ) → getD (t .starts) i 0 ≤ 1024
 
 -- what the reader of the script answers

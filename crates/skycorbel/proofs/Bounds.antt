@@ -10,7 +10,7 @@ use lib.Dec.{leb, ltb, eqb, lit≤}
 use lib.ListN.{length, take, drop, replicate, length-append, length-take, length-drop, length-replicate}
 use Rattle.io.specs.Counts.{Counts}
 use Rattle.base_slices.proofs.Tests.{byTest}
-use Rattle.theory_call.specs.Call.{Call, Verdict, accepted, refused, Answer, answer, refusal, written}
+use Rattle.theory_call.specs.Call.{Call, Verdict, accepted, refused, Answer, answer, refusal, standingWords}
 use Rattle.theory_call.proofs.Answers.{answer-ends}
 use Rattle.checker.specs.Answering.{callOf}
 use Rattle.program_digits.specs.Digits.{digit, hexadecimal, line, lines, decimalBy, decimal, Puts}
@@ -36,7 +36,7 @@ answer-long c = answer-ends c (Long c) (record {
   stuck = λ s e r d q i h. refl;
   tired = λ s q i v e. refl;
   unfit = λ s a n e l. refl;
-  done = λ s a n e l. over-long (written (s .machine)) (c .buffer) (omega (arith, leb-true (length (written (s .machine))) (min (length (c .buffer)) 268435456) l));
+  done = λ s a n e l. over-long (standingWords (s .machine)) (c .buffer) (omega (arith, leb-true (length (standingWords (s .machine))) (min (length (c .buffer)) 268435456) l));
 })
 
 -- ---- pieces

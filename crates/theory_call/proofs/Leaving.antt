@@ -6,7 +6,7 @@ use mathlib.Core.List.{List}
 use mathlib.Core.Path.{_≡_, refl, sym, _∙_, subst}
 use lib.ListN.{length, drop}
 use lib.Seq.{take-at}
-use Rattle.theory_call.specs.Call.{Call, Verdict, accepted, refused, refusal, leftBy, written, answer}
+use Rattle.theory_call.specs.Call.{Call, Verdict, accepted, refused, refusal, leftBy, standingWords, answer}
 use Rattle.theory_call.specs.Standing.{Standing, ReadAs, LetIn, Returns, Readmits, Returned, Readmitted}
 use Rattle.theory_call.proofs.Entering.{start-reads}
 use Rattle.theory_call.proofs.Answers.{answer-ends, refused≢accepted}
@@ -16,23 +16,23 @@ use Rattle.theory_call.proofs.Readmitting.{readmits}
 
 module _ (c : Call) where
   -- THEOREM: they are those of the tree that stands.
-  pub leaves : (a : Bool) → answer c .verdict ≡ accepted a → (s : Standing c) × (leftBy (answer c) ≡ written (s .machine))
+  pub leaves : (a : Bool) → answer c .verdict ≡ accepted a → (s : Standing c) × (leftBy (answer c) ≡ standingWords (s .machine))
   unfolding refusal
-  leaves a = answer-ends c (λ r. r .verdict ≡ accepted a → (s : Standing c) × (leftBy r ≡ written (s .machine))) (record {
+  leaves a = answer-ends c (λ r. r .verdict ≡ accepted a → (s : Standing c) × (leftBy r ≡ standingWords (s .machine))) (record {
     unread = λ q i e x. refused≢accepted x;
     shut = λ s e q i d x. refused≢accepted x;
     stuck = λ s e r d q i h x. refused≢accepted x;
     tired = λ s q i v e x. refused≢accepted x;
     unfit = λ s b n e l x. refused≢accepted x;
-    done = λ s b n e l x. (s, take-at (written (s .machine)) (drop (length (written (s .machine))) (c .buffer)) (length (written (s .machine))) refl);
+    done = λ s b n e l x. (s, take-at (standingWords (s .machine)) (drop (length (standingWords (s .machine))) (c .buffer)) (length (standingWords (s .machine))) refl);
   })
 
   -- the words of the tree that stands
-  standing-returns : (s : Standing c) → ReadAs (written (s .machine)) (s .machine)
+  standing-returns : (s : Standing c) → ReadAs (standingWords (s .machine)) (s .machine)
   unfolding Returns
   standing-returns s = returns c (s .start .read) (start-reads c (s .start) (s .starts) .0) (length (c .moves)) (s .machine) (standing-reduced c s (length (c .moves)) refl .made)
 
-  standing-readmits : (s : Standing c) → LetIn (written (s .machine))
+  standing-readmits : (s : Standing c) → LetIn (standingWords (s .machine))
   unfolding Readmits
   standing-readmits s = readmits c (s .start .read) (start-reads c (s .start) (s .starts) .0) (length (c .moves)) (s .machine) (standing-reduced c s (length (c .moves)) refl .made)
 

@@ -37,7 +37,7 @@ use Rattle.theory_calculus.proofs.Variables.{free, free-other}
 use Rattle.theory_calculus.proofs.Substitutions.{Closed}
 use Rattle.theory_calculus.proofs.Kept.{Good, good-move}
 use Rattle.theory_decision.proofs.Fits.{MessageAll, message-more, Fit, Fits, fits-more, move-fits}
-use Rattle.theory_call.specs.Call.{Call, begun, written}
+use Rattle.theory_call.specs.Call.{Call, begun, standingWords}
 use Rattle.theory_call.specs.Nesting.{messageNesting, partNesting, nesting}
 use Rattle.theory_call.specs.Standing.{After, LetIn, Readmits, Admits}
 use Rattle.theory_call.proofs.Runs.{run-keeps, run-weighed}
@@ -452,7 +452,7 @@ read-only b x o l = byTest (leb (length ws) 1024)
     some-words = le-leb 1 (length ws) (some-written [] 0 b)
 
 -- THEOREM: so of every tree that stands in a call, before the first move and after each.
-standing-admitted : (c : Call) (p : Script × Cursor) → readScript (c .script) ≡ got p → (k : ℕ) (m : Machine) → After c p k m → Admitted (length (written m)) (nesting (m .tree)) (readScript (written m))
+standing-admitted : (c : Call) (p : Script × Cursor) → readScript (c .script) ≡ got p → (k : ℕ) (m : Machine) → After c p k m → Admitted (length (standingWords m)) (nesting (m .tree)) (readScript (standingWords m))
 unfolding weightOf
 standing-admitted c p e k m a =
     let T = script-tabled (c .script) p e in
@@ -469,7 +469,7 @@ refused-by ws l n (let-in h g) d q i e = refuse≢got (sym e ∙ d)
 -- THEOREM: only questions 1 and 4 can refuse them.
 pub readmits : (c : Call) → Readmits c
 unfolding Readmits
-readmits c p e k m a = refused-by (written m) (length (written m)) (nesting (m .tree)) (standing-admitted c p e k m a) refl
+readmits c p e k m a = refused-by (standingWords m) (length (standingWords m)) (nesting (m .tree)) (standing-admitted c p e k m a) refl
 
 read-within : {A : Type 0} (l n : ℕ) {x : Reading A} → Admitted l n x → (a : A) → x ≡ got a → (l ≤ 1024) × (n ≤ 64)
 read-within l n (crowded h) a e = refuse≢got e
@@ -486,4 +486,4 @@ pub admits : (c : Call) → Admits c
 unfolding Admits
 admits c p e k m a =
     let x = standing-admitted c p e k m a in
-    ((λ r. read-within (length (written m)) (nesting (m .tree)) x (r .0) (r .1)), (λ w. within-read (length (written m)) (nesting (m .tree)) x w))
+    ((λ r. read-within (length (standingWords m)) (nesting (m .tree)) x (r .0) (r .1)), (λ w. within-read (length (standingWords m)) (nesting (m .tree)) x w))

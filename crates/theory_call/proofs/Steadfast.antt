@@ -20,7 +20,7 @@ use Rattle.theory_decision.specs.Walk.{Count, Walked, says}
 use Rattle.theory_decision.specs.PlainWalk.{plainSpace}
 use Rattle.theory_decision.proofs.Deciding.{stopped≢says}
 use Rattle.theory_decision.proofs.Patience.{Tired, Kept, walk-patient}
-use Rattle.theory_call.specs.Call.{Call, accepted, Answer, leftBy, refusal, written, finish, walked, Start, partsOf, setting, ruleRun, starting, question, asking, terms, door, answer, accepting, roomy}
+use Rattle.theory_call.specs.Call.{Call, accepted, Answer, leftBy, refusal, standingWords, finish, walked, Start, partsOf, setting, ruleRun, starting, question, asking, terms, door, answer, accepting, roomy}
 use Rattle.theory_call.specs.Standing.{Standing}
 use Rattle.theory_call.specs.Steadfast.{Alike, onto, Steadfast, Wanting, NoLess, Lasting, withPatience, Patient}
 use Rattle.theory_call.proofs.Asking.{asking-no}
@@ -91,7 +91,7 @@ tired-says x = stopped≢says (sym (x .2))
 
 -- question 19: a tree that fits a buffer fits one that is no shorter
 roomy-more : (c : Call) (p : ℕ) (b : List ℕ) (m : Machine) → length (c .buffer) ≤ length b → roomy c m ≡ true → roomy (with c p b) m ≡ true
-roomy-more c p b m l t = le-leb (length (written m)) (min (length b) 268435456) (omega (arith, leb-true (length (written m)) (min (length (c .buffer)) 268435456) t))
+roomy-more c p b m l t = le-leb (length (standingWords m)) (min (length b) 268435456) (omega (arith, leb-true (length (standingWords m)) (min (length (c .buffer)) 268435456) t))
 
 finish-roomy : (c : Call) (m : Machine) (a : Bool) (n : Count) → roomy c m ≡ true → finish c m a n ≡ accepting c m a n
 unfolding finish
@@ -99,7 +99,7 @@ finish-roomy c m a n t = rw t
 
 -- an answer that is accepted, given in another buffer
 accepting-onto : (c : Call) (p : ℕ) (b : List ℕ) (m : Machine) (a : Bool) (n : Count) → accepting (with c p b) m a n ≡ onto b (accepting c m a n)
-accepting-onto c p b m a n = rw (take-at (written m) (drop (length (written m)) (c .buffer)) (length (written m)) refl)
+accepting-onto c p b m a n = rw (take-at (standingWords m) (drop (length (standingWords m)) (c .buffer)) (length (standingWords m)) refl)
 
 module _ (c : Call) (p : ℕ) (b : List ℕ) (less : c .patience ≤ p) (allowed : p ≤ 16777216) (room : length (c .buffer) ≤ length b) where
   lasts : Wanting (answer c .verdict) ⊎ (answer (with c p b) ≡ onto b (answer c))
@@ -139,7 +139,7 @@ words-within c =
       stuck = λ s e r d q i h. none (c .buffer);
       tired = λ s q i v e. none (c .buffer);
       unfit = λ s a n e l. none (c .buffer);
-      done = λ s a n e l. omega (arith, length-append (written (s .machine)) (drop (length (written (s .machine))) (c .buffer)));
+      done = λ s a n e l. omega (arith, length-append (standingWords (s .machine)) (drop (length (standingWords (s .machine))) (c .buffer)));
     })
 
 -- an answer is given in its own call's buffer

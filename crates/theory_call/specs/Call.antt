@@ -87,13 +87,13 @@ abbrev pub begun : Script → Machine
 begun b = record { tree = started b; receipts = 0 }
 
 -- the words of the standing tree
-abbrev pub written : Machine → List ℕ
-written m = write [] 0 (m .tree)
+abbrev pub standingWords : Machine → List ℕ
+standingWords m = write [] 0 (m .tree)
 
 -- question 19: "Does the tree that stands after the moves fit the output buffer, of which no more than the first 2^28 words
 -- count?"
 abbrev pub roomy : Call → Machine → Bool
-roomy c m = leb (length (written m)) (min (length (c .buffer)) 268435456)
+roomy c m = leb (length (standingWords m)) (min (length (c .buffer)) 268435456)
 
 -- what a call answers that is accepted; "words behind it keep their content"
 abbrev pub accepting : Call → Machine → Bool → Count → Answer
@@ -103,8 +103,8 @@ accepting c m a n = record {
   visits = n .visits;
   deepest = n .deepest;
   weight = weightOf m;
-  words = length (written m);
-  buffer = written m ++ drop (length (written m)) (c .buffer);
+  words = length (standingWords m);
+  buffer = standingWords m ++ drop (length (standingWords m)) (c .buffer);
 }
 
 unfoldable pub finish : Call → Machine → Bool → Count → Answer

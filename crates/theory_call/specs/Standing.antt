@@ -78,16 +78,16 @@ LetIn ws = (q i : ℕ) → readScript ws ≡ refuse q i → (q ≡ 1) ⊎ (q ≡
 -- "The tree is written in the script's form": the words of a tree that stands before the first move or after any say, read
 -- again, the process of that tree
 unfoldable pub Returns : Call → Type 0
-Returns c = (p : Script × Cursor) → readScript (c .script) ≡ got p → (k : ℕ) (m : Machine) → After c p k m → ReadAs (call.written m) m
+Returns c = (p : Script × Cursor) → readScript (c .script) ≡ got p → (k : ℕ) (m : Machine) → After c p k m → ReadAs (call.standingWords m) m
 
 -- and only questions 1 and 4 can refuse them
 unfoldable pub Readmits : Call → Type 0
-Readmits c = (p : Script × Cursor) → readScript (c .script) ≡ got p → (k : ℕ) (m : Machine) → After c p k m → LetIn (call.written m)
+Readmits c = (p : Script × Cursor) → readScript (c .script) ≡ got p → (k : ℕ) (m : Machine) → After c p k m → LetIn (call.standingWords m)
 
 -- and they are let in just where there are at most 1,024 and their nesting is at most 64
 unfoldable pub Admits : Call → Type 0
 Admits c = (p : Script × Cursor) → readScript (c .script) ≡ got p → (k : ℕ) (m : Machine) → After c p k m
-    → ((q : Script × Cursor) × (readScript (call.written m) ≡ got q)) ↔ ((length (call.written m) ≤ 1024) × (nesting (m .tree) ≤ 64))
+    → ((q : Script × Cursor) × (readScript (call.standingWords m) ≡ got q)) ↔ ((length (call.standingWords m) ≤ 1024) × (nesting (m .tree) ≤ 64))
 
 -- and so of the words that a call leaves in the buffer where it is accepted: they say the process that stands
 unfoldable pub Returned : (c : Call) → Verdict → (left : List ℕ) → Type 0
