@@ -10,7 +10,7 @@ use borrow.Author.Tests.{le-leb, lt-leb}
 use Rattle.theory_call.specs.Call.{Call, Verdict, accepted, refused, Answer, leftBy, answer}
 use Rattle.checker.specs.Answering.{verdictOf, answerOf}
 use Rattle.checker.specs.declared.Answer as engine
-use Rattle.theory_call.specs.Standing.{Decides, Reduces, Returned, Readmitted, MovesBounded, WeightHolds, WeightBounded}
+use Rattle.theory_call.specs.Standing.{Decides, Reduces, Returned, Readmitted, MovesBounded}
 use Rattle.checker.proofs.Concluding.{decides}
 use Rattle.theory_call.proofs.ClosureRuns.{moves-bounded}
 use Rattle.theory_call.proofs.Runs.{weight-holds}
@@ -18,7 +18,7 @@ use Rattle.theory_call.proofs.Reducing.{reduces}
 use Rattle.theory_call.proofs.Leaving as leaving
 use Rattle.theory_call.proofs.Small.{PlaceWithin, Small, answer-small, weight-bounded}
 use Rattle.host_answer_words.specs.Told.{saidOf, placeOf, told, Tellable}
-use Rattle.capi.specs.Told.{returned, answered, bufferAfter, Decided, ReducedBy, ReturnedBy, ReadmittedBy, treeWords}
+use Rattle.capi.specs.Told.{returned, answered, bufferAfter, Decided, WeighedBy, ReducedBy, ReturnedBy, ReadmittedBy, treeWords}
 
 -- what is kept to where the call returns r, given words for its answer, and leaves these and those in the output buffer
 abbrev pub Keeps : Call → (r : ℕ) → (given words out : List ℕ) → Type 0
@@ -26,7 +26,7 @@ Keeps c r given words out =
     (r ≡ 0 → (words ≡ given) × (out ≡ c .buffer))
     × ((r ≡ 1 → Decided c (getD words 0 0))
     × ((r ≡ 1 → MovesBounded (c .script) (getD words 3 0))
-    × ((WeightHolds c × (r ≡ 1 → WeightBounded (c .script) (getD words 6 0)))
+    × (WeighedBy c r (getD words 6 0)
     × ((r ≡ 1 → ReducedBy c (getD words 0 0) (getD words 3 0))
     × ((r ≡ 1 → ReturnedBy c (getD words 0 0) (treeWords words out)) × (r ≡ 1 → ReadmittedBy (getD words 0 0) (treeWords words out)))))))
 
@@ -36,7 +36,7 @@ one≢none e = absurd (let z : ⊥ = omega arith in z)
 -- no room: nothing is done
 pub short : (c : Call) (words : List ℕ) → length words < 8 → (0 ≡ returned words) × ((words ≡ answered c words) × ((c .buffer ≡ bufferAfter c words) × Keeps c 0 words words (c .buffer)))
 short c words l =
-    let none : Keeps c 0 words words (c .buffer) = (λ e. (refl, refl), (one≢none, (one≢none, ((weight-holds c, one≢none), (one≢none, (one≢none, one≢none)))))) in
+    let none : Keeps c 0 words words (c .buffer) = (λ e. (refl, refl), (one≢none, (one≢none, (record { each = weight-holds c; told = one≢none }, (one≢none, (one≢none, one≢none)))))) in
     rw (lt-leb 8 (length words) l) (refl, (refl, (refl, none)))
 
 -- what the first word says of a verdict
@@ -84,7 +84,7 @@ told-keeps : (c : Call) (given rest : List ℕ) → Keeps c 1 given (told (answe
 unfolding told
 told-keeps c given rest = (
   λ e. one≢none (sym e),
-  (λ e. decided c, (λ e. moves-bounded c, ((weight-holds c, λ e. weight-bounded c), (λ e. reduced c, (λ e. returning c, λ e. readmitted c))))),
+  (λ e. decided c, (λ e. moves-bounded c, (record { each = weight-holds c; told = λ e. weight-bounded c }, (λ e. reduced c, (λ e. returning c, λ e. readmitted c))))),
 )
 
 -- room: the call's answer is told

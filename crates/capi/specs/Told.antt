@@ -8,7 +8,7 @@ use mathlib.Core.Path.{_≡_}
 use lib.ListN.{length, getD, take, drop}
 use lib.Dec.{leb}
 use Rattle.theory_call.specs.Call.{Call, accepted, refused, answer}
-use Rattle.theory_call.specs.Standing.{Standing, Holds, Reduces, Returned, Readmitted}
+use Rattle.theory_call.specs.Standing.{Standing, Holds, Reduces, Returned, Readmitted, WeightHolds, WeightBounded}
 use Rattle.host_answer_words.specs.Told.{told}
 
 -- whether there is room for the eight words
@@ -33,6 +33,11 @@ Decided c w = (w ≡ 2 → (s : Standing c) × Holds c s) × (w ≡ 1 → (s : S
 -- chain of reductions
 abbrev pub ReducedBy : Call → (said moves : ℕ) → Type 0
 ReducedBy c w k = (w ≡ 2 → Reduces c (accepted true) k) × (w ≡ 1 → Reduces c (accepted false) k) × (w ≡ 0 → (q i : ℕ) → Reduces c (refused q i) k)
+
+-- the weight, before the first move and after each; and, where the call returns 1, of the seventh word
+pub record WeighedBy (c : Call) (r weight : ℕ) : Type 0 where
+  pub each : WeightHolds c
+  pub told : r ≡ 1 → WeightBounded (c .script) weight
 
 -- the words at the output buffer's start, as many as the eighth word of the answer says
 abbrev pub treeWords : (words out : List ℕ) → List ℕ

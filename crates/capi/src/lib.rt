@@ -4,8 +4,8 @@ use host_answer_words::tell;
 ghost use mathlib.Core.Path.{_≡_};
 ghost use lib.ListN.{getD};
 ghost use Rattle.checker.specs.Answering.{callOf};
-ghost use Rattle.theory_call.specs.Standing.{MovesBounded, WeightHolds, WeightBounded};
-ghost use Rattle.capi.specs.Told.{returned, answered, bufferAfter, Decided, ReducedBy, ReturnedBy, ReadmittedBy, treeWords};
+ghost use Rattle.theory_call.specs.Standing.{MovesBounded};
+ghost use Rattle.capi.specs.Told.{returned, answered, bufferAfter, Decided, WeighedBy, ReducedBy, ReturnedBy, ReadmittedBy, treeWords};
 
 // The whole call. Where `answer` has fewer than eight words, nothing is done.
 #[no_mangle]
@@ -23,7 +23,7 @@ pub extern "C" fn skycorbel_call<'a, 'b, 'c>(
     ensures untouched { λ r. ⌜ (r ≡ 0 → (now (answer .exit) ≡ now (answer .entry)) × (now (out .exit) ≡ now (out .entry))) ⌝ }
     ensures decided { λ r. ⌜ (r ≡ 1 → Decided (callOf (now (script .entry)) (now (moves .entry)) (now (rule .entry)) patience (now (out .entry))) (getD (now (answer .exit)) 0 0)) ⌝ }
     ensures bounded { λ r. ⌜ (r ≡ 1 → MovesBounded (now (script .entry)) (getD (now (answer .exit)) 3 0)) ⌝ }
-    ensures weighed { λ r. ⌜ WeightHolds (callOf (now (script .entry)) (now (moves .entry)) (now (rule .entry)) patience (now (out .entry))) × (r ≡ 1 → WeightBounded (now (script .entry)) (getD (now (answer .exit)) 6 0)) ⌝ }
+    ensures weighed { λ r. ⌜ WeighedBy (callOf (now (script .entry)) (now (moves .entry)) (now (rule .entry)) patience (now (out .entry))) r (getD (now (answer .exit)) 6 0) ⌝ }
     ensures reduced { λ r. ⌜ (r ≡ 1 → ReducedBy (callOf (now (script .entry)) (now (moves .entry)) (now (rule .entry)) patience (now (out .entry))) (getD (now (answer .exit)) 0 0) (getD (now (answer .exit)) 3 0)) ⌝ }
     ensures reread { λ r. ⌜ (r ≡ 1 → ReturnedBy (callOf (now (script .entry)) (now (moves .entry)) (now (rule .entry)) patience (now (out .entry))) (getD (now (answer .exit)) 0 0) (treeWords (now (answer .exit)) (now (out .exit)))) ⌝ }
     ensures readmitted { λ r. ⌜ (r ≡ 1 → ReadmittedBy (getD (now (answer .exit)) 0 0) (treeWords (now (answer .exit)) (now (out .exit)))) ⌝ }

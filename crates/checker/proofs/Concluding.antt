@@ -28,7 +28,7 @@ use Rattle.theory_call.specs.ClosureCall.{completed, closureRun, unfoldRan, beg
 use Rattle.checker.specs.Answering.{verdictOf, answerOf, callOf}
 use Rattle.checker.specs.declared.Answer.{Answer}
 use Rattle.checker.specs.Calling.{StateHeld, Greatest, ComesTo}
-use Rattle.theory_call.specs.Standing.{Standing, Decides, Reduces, Returned, Readmitted, MovesBounded, WeightHolds, WeightBounded}
+use Rattle.theory_call.specs.Standing.{Standing, Decides, Reduces, Returned, Readmitted, MovesBounded, WeightBounded, Weighed}
 use Rattle.theory_call.proofs.ClosureRuns.{started-unfolded, moves-bounded}
 use Rattle.theory_call.proofs.Runs.{weight-holds}
 use Rattle.theory_call.proofs.Entering.{starting-got}
@@ -110,7 +110,7 @@ pub call-kept : (c : Call) (r : Answer) (b : List ℕ) → answerOf r b ≡ answ
     → (answerOf r b ≡ answer c)
     × (Decides c (verdictOf (r .verdict))
     × (MovesBounded (c .script) (r .moves)
-    × ((WeightHolds c × WeightBounded (c .script) (r .weight))
+    × (Weighed c (r .weight)
     × (Reduces c (verdictOf (r .verdict)) (r .moves)
     × (Returned c (verdictOf (r .verdict)) (take (r .words) b) × Readmitted (verdictOf (r .verdict)) (take (r .words) b))))))
 unfolding answerOf
@@ -119,4 +119,4 @@ call-kept c r b e =
     let m : answer c .moves ≡ r .moves = sym (ap (λ (a : plain.Answer). a .moves) e) in
     let w : answer c .weight ≡ r .weight = sym (ap (λ (a : plain.Answer). a .weight) e) in
     let l : leftBy (answer c) ≡ take (r .words) b = sym (ap (λ (a : plain.Answer). leftBy a) e) in
-    (e, (decides c _ v, (subst (MovesBounded (c .script)) m (moves-bounded c), ((weight-holds c, subst (WeightBounded (c .script)) w (weight-bounded c)), (reduces c _ _ v m, (returned c _ _ v l, readmitted c _ _ v l))))))
+    (e, (decides c _ v, (subst (MovesBounded (c .script)) m (moves-bounded c), (record { each = weight-holds c; told = subst (WeightBounded (c .script)) w (weight-bounded c) }, (reduces c _ _ v m, (returned c _ _ v l, readmitted c _ _ v l))))))

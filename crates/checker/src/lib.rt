@@ -32,7 +32,7 @@ ghost use Rattle.write_trees.specs.Room.{Fitted};
 ghost use Rattle.theory_decision.specs.Walk.{says};
 ghost use Rattle.theory_call.specs.Call.{accepted, refusal, asking, terms, answer};
 ghost use Rattle.checker.specs.Answering.{verdictOf, answerOf, askedOf, callOf};
-ghost use Rattle.theory_call.specs.Standing.{Decides, Reduces, Returned, Readmitted, MovesBounded, WeightHolds, WeightBounded};
+ghost use Rattle.theory_call.specs.Standing.{Decides, Reduces, Returned, Readmitted, MovesBounded, Weighed};
 ghost use Rattle.checker.specs.Calling.{ScriptHeld, BothHeld, Entered, StateHeld, Writable, Walkable, ComesTo, Greatest};
 
 // The most visits that may be asked for, and the most moves of a list: questions 13 and 14.
@@ -349,7 +349,7 @@ pub fn call<'a, 'b>(
     ensures answered { λ r. ⌜ answerOf r (now (out .exit)) ≡ answer (callOf (now (script .entry)) (now (moves .entry)) (now (rule .entry)) patience (now (out .entry))) ⌝ }
     ensures decided { λ r. ⌜ Decides (callOf (now (script .entry)) (now (moves .entry)) (now (rule .entry)) patience (now (out .entry))) (verdictOf (r .verdict)) ⌝ }
     ensures bounded { λ r. ⌜ MovesBounded (now (script .entry)) (r .moves) ⌝ }
-    ensures weighed { λ r. ⌜ WeightHolds (callOf (now (script .entry)) (now (moves .entry)) (now (rule .entry)) patience (now (out .entry))) × WeightBounded (now (script .entry)) (r .weight) ⌝ }
+    ensures weighed { λ r. ⌜ Weighed (callOf (now (script .entry)) (now (moves .entry)) (now (rule .entry)) patience (now (out .entry))) (r .weight) ⌝ }
     ensures reduced { λ r. ⌜ Reduces (callOf (now (script .entry)) (now (moves .entry)) (now (rule .entry)) patience (now (out .entry))) (verdictOf (r .verdict)) (r .moves) ⌝ }
     ensures reread { λ r. ⌜ Returned (callOf (now (script .entry)) (now (moves .entry)) (now (rule .entry)) patience (now (out .entry))) (verdictOf (r .verdict)) (take (r .words) (now (out .exit))) ⌝ }
     ensures readmitted { λ r. ⌜ Readmitted (verdictOf (r .verdict)) (take (r .words) (now (out .exit))) ⌝ }

@@ -1,9 +1,11 @@
 -- The questions that ask nothing but numbers, one behind another: all are answered by yes, or the first no ends the call.
 -- Assumes nothing.
-use Prim.Native.Nat.{ℕ, _≤_}
-use mathlib.Core.Bool.{true, false}
+use Prim.Native.Nat.{ℕ}
+use mathlib.Core.Bool.{Bool, true, false, _&&_, and-eq-true-iff}
 use mathlib.Core.List.{List, [], _∷_, _++_}
 use mathlib.Core.Path.{_≡_, refl, _∙_}
+use lib.Dec.{leb}
+use borrow.Author.Tests.{leb-true}
 use Rattle.read_messages.specs.Reading.{refuse, got, _>>=_, ask}
 use Rattle.read_messages.proofs.Readings.{bind-inv, bind-got, bind-refuse, ask-inv, ask-yes, ask-no}
 use Rattle.read_messages.proofs.Places.{Within, bind-within, ask-within}
@@ -30,12 +32,14 @@ unfolding asking
 asking-no [] q qs h e = bind-refuse (ask (q .number) (q .place) (q .yes)) (λ u. asking qs) (q .number) (q .place) (ask-no (q .number) (q .place) (q .yes) e)
 asking-no (p ∷ ps) q qs h e = bind-got (ask (p .number) (p .place) (p .yes)) (λ u. asking (ps ++ q ∷ qs)) tt (ask-yes (p .number) (p .place) (p .yes) (h .0)) ∙ asking-no ps q qs (h .1) e
 
--- no place is above n
-abbrev pub Low : (n : ℕ) → List Question → Type 0
-Low n [] = Unit {0}
-Low n (q ∷ qs) = (q .place ≤ n) × Low n qs
+-- no place is above n: a test, so that it is computed of a list, however many questions it has
+abbrev pub noneAbove : (n : ℕ) → List Question → Bool
+noneAbove n [] = true
+noneAbove n (q ∷ qs) = leb (q .place) n && noneAbove n qs
 
-pub asking-within : (n : ℕ) (qs : List Question) → Low n qs → Within n (asking qs)
+pub asking-within : (n : ℕ) (qs : List Question) → noneAbove n qs ≡ true → Within n (asking qs)
 unfolding asking
-asking-within n [] h = tt
-asking-within n (q ∷ qs) h = bind-within n (ask (q .number) (q .place) (q .yes)) (λ u. asking qs) (ask-within n (q .number) (q .place) (q .yes) (h .0)) (λ u e. asking-within n qs (h .1))
+asking-within n [] e = tt
+asking-within n (q ∷ qs) e =
+    let (low, others) = and-eq-true-iff (leb (q .place) n) (noneAbove n qs) .0 e in
+    bind-within n (ask (q .number) (q .place) (q .yes)) (λ u. asking qs) (ask-within n (q .number) (q .place) (q .yes) (leb-true (q .place) n low)) (λ u e. asking-within n qs others)

@@ -45,9 +45,8 @@ terms-few p k e = leb-true k 4096 (asking-inv (terms p k) tt e .1 .0)
 pub terms-patience : (p k : ℕ) → asking (terms p k) ≡ got tt → p ≤ 16777216
 terms-patience p k e = leb-true p 16777216 (and-eq-true-iff (leb 1 p) (leb p 16777216) .0 (asking-inv (terms p k) tt e .0) .1)
 
--- all are asked at 0
-terms-within : (x p k : ℕ) → Within x (asking (terms p k))
-terms-within x p k = asking-within x (terms p k) (omega arith, (omega arith, tt))
+terms-within : (p k : ℕ) → Within 256 (asking (terms p k))
+terms-within p k = asking-within 256 (terms p k) refl
 
 -- ---- questions 7 to 14
 
@@ -83,7 +82,7 @@ module _ (c : Call) (s : Start) where
 
   pub door-within : Within 256 (door c s)
   unfolding door
-  door-within = bind-within 256 (readWholeRule (partsOf s) (c .rule)) _ (rule-within (partsOf s) (c .rule)) (λ r e. bind-within 256 asks _ (terms-within 256 (c .patience) (s .made + length (c .moves))) (λ u d. tt))
+  door-within = bind-within 256 (readWholeRule (partsOf s) (c .rule)) _ (rule-within (partsOf s) (c .rule)) (λ r e. bind-within 256 asks _ (terms-within (c .patience) (s .made + length (c .moves))) (λ u d. tt))
 
 -- ---- from the script's own start, along whose line no move is made
 

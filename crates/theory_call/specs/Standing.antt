@@ -107,6 +107,11 @@ WeightHolds c = (p : Script × Cursor) → readScript (c .script) ≡ got p → 
 unfoldable pub WeightBounded : (script : List ℕ) (weight : ℕ) → Type 0
 WeightBounded ws w = (p : Script × Cursor) → readScript ws ≡ got p → w ≤ parts (p .0)
 
+-- both, of a call that answers this weight
+pub record Weighed (c : Call) (weight : ℕ) : Type 0 where
+  pub each : WeightHolds c
+  pub told : WeightBounded (c .script) weight
+
 -- the bound, r + a × s ^ (r + 1): "The bound counts the moves made, in a refused call too"; here of every beginning of a list
 -- that is made
 abbrev pub BoundHolds : Call → Type 0
