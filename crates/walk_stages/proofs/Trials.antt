@@ -8,13 +8,13 @@ use mathlib.Core.Path.{_≡_, refl, sym, ap, ap₂, _∙_, subst}
 use native.Mathlib.Omega.{arith}
 use lib.ListN.{getD, length}
 use Rattle.base_sets.specs.Sets.{members, elem, headOr, numbersFrom}
-use Rattle.base_sets.proofs.Members.{members-step, members-empty, first-is}
+use Rattle.base_sets.proofs.Members.{members-empty, first-is}
 use Rattle.theory_closures.specs.Closure.{Closure, Bindings, closureMove}
 use Rattle.engine_targets.specs.Targets.{isSome}
 use Rattle.theory_decision.specs.Walk.{Count, firstYes, keep, movesTo, movesFrom, inOrder}
 use Rattle.theory_decision.specs.Walk as spec
 use Rattle.theory_decision.specs.ClosureWalk.{nexts}
-use Rattle.walk_stages.specs.Order.{paired, pairsFrom, pairsLeft, Turns}
+use Rattle.walk_stages.specs.Order.{paired, pairsFrom, pairsLeft, pairsBehind, TurnWithin, Turns}
 use Rattle.walk_stages.specs.Visits.{countOf, walkedOf}
 use Rattle.walk_stages.specs.declared.Counts.{Counts}
 use Rattle.walk_stages.specs.declared.Walked.{Walked}
@@ -32,67 +32,70 @@ paired-none : (o : ℕ) (k : List (ℕ × ℕ)) → paired o (members 0) ++ k �
 unfolding paired
 paired-none o k = ap (λ (l : List ℕ). paired o l ++ k) members-empty
 
-from-none : (inner : List ℕ) (from limit : ℕ) → limit ≤ from → pairsFrom inner from (limit - from) ≡ []
-unfolding pairsFrom
-from-none inner from limit h = let e : limit - from ≡ 0 = omega arith in ap (pairsFrom inner from) e
+-- behind an empty set all is left
+behind-none : (inner : List ℕ) (limit from : ℕ) → pairsBehind inner limit from 0 ≡ pairsFrom inner from (limit - from)
+unfolding paired
+behind-none inner limit from = ap (λ (l : List ℕ). paired (from - 1) (tail l) ++ pairsFrom inner from (limit - from)) members-empty
 
-from-first : (inner : List ℕ) (from limit : ℕ) → from < limit → pairsFrom inner from (limit - from) ≡ pairsLeft inner limit from (getD inner from 0)
-unfolding pairsFrom
-from-first inner from limit h = let e : limit - from ≡ suc (limit - suc from) = omega arith in ap (pairsFrom inner from) e
+-- What is left while the next turn is sought, of the pairs l: the inner ones that are left, then the outer numbers from `from` on.
+pub record Seeks (inner : List ℕ) (limit from rest : ℕ) (l : List (ℕ × ℕ)) : Type 0 where
+  pub pairs : l ≡ pairsLeft inner limit from rest
+  pub within : TurnWithin limit from rest
 
--- the outer number's own set is not empty
-pub turns-here : (inner : List ℕ) (from o limit : ℕ) → pairsFrom inner from (limit - from) ≡ pairsFrom inner o (limit - o) → o < limit → (getD inner o 0 ≡ 0 → ⊥) → Turns inner limit o (getD inner o 0) (pairsFrom inner from (limit - from))
-turns-here inner from o limit e h n = record { pairs = e ∙ from-first inner o limit h; low = λ m. h; ends = λ z. absurd (n z) }
+pub within-none : (limit from : ℕ) → TurnWithin limit from 0
+within-none limit from = record { begun = λ n. absurd (n refl); low = λ n. absurd (n refl) }
 
--- it is empty
-pub turns-past : (inner : List ℕ) (from o limit : ℕ) → pairsFrom inner from (limit - from) ≡ pairsFrom inner o (limit - o) → o < limit → getD inner o 0 ≡ 0 → pairsFrom inner from (limit - from) ≡ pairsFrom inner (o + 1) (limit - (o + 1))
-turns-past inner from o limit e h z =
-    let s : suc o ≡ o + 1 = omega arith in
-    e ∙ from-first inner o limit h ∙ ap (λ (m : ℕ). pairsLeft inner limit o m) z ∙ paired-none o (pairsFrom inner (suc o) (limit - suc o)) ∙ ap (λ (m : ℕ). pairsFrom inner m (limit - m)) s
+-- it begins with what is behind the first move of the turn before
+pub seeks-all : (inner : List ℕ) (limit from rest : ℕ) → rest ≡ 0 → Seeks inner limit from rest (pairsBehind inner limit from rest)
+seeks-all inner limit from rest z = rw z record {
+  pairs = behind-none inner limit from ∙ sym (paired-none (from - 1) (pairsFrom inner from (limit - from)));
+  within = within-none limit from;
+}
 
--- none is left
-pub turns-none : (inner : List ℕ) (from o limit : ℕ) → pairsFrom inner from (limit - from) ≡ pairsFrom inner o (limit - o) → limit ≤ o → Turns inner limit o 0 (pairsFrom inner from (limit - from))
-turns-none inner from o limit e h =
-    let z : pairsFrom inner from (limit - from) ≡ [] = e ∙ from-none inner o limit h in
-    record {
-      pairs = z ∙ sym (paired-none o (pairsFrom inner (suc o) (limit - suc o)) ∙ from-none inner (suc o) limit (omega arith));
-      low = λ m. absurd (m refl);
-      ends = λ q. z;
-    }
+pub seeks-others : (inner : List ℕ) (limit from rest others : ℕ) → TurnWithin limit from rest → (rest ≡ 0 → ⊥) → members others ≡ tail (members rest) → Seeks inner limit from others (pairsBehind inner limit from rest)
+seeks-others inner limit from rest others w n e = record {
+  pairs = ap (λ (l : List ℕ). paired (from - 1) l ++ pairsFrom inner from (limit - from)) (sym e);
+  within = record { begun = λ m. w .begun n; low = λ m. w .low n };
+}
 
--- the turn's first move
-pub turns-first : {inner : List ℕ} {limit o rest : ℕ} {l : List (ℕ × ℕ)} → Turns inner limit o rest l → rest < 2 ^ 64 → (rest ≡ 0 → ⊥) → (t : ℕ) → t ≡ headOr 64 (members rest)
-    → (k : List (ℕ × ℕ)) × (l ≡ (o, t) ∷ k)
-turns-first {inner} {limit} {o} {rest} {l} T small n t e =
-    let k : List (ℕ × ℕ) = paired o (tail (members rest)) ++ pairsFrom inner (suc o) (limit - suc o) in
-    (k, T .pairs ∙ ap (λ (m : List ℕ). paired o m ++ pairsFrom inner (suc o) (limit - suc o)) (first-is rest t small n e) ∙ paired-first o t (tail (members rest)) (pairsFrom inner (suc o) (limit - suc o)))
+module _ (inner : List ℕ) (limit from rest : ℕ) (l : List (ℕ × ℕ)) (S : Seeks inner limit from rest l) where
+  -- some are left
+  pub seeks-here : (rest ≡ 0 → ⊥) → Turns inner limit from rest l
+  seeks-here n = record { pairs = S .pairs; within = S .within; ends = λ z. absurd (n z) }
+
+  -- none is left, and the next outer number's set is looked at
+  pub seeks-on : from < limit → rest ≡ 0 → Seeks inner limit (from + 1) (getD inner from 0) l
+  unfolding pairsFrom
+  seeks-on h z =
+      let e : limit - from ≡ suc (limit - suc from) = omega arith in
+      let o : from + 1 - 1 ≡ from = omega arith in
+      let s : suc from ≡ from + 1 = omega arith in
+      record {
+        pairs = S .pairs ∙ ap (λ (m : ℕ). pairsLeft inner limit from m) z ∙ paired-none (from - 1) (pairsFrom inner from (limit - from)) ∙ ap (pairsFrom inner from) e
+            ∙ ap₂ (λ (m : ℕ) (k : ℕ). paired m (members (getD inner from 0)) ++ pairsFrom inner k (limit - k)) (sym o) s;
+        within = record { begun = λ n. omega arith; low = λ n. omega arith };
+      }
+
+  -- no outer number is left
+  pub seeks-last : limit ≤ from → Turns inner limit from rest l
+  unfolding pairsFrom
+  seeks-last h =
+      let e : limit - from ≡ 0 = omega arith in
+      record { pairs = S .pairs; within = S .within; ends = λ z. S .pairs ∙ ap (λ (m : ℕ). pairsLeft inner limit from m) z ∙ paired-none (from - 1) (pairsFrom inner from (limit - from)) ∙ ap (pairsFrom inner from) e }
+
+-- the turn's first move, and what is behind it
+pub turns-first : {inner : List ℕ} {limit from rest : ℕ} {l : List (ℕ × ℕ)} → Turns inner limit from rest l → rest < 2 ^ 64 → (rest ≡ 0 → ⊥) → (t : ℕ) → t ≡ headOr 64 (members rest)
+    → l ≡ (from - 1, t) ∷ pairsBehind inner limit from rest
+turns-first {inner} {limit} {from} {rest} {l} T small n t e =
+    T .pairs ∙ ap (λ (m : List ℕ). paired (from - 1) m ++ pairsFrom inner from (limit - from)) (first-is rest t small n e) ∙ paired-first (from - 1) t (tail (members rest)) (pairsFrom inner from (limit - from))
 
 -- the turn behind it has fewer
-pub turns-fewer : (inner : List ℕ) (limit o rest : ℕ) → rest < 2 ^ 64 → (rest ≡ 0 → ⊥) → (l : List (ℕ × ℕ)) → Turns inner limit o rest l → (o′ rest′ : ℕ)
-    → ((k : List (ℕ × ℕ)) → Turns inner limit o rest ((o, headOr 64 (members rest)) ∷ k) → Turns inner limit o′ rest′ k) → length (pairsLeft inner limit o′ rest′) < length (pairsLeft inner limit o rest)
-turns-fewer inner limit o rest small n l T o′ rest′ next =
-    let (k, e) = turns-first T small n (headOr 64 (members rest)) refl in
-    let U : Turns inner limit o′ rest′ k = next k (subst (Turns inner limit o rest) e T) in
-    let x : length (pairsLeft inner limit o rest) ≡ suc (length k) = ap length (sym (T .pairs) ∙ e) in
-    let y : length k ≡ length (pairsLeft inner limit o′ rest′) = ap length (U .pairs) in
+pub turns-fewer : (inner : List ℕ) (limit from rest : ℕ) → rest < 2 ^ 64 → (rest ≡ 0 → ⊥) → (l : List (ℕ × ℕ)) → Turns inner limit from rest l → (from′ rest′ : ℕ)
+    → Turns inner limit from′ rest′ (pairsBehind inner limit from rest) → length (pairsLeft inner limit from′ rest′) < length (pairsLeft inner limit from rest)
+turns-fewer inner limit from rest small n l T from′ rest′ U =
+    let x : length (pairsLeft inner limit from rest) ≡ suc (length (pairsBehind inner limit from rest)) = ap length (sym (T .pairs) ∙ turns-first T small n (headOr 64 (members rest)) refl) in
+    let y : length (pairsBehind inner limit from rest) ≡ length (pairsLeft inner limit from′ rest′) = ap length (U .pairs) in
     omega (arith, x, y)
-
--- what is behind it
-module _ (inner : List ℕ) (limit o rest others : ℕ) (small : rest < 2 ^ 64) (some-left : rest ≡ 0 → ⊥) (eo : members others ≡ tail (members rest)) (l : List (ℕ × ℕ)) (T : Turns inner limit o rest ((o, headOr 64 (members rest)) ∷ l)) where
-  behind : l ≡ pairsLeft inner limit o others
-  behind =
-      let e : (o, headOr 64 (members rest)) ∷ l ≡ (o, headOr 64 (members rest)) ∷ pairsLeft inner limit o others =
-      T .pairs ∙ ap (λ (m : List ℕ). paired o m ++ pairsFrom inner (suc o) (limit - suc o)) (members-step rest (headOr 64 (members rest)) others small some-left refl eo)
-      ∙ paired-first o (headOr 64 (members rest)) (members others) (pairsFrom inner (suc o) (limit - suc o)) in
-      cc
-
-  pub turns-same : o < limit → (others ≡ 0 → ⊥) → Turns inner limit o others l
-  turns-same h n = record { pairs = behind; low = λ m. h; ends = λ z. absurd (n z) }
-
-  pub turns-on : others ≡ 0 → (o′ rest′ : ℕ) → Turns inner limit o′ rest′ (pairsFrom inner (o + 1) (limit - (o + 1))) → Turns inner limit o′ rest′ l
-  turns-on z o′ rest′ U =
-      let s : suc o ≡ o + 1 = omega arith in
-      subst (Turns inner limit o′ rest′) (sym (behind ∙ ap (λ (m : ℕ). pairsLeft inner limit o m) z ∙ paired-none o (pairsFrom inner (suc o) (limit - suc o)) ∙ ap (λ (m : ℕ). pairsFrom inner m (limit - m)) s)) U
 
 -- ---- what is made of the moves
 
@@ -183,9 +186,10 @@ module _ {S : Type 0} (make : ℕ → ℕ → Option S) where
 -- THEOREM: what stands after one move of the closure, in the walk's order, is what is made of the targets of each actor.
 pub nexts-made : (σ : Bindings) (limit : ℕ) (b : Closure) → limit ≤ 64 → Low limit b → (targets : List ℕ)
     → ((a : ℕ) → a < limit → (t : ℕ) → t < 64 → elem t (members (getD targets a 0)) ≡ isSome (closureMove σ a t b))
-    → (nexts σ limit b ≡ madeOf (after σ b) (pairsFrom targets 0 (limit - 0))) × AllMade (after σ b) (pairsFrom targets 0 (limit - 0))
+    → (nexts σ limit b ≡ madeOf (after σ b) (pairsBehind targets limit 0 0)) × AllMade (after σ b) (pairsBehind targets limit 0 0)
 unfolding nexts
 nexts-made σ limit b few l targets told =
-    made-order (after σ b) targets limit few
+    subst (λ (k : List (ℕ × ℕ)). (inOrder limit (after σ b) ≡ madeOf (after σ b) k) × AllMade (after σ b) k) (sym (behind-none targets limit 0))
+    (made-order (after σ b) targets limit few
     (λ a h t s. told a h t s ∙ sym (after-some σ (closureMove σ a t b)))
-    (λ a t g. after-some σ (closureMove σ a t b) ∙ move-high σ limit a t b l g)
+    (λ a t g. after-some σ (closureMove σ a t b) ∙ move-high σ limit a t b l g))

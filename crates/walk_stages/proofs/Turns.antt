@@ -33,7 +33,7 @@ use Rattle.theory_decision.specs.Walk.{Count, onYes, firstYes, look, lastName}
 use Rattle.theory_decision.specs.Walk as spec
 use Rattle.theory_decision.specs.ClosureWalk.{closureSpace, shares, insides, nexts}
 use Rattle.theory_decision.specs.ClosureWalk as over
-use Rattle.walk_stages.specs.Order.{pairsFrom, pairsLeft, Turns}
+use Rattle.walk_stages.specs.Order.{pairsLeft, pairsBehind, Turns}
 use Rattle.walk_stages.specs.Visits.{countOf, walkedOf, settingOf, indices, Lendable, Scene, here, visits, Visits, Looks, Splits}
 use Rattle.walk_stages.specs.declared.Counts.{Counts}
 use Rattle.walk_stages.specs.declared.Limits.{Limits}
@@ -321,20 +321,17 @@ module _ (program script sets numbers choices : List ℕ) (top somes left index 
   low-told : (X : Here) (i : ℕ) → limits .limit ≤ i → timesIn i (X .tree) ≡ 0
   low-told X i h = X .stage .below i (omega (arith, X .stage .within))
 
-  -- the turn at `outer` with the members of `rest`
-  pub record Trying (targets : List ℕ) (c now : Counts) (outer rest : ℕ) : Type 0 where
+  -- the turn before `from` with the members of `rest`
+  pub record Trying (targets : List ℕ) (c now : Counts) (from rest : ℕ) : Type 0 where
     pub pairs : List (ℕ × ℕ)
-    pub turn : Turns targets (limits .limit) outer rest pairs
+    pub turn : Turns targets (limits .limit) from rest pairs
     pub tried : (X : Here) (q : Rule) → X .rule ≡ sometime index q → Tried (after σ (X .tree)) (trying X q) (nexts σ (limits .limit) (X .tree)) c now pairs
 
-  -- the turn's first move, and that the turn behind it has fewer
-  module _ (targets : List ℕ) (c now : Counts) (a rest : ℕ) (N : Trying targets c now a rest) (small : rest < 2 ^ 64) (some-left : rest ≡ 0 → ⊥) where
-    pub trying-low : a < limits .limit
-    trying-low = N .turn .low some-left
-
-    pub trying-less : (outer′ rest′ : ℕ) → ((l : List (ℕ × ℕ)) → Turns targets (limits .limit) a rest ((a, headOr 64 (members rest)) ∷ l) → Turns targets (limits .limit) outer′ rest′ l)
-        → length (pairsLeft targets (limits .limit) outer′ rest′) < length (pairsLeft targets (limits .limit) a rest)
-    trying-less outer′ rest′ next = turns-fewer targets (limits .limit) a rest small some-left (N .pairs) (N .turn) outer′ rest′ next
+  -- the turn behind has fewer
+  module _ (targets : List ℕ) (c now : Counts) (from rest : ℕ) (N : Trying targets c now from rest) (small : rest < 2 ^ 64) (some-left : rest ≡ 0 → ⊥) where
+    pub trying-less : (from′ rest′ : ℕ) → Turns targets (limits .limit) from′ rest′ (pairsBehind targets (limits .limit) from rest)
+        → length (pairsLeft targets (limits .limit) from′ rest′) < length (pairsLeft targets (limits .limit) from rest)
+    trying-less from′ rest′ next = turns-fewer targets (limits .limit) from rest small some-left (N .pairs) (N .turn) from′ rest′ next
 
   -- the homes and the targets that are found
   module _ (homes targets : List ℕ) (P : Located (members (getD sets 129 0)) (bodyIn (state .kids)) (λ i. getD homes i 0))
@@ -347,22 +344,22 @@ module _ (program script sets numbers choices : List ℕ) (top somes left index 
         let low : a < 64 = omega (arith, X .stage .few) in
         state-targets script (kindsIn numbers) (startsIn numbers) (X .weight) (X .spent) state (X .tree) (X .stage .ready) (few X) (X .stage .represents) (λ i. getD homes i 0) P a low (members (getD targets a 0)) (T a low)
 
-    pub trying-holds : (c : Counts) (outer rest : ℕ) → Turns targets (limits .limit) outer rest (pairsFrom targets 0 (limits .limit - 0)) → Trying targets c c outer rest
-    trying-holds c outer rest U = record {
-      pairs = pairsFrom targets 0 (limits .limit - 0);
+    pub trying-holds : (c : Counts) (from rest : ℕ) → Turns targets (limits .limit) from rest (pairsBehind targets (limits .limit) 0 0) → Trying targets c c from rest
+    trying-holds c from rest U = record {
+      pairs = pairsBehind targets (limits .limit) 0 0;
       turn = U;
-      tried = λ X q e. tried-holds (after σ (X .tree)) (trying X q) (pairsFrom targets 0 (limits .limit - 0)) (nexts σ (limits .limit) (X .tree)) (nexts-made σ (limits .limit) (X .tree) (X .stage .few) (low-told X) targets (aimed X)) c;
+      tried = λ X q e. tried-holds (after σ (X .tree)) (trying X q) (pairsBehind targets (limits .limit) 0 0) (nexts σ (limits .limit) (X .tree)) (nexts-made σ (limits .limit) (X .tree) (X .stage .few) (low-told X) targets (aimed X)) c;
     }
 
-    module _ (c now : Counts) (a rest t : ℕ) (N : Trying targets c now a rest) (small : rest < 2 ^ 64) (some-left : rest ≡ 0 → ⊥) (et : t ≡ headOr 64 (members rest)) where
-      abbrev first-left : (l : List (ℕ × ℕ)) × (N .pairs ≡ (a, t) ∷ l)
-      first-left = turns-first (N .turn) small some-left t et
+    module _ (c now : Counts) (from rest t : ℕ) (N : Trying targets c now from rest) (small : rest < 2 ^ 64) (some-left : rest ≡ 0 → ⊥) (et : t ≡ headOr 64 (members rest)) where
+      abbrev a : ℕ
+      a = from - 1
 
       abbrev others : List (ℕ × ℕ)
-      others = first-left .0
+      others = pairsBehind targets (limits .limit) from rest
 
       tried-first : (X : Here) (q : Rule) → X .rule ≡ sometime index q → Tried (after σ (X .tree)) (trying X q) (nexts σ (limits .limit) (X .tree)) c now ((a, t) ∷ others)
-      tried-first X q e = subst (λ (l : List (ℕ × ℕ)). Tried (after σ (X .tree)) (trying X q) (nexts σ (limits .limit) (X .tree)) c now l) (first-left .1) (N .tried X q e)
+      tried-first X q e = subst (λ (l : List (ℕ × ℕ)). Tried (after σ (X .tree)) (trying X q) (nexts σ (limits .limit) (X .tree)) c now l) (turns-first (N .turn) small some-left t et) (N .tried X q e)
 
       -- the move leads to the next state, and the visit is made there
       module _ (sets′ numbers′ : List ℕ) (top′ : ℕ) (L : Lendable script sets′ numbers′ top′) (ek : kindsIn numbers′ ≡ kindsIn numbers) (es : startsIn numbers′ ≡ startsIn numbers)
@@ -377,10 +374,10 @@ module _ (program script sets numbers choices : List ℕ) (top somes left index 
               visited (scene-moved program script sets numbers choices top somes left index limits X sets′ numbers′ top′ L ek es a t m em R) ∙ ap (λ (y : Rule). visits limits left (X .names) y (here script sets′ numbers′ top′ (m .body)) (countOf now)) e,
             )
 
-        pub trying-again : (d : Counts) → x ≡ No d → (outer′ rest′ : ℕ) → ((l : List (ℕ × ℕ)) → Turns targets (limits .limit) a rest ((a, headOr 64 (members rest)) ∷ l) → Turns targets (limits .limit) outer′ rest′ l) → Trying targets c d outer′ rest′
-        trying-again d ex outer′ rest′ next = record {
+        pub trying-again : (d : Counts) → x ≡ No d → (from′ rest′ : ℕ) → Turns targets (limits .limit) from′ rest′ others → Trying targets c d from′ rest′
+        trying-again d ex from′ rest′ next = record {
           pairs = others;
-          turn = next others (subst (λ (y : ℕ). Turns targets (limits .limit) a rest ((a, y) ∷ others)) et (subst (Turns targets (limits .limit) a rest) (first-left .1) (N .turn)));
+          turn = next;
           tried = λ X q e.
               let (m, is, v) = turn-tried X q e in
               tried-again (after σ (X .tree)) (trying X q) (nexts σ (limits .limit) (X .tree)) c now a t others (tried-first X q e) m is x v d ex;
@@ -391,5 +388,5 @@ module _ (program script sets numbers choices : List ℕ) (top somes left index 
             let (m, is, v) = turn-tried X q e in
             tried-stops (after σ (X .tree)) (trying X q) (nexts σ (limits .limit) (X .tree)) c now a t others (tried-first X q e) m is x v h
 
-  pub trying-ends : (targets : List ℕ) (c now : Counts) (outer rest : ℕ) → Trying targets c now outer rest → rest ≡ 0 → (X : Here) (q : Rule) → X .rule ≡ sometime index q → walkedOf (No now) ≡ firstYes (trying X q) (nexts σ (limits .limit) (X .tree)) (countOf c)
-  trying-ends targets c now outer rest N z X q e = tried-ends (after σ (X .tree)) (trying X q) (nexts σ (limits .limit) (X .tree)) c now (N .pairs) (N .tried X q e) (N .turn .ends z)
+  pub trying-ends : (targets : List ℕ) (c now : Counts) (from rest : ℕ) → Trying targets c now from rest → rest ≡ 0 → (X : Here) (q : Rule) → X .rule ≡ sometime index q → walkedOf (No now) ≡ firstYes (trying X q) (nexts σ (limits .limit) (X .tree)) (countOf c)
+  trying-ends targets c now from rest N z X q e = tried-ends (after σ (X .tree)) (trying X q) (nexts σ (limits .limit) (X .tree)) c now (N .pairs) (N .tried X q e) (N .turn .ends z)

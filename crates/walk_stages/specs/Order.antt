@@ -1,7 +1,7 @@
 -- The moves that are still to be tried, in the walk's order: as pairs of an outer number and an inner one, by rising outer number,
 -- then inner one. Assumes nothing: these are definitions.
-use Prim.Native.Nat.{ℕ, zero, suc, _-_, _<_}
-use mathlib.Core.List.{List, [], _∷_, _++_}
+use Prim.Native.Nat.{ℕ, zero, suc, _-_, _≤_}
+use mathlib.Core.List.{List, [], _∷_, _++_, tail}
 use mathlib.Core.Path.{_≡_}
 use lib.ListN.{getD}
 use Rattle.base_sets.specs.Sets.{members}
@@ -16,12 +16,21 @@ unfoldable pub pairsFrom : (inner : List ℕ) → (from n : ℕ) → List (ℕ �
 pairsFrom inner from zero = []
 pairsFrom inner from (suc n) = paired from (members (getD inner from 0)) ++ pairsFrom inner (suc from) n
 
--- o with the members of `rest`, then the outer numbers behind it
-abbrev pub pairsLeft : (inner : List ℕ) → (limit o rest : ℕ) → List (ℕ × ℕ)
-pairsLeft inner limit o rest = paired o (members rest) ++ pairsFrom inner (suc o) (limit - suc o)
+-- the outer number before `from` with the members of `rest`, then the outer numbers from `from` on
+abbrev pub pairsLeft : (inner : List ℕ) → (limit from rest : ℕ) → List (ℕ × ℕ)
+pairsLeft inner limit from rest = paired (from - 1) (members rest) ++ pairsFrom inner from (limit - from)
 
--- The turn at o with the members of `rest` is the one at the pairs l: there are none where `rest` is empty.
-pub record Turns (inner : List ℕ) (limit o rest : ℕ) (l : List (ℕ × ℕ)) : Type 0 where
-  pub pairs : l ≡ pairsLeft inner limit o rest
-  pub low : (rest ≡ 0 → ⊥) → o < limit
+-- those behind the first of them; where `rest` is empty, all from `from` on
+abbrev pub pairsBehind : (inner : List ℕ) → (limit from rest : ℕ) → List (ℕ × ℕ)
+pairsBehind inner limit from rest = paired (from - 1) (tail (members rest)) ++ pairsFrom inner from (limit - from)
+
+-- inner ones that are left are those of an outer number below the limit, the one before `from`
+pub record TurnWithin (limit from rest : ℕ) : Type 0 where
+  pub begun : (rest ≡ 0 → ⊥) → 1 ≤ from
+  pub low : (rest ≡ 0 → ⊥) → from ≤ limit
+
+-- The turn before `from` with the members of `rest` is the one at the pairs l: there are none where `rest` is empty.
+pub record Turns (inner : List ℕ) (limit from rest : ℕ) (l : List (ℕ × ℕ)) : Type 0 where
+  pub pairs : l ≡ pairsLeft inner limit from rest
+  pub within : TurnWithin limit from rest
   pub ends : rest ≡ 0 → l ≡ []

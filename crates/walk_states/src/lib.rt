@@ -29,7 +29,7 @@ ghost use Rattle.engine_targets.specs.Makes.{Moves};
 ghost use Rattle.base_arrays.specs.Stretches.{stretch};
 ghost use Rattle.engine_state_arrays.specs.Lent.{Small, kindsIn, startsIn, stateIn};
 ghost use Rattle.walk_states.specs.declared.Step.the-variants.{Move, Place};
-ghost use Rattle.walk_stages.specs.Order.{pairsFrom, Turns};
+ghost use Rattle.walk_stages.specs.Order.{pairsBehind, TurnWithin, Turns};
 ghost use Rattle.walk_stages.specs.Visits.{Lendable};
 
 // Where a visit is made: the word's index, the set of the top parts, the SOMEs around, and the depths left.
@@ -46,10 +46,10 @@ pub struct Found {
     pub targets: [u64; 64],
 }
 
-// The moves still to be tried: those of the outer number with the inner ones that are left, then those of the outer numbers
-// behind it; none where none of the inner ones is left.
+// The moves still to be tried: those of the outer number before `from` with the inner ones that are left, then those of the
+// outer numbers from `from` on; none where none of the inner ones is left.
 pub struct Turn {
-    pub outer: usize,
+    pub from: usize,
     pub rest: u64,
 }
 
@@ -99,33 +99,24 @@ pub fn all_targets<'a>(sets: &'a [u64; 131], numbers: &'a [u32; 481], top: u64) 
     found
 }
 
-// The first turn from that outer number on, each outer number below the limit having its set of inner ones.
-pub fn turn_from<'a>(inner: &'a [u64; 64], from: usize, limit: usize) -> Turn
-    requires { ⌜ limit ≤ 64 ⌝ }
-    ensures { λ r. ⌜ Turns (now (inner .entry)) limit (r .outer) (r .rest) (pairsFrom (now (inner .entry)) from (limit - from)) ⌝ }
-{
-    let mut outer = from;
-    while outer < limit {
-        let rest = inner[outer];
-        if rest != 0 {
-            return Turn { outer, rest };
-        }
-        outer += 1;
-    }
-    Turn { outer, rest: 0 }
-}
-
-// The turn behind the first move of that one.
+// The turn behind the first move of that one; the first of all behind the turn at 0 that has none.
 pub fn next_turn<'a>(inner: &'a [u64; 64], turn: Turn, limit: usize) -> Turn
-    requires { ⌜ (limit ≤ 64) × (turn .rest ≡ 0 → ⊥) × (turn .outer < limit) ⌝ }
-    ensures { λ r. ⌜ ((l : List (ℕ × ℕ)) → Turns (now (inner .entry)) limit (turn .outer) (turn .rest) ((turn .outer, headOr 64 (members (turn .rest))) ∷ l) → Turns (now (inner .entry)) limit (r .outer) (r .rest) l) ⌝ }
+    requires { ⌜ (limit ≤ 64) × TurnWithin limit (turn .from) (turn .rest) ⌝ }
+    ensures { λ r. ⌜ Turns (now (inner .entry)) limit (r .from) (r .rest) (pairsBehind (now (inner .entry)) limit (turn .from) (turn .rest)) ⌝ }
 {
-    let outer = turn.outer;
-    let rest = base_sets::rest(turn.rest);
+    let mut from = turn.from;
+    let mut rest = turn.rest;
     if rest != 0 {
-        return Turn { outer, rest };
+        rest = base_sets::rest(rest);
     }
-    turn_from(inner, outer + 1, limit)
+    while from < limit {
+        if rest != 0 {
+            return Turn { from, rest };
+        }
+        rest = inner[from];
+        from += 1;
+    }
+    Turn { from, rest }
 }
 
 // The state for lending.

@@ -13,13 +13,13 @@ use walk_stages::Limits;
 use walk_stages::Walked;
 use walk_states::Spot;
 use walk_states::Step;
+use walk_states::Turn;
 use walk_states::all_targets;
 use walk_states::as_arrays;
 use walk_states::is_called;
 use walk_states::loaded;
 use walk_states::next_state;
 use walk_states::next_turn;
-use walk_states::turn_from;
 ghost use Prim.Native.Nat.{_+_, _-_, _≤_, _<_};
 ghost use Rattle.engine_states.specs.Represents.{Ready};
 ghost use Rattle.walk_stages.specs.Visits.{Visitable, Visits as Answers, Looks as Finds, Splits, Walks};
@@ -268,9 +268,9 @@ fn sometime<'a>(
     };
     let found = all_targets(sets, numbers, spot.top);
     let mut now = c2;
-    let mut turn = turn_from(&found.targets, 0, limits.limit);
+    let mut turn = next_turn(&found.targets, Turn { from: 0, rest: 0 }, limits.limit);
     while turn.rest != 0 {
-        let a = turn.outer;
+        let a = turn.from - 1;
         let t = base_sets::first(turn.rest);
         let step = Step::Move(a, t);
         // The move is made on a copy of the state.

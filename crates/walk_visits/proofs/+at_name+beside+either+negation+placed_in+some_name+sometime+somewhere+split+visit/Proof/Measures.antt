@@ -31,7 +31,6 @@ use Rattle.walk_states.proofs.all_targets.Reads as all-targets-reads
 use Rattle.walk_states.proofs.is_called.Reads as is-called-reads
 use Rattle.walk_states.proofs.next_state.Reads as next-state-reads
 use Rattle.walk_states.proofs.next_turn.Reads as next-turn-reads
-use Rattle.walk_states.proofs.turn_from.Reads as turn-from-reads
 use Rattle.walk_visits.proofs.+at_name+beside+either+negation+placed_in+some_name+sometime+somewhere+split+visit.Lts-at_name as at-name-lts
 use Rattle.walk_visits.proofs.+at_name+beside+either+negation+placed_in+some_name+sometime+somewhere+split+visit.Lts-beside as beside-lts
 use Rattle.walk_visits.proofs.+at_name+beside+either+negation+placed_in+some_name+sometime+somewhere+split+visit.Lts-either as either-lts
@@ -109,7 +108,7 @@ abbrev pub some-name-claims : ℕ → some-name-lts.Claims
 some-name-claims t = (with-name-reads.Asked, with-name-reads.Learnt, belowMeasure 0 visit.Pre t, visit.Post)
 
 abbrev pub sometime-claims : ℕ → sometime-lts.Claims
-sometime-claims t = (belowMeasure 0 visit.Pre t, visit.Post, all-targets-reads.Asked, all-targets-reads.Learnt, turn-from-reads.Asked, turn-from-reads.Learnt, first-reads.Asked, first-reads.Learnt, next-state-reads.Asked, next-state-reads.Learnt, next-turn-reads.Asked, next-turn-reads.Learnt)
+sometime-claims t = (belowMeasure 0 visit.Pre t, visit.Post, all-targets-reads.Asked, all-targets-reads.Learnt, next-turn-reads.Asked, next-turn-reads.Learnt, first-reads.Asked, first-reads.Learnt, next-state-reads.Asked, next-state-reads.Learnt)
 
 abbrev pub somewhere-claims : ℕ → somewhere-lts.Claims
 somewhere-claims t = (belowMeasure 0 visit.Pre t, visit.Post, intersection-reads.Asked, intersection-reads.Learnt, first-reads.Asked, first-reads.Learnt, rest-reads.Asked, rest-reads.Learnt)

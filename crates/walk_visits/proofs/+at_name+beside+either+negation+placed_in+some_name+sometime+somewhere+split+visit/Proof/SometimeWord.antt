@@ -1,22 +1,23 @@
 -- `sometime` meets its contract. Assumes nothing.
-use Prim.Native.Nat.{ℕ, _^_, _<_}
-use mathlib.Core.Path.{refl}
+use Prim.Native.Nat.{ℕ, _-_, _^_, _<_}
+use mathlib.Core.Path.{_≡_, refl}
 use native.Mathlib.Omega.{arith}
 use borrow.Author.Needs.{needs}
 use lib.ListN.{length}
-use Rattle.walk_stages.specs.Order.{pairsLeft}
+use Rattle.walk_stages.specs.Order.{pairsLeft, TurnWithin}
 use Rattle.walk_stages.proofs.Scenes.{visitable-state}
-use Rattle.walk_stages.proofs.Turns.{first-low, sometime-first, sometime-then, Trying, trying-low, trying-less, trying-holds, trying-again, trying-stops, trying-ends}
+use Rattle.walk_stages.proofs.Trials.{within-none}
+use Rattle.walk_stages.proofs.Turns.{first-low, sometime-first, sometime-then, Trying, trying-less, trying-holds, trying-again, trying-stops, trying-ends}
 use Rattle.walk_states.proofs.Lendings.{step-moves, step-apart}
 use Rattle.walk_visits.proofs.+at_name+beside+either+negation+placed_in+some_name+sometime+somewhere+split+visit.Lts-sometime as lts
 use Rattle.walk_visits.proofs.sometime.Reads as reads
 use Rattle.walk_visits.proofs.+at_name+beside+either+negation+placed_in+some_name+sometime+somewhere+split+visit.Proof.Measures.{sometime-at, sometime-claims}
 
 abbrev pub Inv-loop : lts.InvT-loop
-Inv-loop program script sets numbers chosen spot limits found now₀ turn₀ now turn = (turn .rest < 2 ^ 64) × Trying program script sets numbers chosen (spot .top) (spot .somes) (spot .left) (spot .at) limits (found .targets) now₀ now (turn .outer) (turn .rest)
+Inv-loop program script sets numbers chosen spot limits found now₀ turn₀ now turn = (turn .rest < 2 ^ 64) × Trying program script sets numbers chosen (spot .top) (spot .somes) (spot .left) (spot .at) limits (found .targets) now₀ now (turn .from) (turn .rest)
 
 abbrev pub μ-loop : lts.MeasureT-loop
-μ-loop program script sets numbers chosen spot limits found now₀ turn₀ now turn = length (pairsLeft (found .targets) (limits .limit) (turn .outer) (turn .rest))
+μ-loop program script sets numbers chosen spot limits found now₀ turn₀ now turn = length (pairsLeft (found .targets) (limits .limit) (turn .from) (turn .rest))
 
 module _ (t : ℕ) where
   -- ---- the points of the code, and the way from each to those before it
@@ -42,8 +43,14 @@ module _ (t : ℕ) where
   abbrev tested : Next → lts.After-first (sometime-claims t) (sometime-at t) reads.Post Inv-loop μ-loop
   tested c = c .before .before .before .before .before .before .before
 
+  abbrev First : Type 0
+  First = lts.After-first (sometime-claims t) (sometime-at t) reads.Post Inv-loop μ-loop
+
+  abbrev first-loop : First → Loop
+  first-loop c = c .before .before .before .before
+
   abbrev again : Next → Loop
-  again c = tested c .before .before .before
+  again c = first-loop (tested c)
 
   -- ---- the answers
 
@@ -62,28 +69,37 @@ module _ (t : ℕ) where
   pub all-targets-requires : lts.Need-all-targets-requires (sometime-claims t) (sometime-at t) reads.Post Inv-loop μ-loop
   all-targets-requires c κs = tt
 
-  pub turn-from-requires : lts.Need-turn-from-requires (sometime-claims t) (sometime-at t) reads.Post Inv-loop μ-loop
-  turn-from-requires c κs = inner-start (c .before .before .before .before .before .before) .pre .1 .2 .few-numbers
+  pub next-turn-requires : lts.Need-next-turn-requires (sometime-claims t) (sometime-at t) reads.Post Inv-loop μ-loop
+  next-turn-requires c κs = (inner-start (c .before .before .before .before .before .before) .pre .1 .2 .few-numbers, within-none _ _)
 
   pub loop-holds : lts.Need-loop-holds (sometime-claims t) (sometime-at t) reads.Post Inv-loop μ-loop
   loop-holds c =
       let f = c .before .before .before in
       let x = inner-start (c .before .before .before .before .before .before .before) .args in
-      (search (c .turn-from .ok, needs), trying-holds (x .program .now) (x .script .now) (x .sets .now) (x .numbers .now) (x .chosen .now) (x .spot .top) (x .spot .somes) (x .spot .left) (x .spot .at) (x .limits) (f .all-targets .result .homes) (f .all-targets .result .targets) (f .all-targets .ensures .0) (f .all-targets .ensures .1) _ _ _ (c .turn-from .ensures))
+      (search (c .next-turn .ok, needs), trying-holds (x .program .now) (x .script .now) (x .sets .now) (x .numbers .now) (x .chosen .now) (x .spot .top) (x .spot .somes) (x .spot .left) (x .spot .at) (x .limits) (f .all-targets .result .homes) (f .all-targets .result .targets) (f .all-targets .ensures .0) (f .all-targets .ensures .1) _ _ _ (c .next-turn .ensures))
 
   pub first-requires : lts.Need-first-requires (sometime-claims t) (sometime-at t) reads.Post Inv-loop μ-loop
   first-requires c κs = search needs
 
-  -- the move that is tried is one of a part below the limit
-  low : (c : lts.After-first (sometime-claims t) (sometime-at t) reads.Post Inv-loop μ-loop) → let l = c .before .before .before in l .loop .turn .outer < start l .args .limits .limit
-  low c = let l = c .before .before .before in let x = start l .args in trying-low (x .program .now) (x .script .now) (x .sets .now) (x .numbers .now) (x .chosen .now) (x .spot .top) (x .spot .somes) (x .spot .left) (x .spot .at) (x .limits) _ _ _ _ _ (l .loop .inv .1) (l .loop .inv .0) (c .before .if1 .taken)
+  -- the turn is one of a part below the limit
+  within : (l : Loop) → TurnWithin (start l .args .limits .limit) (l .loop .turn .from) (l .loop .turn .rest)
+  within l = l .loop .inv .1 .turn .within
+
+  pub sub-a : lts.Need-sub-a (sometime-claims t) (sometime-at t) reads.Post Inv-loop μ-loop
+  sub-a c = within (c .before .before .before) .begun (c .before .if1 .taken)
+
+  some-left : (c : First) → first-loop c .loop .turn .rest ≡ 0 → ⊥
+  some-left c = c .before .before .if1 .taken
+
+  low : (c : First) → let l = first-loop c in l .loop .turn .from - 1 < start l .args .limits .limit
+  low c = let w = within (first-loop c) in omega (arith, w .begun (some-left c), w .low (some-left c))
 
   pub next-state-requires : lts.Need-next-state-requires (sometime-claims t) (sometime-at t) reads.Post Inv-loop μ-loop
   next-state-requires c κs =
       let f = c .before .before .before .before .before .before in
-      let l = f .before .before .before in
+      let l = first-loop f in
       let s = start l in
-      let target-low = first-low _ _ (l .loop .inv .0) (f .before .if1 .taken) (f .first .ensures) in
+      let target-low = first-low _ _ (l .loop .inv .0) (some-left f) (f .first .ensures) in
       (λ b u e. step-moves (λ (y : ℕ) (z : ℕ). (y < 64) × (z < 64)) _ _ b u e (omega (arith, low f, s .pre .1 .2 .few-numbers, target-low), omega (arith, low f, s .pre .1 .2 .few-numbers, target-low)), λ i n e. absurd (step-apart _ _ i n e), s .pre .1 .2 .state)
 
   pub visit-requires-2 : lts.Need-visit-requires-2 (sometime-claims t) (sometime-at t) reads.Post Inv-loop μ-loop
@@ -103,18 +119,18 @@ module _ (t : ℕ) where
       let m = n .next-state .ensures in
       let x = start l .args in
       sometime-then (x .program .now) (x .script .now) (x .sets .now) (x .numbers .now) (x .chosen .now) (x .spot .top) (x .spot .somes) (x .spot .left) (x .spot .at) (x .limits) (x .c) _ (inner l .visit .ensures) _ (l .before .before .before .before .before .before .w .given .1) _
-      (trying-stops (x .program .now) (x .script .now) (x .sets .now) (x .numbers .now) (x .chosen .now) (x .spot .top) (x .spot .somes) (x .spot .left) (x .spot .at) (x .limits) (f .result .homes) (f .result .targets) (f .ensures .0) (f .ensures .1) _ _ _ _ _ (l .loop .inv .1) (l .loop .inv .0) (tested n .before .if1 .taken) (tested n .first .ensures) _ _ _
+      (trying-stops (x .program .now) (x .script .now) (x .sets .now) (x .numbers .now) (x .chosen .now) (x .spot .top) (x .spot .somes) (x .spot .left) (x .spot .at) (x .limits) (f .result .homes) (f .result .targets) (f .ensures .0) (f .ensures .1) _ _ _ _ _ (l .loop .inv .1) (l .loop .inv .0) (some-left (tested n)) (tested n .first .ensures) _ _ _
       (m .0) (m .1 .0 _ _ refl .0) (m .1 .0 _ _ refl .1) (m .1 .0 _ _ refl .2) _ (c .before .visit2 .ensures) (c .match2 .keys2))
 
-  pub next-turn-requires : lts.Need-next-turn-requires (sometime-claims t) (sometime-at t) reads.Post Inv-loop μ-loop
-  next-turn-requires c κs = let f = tested (c .before .before .before .before .before .before .before .before) in (start (f .before .before .before) .pre .1 .2 .few-numbers, f .before .if1 .taken, low f)
+  pub next-turn-requires-2 : lts.Need-next-turn-requires-2 (sometime-claims t) (sometime-at t) reads.Post Inv-loop μ-loop
+  next-turn-requires-2 c κs = let f = tested (c .before .before .before .before .before .before .before .before) in (start (first-loop f) .pre .1 .2 .few-numbers, within (first-loop f))
 
   pub loop-less : lts.Need-loop-less (sometime-claims t) (sometime-at t) reads.Post Inv-loop μ-loop
   loop-less c =
       let n = c .before .before .before .before .before .before .before .before .before in
       let l = again n in
       let x = start l .args in
-      trying-less (x .program .now) (x .script .now) (x .sets .now) (x .numbers .now) (x .chosen .now) (x .spot .top) (x .spot .somes) (x .spot .left) (x .spot .at) (x .limits) _ _ _ _ _ (l .loop .inv .1) (l .loop .inv .0) (tested n .before .if1 .taken) _ _ (c .next-turn .ensures)
+      trying-less (x .program .now) (x .script .now) (x .sets .now) (x .numbers .now) (x .chosen .now) (x .spot .top) (x .spot .somes) (x .spot .left) (x .spot .at) (x .limits) _ _ _ _ _ (l .loop .inv .1) (l .loop .inv .0) (some-left (tested n)) _ _ (c .next-turn2 .ensures)
 
   pub loop-again : lts.Need-loop-again (sometime-claims t) (sometime-at t) reads.Post Inv-loop μ-loop
   loop-again c =
@@ -123,9 +139,9 @@ module _ (t : ℕ) where
       let f = targeted l .all-targets in
       let m = n .next-state .ensures in
       let x = start l .args in (
-        search (c .next-turn .ok, needs),
-        trying-again (x .program .now) (x .script .now) (x .sets .now) (x .numbers .now) (x .chosen .now) (x .spot .top) (x .spot .somes) (x .spot .left) (x .spot .at) (x .limits) (f .result .homes) (f .result .targets) (f .ensures .0) (f .ensures .1) _ _ _ _ _ (l .loop .inv .1) (l .loop .inv .0) (tested n .before .if1 .taken) (tested n .first .ensures) _ _ _
-            (m .0) (m .1 .0 _ _ refl .0) (m .1 .0 _ _ refl .1) (m .1 .0 _ _ refl .2) _ (c .before .before .before .before .before .before .visit2 .ensures) _ (c .before .before .before .before .w2 .given .1) _ _ (c .next-turn .ensures),
+        search (c .next-turn2 .ok, needs),
+        trying-again (x .program .now) (x .script .now) (x .sets .now) (x .numbers .now) (x .chosen .now) (x .spot .top) (x .spot .somes) (x .spot .left) (x .spot .at) (x .limits) (f .result .homes) (f .result .targets) (f .ensures .0) (f .ensures .1) _ _ _ _ _ (l .loop .inv .1) (l .loop .inv .0) (some-left (tested n)) (tested n .first .ensures) _ _ _
+            (m .0) (m .1 .0 _ _ refl .0) (m .1 .0 _ _ refl .1) (m .1 .0 _ _ refl .2) _ (c .before .before .before .before .before .before .visit2 .ensures) _ (c .before .before .before .before .w2 .given .1) _ _ (c .next-turn2 .ensures),
       )
 
   pub returns-3 : lts.Need-returns-3 (sometime-claims t) (sometime-at t) reads.Post Inv-loop μ-loop
