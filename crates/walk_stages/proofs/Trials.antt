@@ -46,14 +46,14 @@ pub within-none : (limit from : ℕ) → TurnWithin limit from 0
 within-none limit from = record { begun = λ n. absurd (n refl); low = λ n. absurd (n refl) }
 
 -- it begins with what is behind the first move of the turn before
-pub seeks-all : (inner : List ℕ) (limit from rest : ℕ) → rest ≡ 0 → Seeks inner limit from rest (pairsBehind inner limit from rest)
-seeks-all inner limit from rest z = rw z record {
+pub seeks-all : (inner : List ℕ) (limit from rest r : ℕ) → rest ≡ 0 → r ≡ rest → Seeks inner limit from r (pairsBehind inner limit from rest)
+seeks-all inner limit from rest r z e = rw (e, z) record {
   pairs = behind-none inner limit from ∙ sym (paired-none (from - 1) (pairsFrom inner from (limit - from)));
   within = within-none limit from;
 }
 
-pub seeks-others : (inner : List ℕ) (limit from rest others : ℕ) → TurnWithin limit from rest → (rest ≡ 0 → ⊥) → members others ≡ tail (members rest) → Seeks inner limit from others (pairsBehind inner limit from rest)
-seeks-others inner limit from rest others w n e = record {
+pub seeks-others : (inner : List ℕ) (limit from rest others r : ℕ) → TurnWithin limit from rest → (rest ≡ 0 → ⊥) → members others ≡ tail (members rest) → r ≡ others → Seeks inner limit from r (pairsBehind inner limit from rest)
+seeks-others inner limit from rest others r w n e x = rw x record {
   pairs = ap (λ (l : List ℕ). paired (from - 1) l ++ pairsFrom inner from (limit - from)) (sym e);
   within = record { begun = λ m. w .begun n; low = λ m. w .low n };
 }

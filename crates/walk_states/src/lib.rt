@@ -109,8 +109,8 @@ pub fn next_turn<'a>(inner: &'a [u64; 64], turn: Turn, limit: usize) -> Turn
     if rest != 0 {
         rest = base_sets::rest(rest);
     }
-    while from < limit {
-        if rest != 0 {
+    while rest == 0 {
+        if from >= limit {
             return Turn { from, rest };
         }
         rest = inner[from];

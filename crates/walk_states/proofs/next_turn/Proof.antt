@@ -18,33 +18,57 @@ Inv-loop inner limit from₀ rest₀ from rest = (l : List (ℕ × ℕ)) → See
 abbrev μ-loop : tie.MeasureT-loop
 μ-loop inner limit from₀ rest₀ from rest = limit - from
 
--- ---- the ways from a point of the code to one before it
+-- ---- the points of the code, and the way from each to those before it
 
-abbrev looked : tie.Then2 Inv-loop μ-loop → tie.At-loop Inv-loop μ-loop
-looked c = c .before .before
+abbrev Loop : Type 0
+Loop = tie.At-loop Inv-loop μ-loop
 
-abbrev passed : tie.Else2 Inv-loop μ-loop → tie.At-loop Inv-loop μ-loop
-passed c = c .before .before
+abbrev start : tie.Joined1 Inv-loop μ-loop → tie.Start Inv-loop μ-loop
+start c = c .before
+
+abbrev joined : Loop → tie.Joined1 Inv-loop μ-loop
+joined c = c .before
+
+abbrev found-none : tie.Then2 Inv-loop μ-loop → Loop
+found-none c = c .before .before
+
+abbrev found : tie.After-loop Inv-loop μ-loop → Loop
+found c = c .before
+
+abbrev empty : tie.After-rest2 Inv-loop μ-loop → tie.Else2 Inv-loop μ-loop
+empty c = c .before
+
+abbrev tested : tie.After-rest2 Inv-loop μ-loop → tie.In-loop Inv-loop μ-loop
+tested c = empty c .before
+
+abbrev again : tie.After-rest2 Inv-loop μ-loop → Loop
+again c = tested c .before
+
+-- ---- the answers
 
 -- the loop begins with what is behind the first move of the turn before
-begun : (c : tie.Joined1 Inv-loop μ-loop) → let s = c .before .args in Seeks (s .inner .now) (s .limit) (s .turn .from) (c .if1 .rest) (pairsBehind (s .inner .now) (s .limit) (s .turn .from) (s .turn .rest))
+begun : (c : tie.Joined1 Inv-loop μ-loop) → let s = start c .args in Seeks (s .inner .now) (s .limit) (s .turn .from) (c .if1 .rest) (pairsBehind (s .inner .now) (s .limit) (s .turn .from) (s .turn .rest))
 begun c =
     elim (c .if1 .came) [
-      | inl z ↦ rw (z .2) (seeks-others _ _ _ _ _ (c .before .pre .1) (z .0 .taken) (z .1 .ensures))
-      | inr z ↦ rw (z .1) (seeks-all _ _ _ _ (z .0 .left))
+      | inl z ↦ seeks-others _ _ _ _ _ _ (start c .pre .1) (z .0 .taken) (z .1 .ensures) (z .2)
+      | inr z ↦ seeks-all _ _ _ _ _ (z .0 .left) (z .1)
     ]
 
+-- and goes on with it
+sought : (c : Loop) → let s = start (joined c) .args in Seeks (s .inner .now) (s .limit) (c .loop .from) (c .loop .rest) (pairsBehind (s .inner .now) (s .limit) (s .turn .from) (s .turn .rest))
+sought c = c .loop .inv _ (begun (joined c))
+
 returns : tie.Need-returns Inv-loop μ-loop
-returns c = let l = looked c in seeks-here _ _ _ _ _ (l .loop .inv _ (begun (l .before))) (c .if2 .taken)
+returns c = seeks-last _ _ _ _ _ (sought (found-none c)) (c .if2 .taken)
 
 returns-2 : tie.Need-returns-2 Inv-loop μ-loop
-returns-2 c = seeks-last _ _ _ _ _ (c .before .loop .inv _ (begun (c .before .before))) (c .loop-test .left)
+returns-2 c = seeks-here _ _ _ _ _ (sought (found c)) (c .loop-test .left)
 
 loop-again : tie.Need-loop-again Inv-loop μ-loop
-loop-again c = λ l S. seeks-on _ _ _ _ l (passed (c .before) .loop .inv l S) (c .before .before .loop-test .taken) (c .before .if2 .left)
+loop-again c = λ l S. seeks-on _ _ _ _ l (again c .loop .inv l S) (empty c .if2 .left) (tested c .loop-test .taken)
 
 rest-requires : tie.Need-rest-requires Inv-loop μ-loop
-rest-requires c κs = not-none (c .before .args .turn .rest) (search needs) (c .if1 .taken)
+rest-requires c κs = not-none _ (search needs) (c .if1 .taken)
 
 pub next-turn-spec : {M : Type 1} → statement M
 next-turn-spec =
