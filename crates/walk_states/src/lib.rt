@@ -99,13 +99,13 @@ pub fn all_targets<'a>(sets: &'a [u64; 131], numbers: &'a [u32; 481], top: u64) 
     found
 }
 
-// The turn behind the first move of that one; the first of all behind the turn at 0 that has none.
-pub fn next_turn<'a>(inner: &'a [u64; 64], turn: Turn, limit: usize) -> Turn
-    requires { ⌜ (limit ≤ 64) × TurnWithin limit (turn .from) (turn .rest) ⌝ }
-    ensures { λ r. ⌜ Turns (now (inner .entry)) limit (r .from) (r .rest) (pairsBehind (now (inner .entry)) limit (turn .from) (turn .rest)) ⌝ }
+// The turn behind the first move of the turn before `start` with the inner ones `left`; of all turns the first is behind 0 with none.
+pub fn next_turn<'a>(inner: &'a [u64; 64], start: usize, left: u64, limit: usize) -> Turn
+    requires { ⌜ (limit ≤ 64) × TurnWithin limit start left ⌝ }
+    ensures { λ r. ⌜ Turns (now (inner .entry)) limit (r .from) (r .rest) (pairsBehind (now (inner .entry)) limit start left) ⌝ }
 {
-    let mut from = turn.from;
-    let mut rest = turn.rest;
+    let mut from = start;
+    let mut rest = left;
     if rest != 0 {
         rest = base_sets::rest(rest);
     }

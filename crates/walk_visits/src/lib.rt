@@ -13,7 +13,6 @@ use walk_stages::Limits;
 use walk_stages::Walked;
 use walk_states::Spot;
 use walk_states::Step;
-use walk_states::Turn;
 use walk_states::all_targets;
 use walk_states::as_arrays;
 use walk_states::is_called;
@@ -268,7 +267,7 @@ fn sometime<'a>(
     };
     let found = all_targets(sets, numbers, spot.top);
     let mut now = c2;
-    let mut turn = next_turn(&found.targets, Turn { from: 0, rest: 0 }, limits.limit);
+    let mut turn = next_turn(&found.targets, 0, 0, limits.limit);
     while turn.rest != 0 {
         let a = turn.from - 1;
         let t = base_sets::first(turn.rest);
@@ -283,7 +282,7 @@ fn sometime<'a>(
             return w2;
         };
         now = c3;
-        turn = next_turn(&found.targets, turn, limits.limit);
+        turn = next_turn(&found.targets, turn.from, turn.rest, limits.limit);
     }
     Walked::No(now)
 }
