@@ -109,8 +109,8 @@ pub fn next_turn<'a>(inner: &'a [u64; 64], start: usize, left: u64, limit: usize
     if rest != 0 {
         rest = base_sets::rest(rest);
     }
-    while rest == 0 {
-        if from >= limit {
+    while from < limit {
+        if rest != 0 {
             return Turn { from, rest };
         }
         rest = inner[from];

@@ -23,10 +23,10 @@ loop-holds c =
     ]
 
 returns : tie.Need-returns Inv-loop μ-loop
-returns c = search (seeks-last, needs)
+returns c = search (seeks-here, needs)
 
 returns-2 : tie.Need-returns-2 Inv-loop μ-loop
-returns-2 c = search (seeks-here, needs)
+returns-2 c = search (seeks-last, needs)
 
 loop-again : tie.Need-loop-again Inv-loop μ-loop
 loop-again c = search (seeks-on, needs)
