@@ -1,11 +1,11 @@
 -- Laws of the words that messages are written with: what is kept of them with the bindings, a pass over words, and the bulk
 -- of items. Assumes nothing.
-use Prim.Native.Nat.{ℕ, zero, suc, _+_, _-_, _<_}
+use Prim.Native.Nat.{ℕ, zero, suc, _+_, _-_, _*_, _^_, _≤_, _<_}
 use mathlib.Core.List.{List, [], _∷_, _++_}
 use mathlib.Core.Path.{_≡_, refl, sym, ap, _∙_}
 use native.Mathlib.Omega.{arith}
 use native.Mathlib.Nat.{add-zero}
-use lib.ListN.{length, drop}
+use lib.ListN.{length, drop, getD, length-drop}
 use lib.Seq.{drop-drop, drop-nil}
 use Rattle.read_messages.specs.Message.{Message}
 use Rattle.read_messages.specs.Spelling.{topMessage, push, spelled, messageAt}
@@ -14,15 +14,16 @@ use Rattle.read_messages.specs.declared.MessageWord.the-variants.{Name, Variabl
 use Rattle.theory_closures.specs.Resolve.{resolve}
 use Rattle.engine_bindings.specs.Bindings.{bindingsIn}
 use Rattle.base_slices.specs.Sums.{capped}
-use Rattle.engine_bindings.specs.Measures.{itemCount}
+use Rattle.engine_bindings.specs.Measures.{itemCount, Kept}
 use Rattle.engine_message_words.specs.Words.{firstWord, shapeOf, arityOf, boundAt}
-use Rattle.engine_bindings.specs.Passes.{firsts}
+use Rattle.engine_bindings.specs.Passes.{firsts, allItems, ownItems, Passed}
+use Rattle.engine_bindings.specs.declared.Behind.{Behind}
 use Rattle.theory_closures.proofs.Resolving.{resolve-name, resolve-enter, resolve-exit, resolve-opens, resolve-empty, resolve-path}
 use Rattle.engine_bindings.proofs.Bindings.{bindingMessage}
 use Rattle.engine_message_words.proofs.FirstWords.{bound, bound-variable}
-use Rattle.engine_bindings.proofs.Passing.{firsts-first, Free, given-newest}
-use Rattle.base_slices.proofs.Capping.{capped-sum}
-use Rattle.engine_bindings.proofs.Counting.{kept-none, kept-drop, kept-more}
+use Rattle.engine_bindings.proofs.Passing.{firsts-first, first-bound, Free, unbound-free, single, given-newest, given-items, given-own}
+use Rattle.base_slices.proofs.Capping.{capped-sum, below-count}
+use Rattle.engine_bindings.proofs.Counting.{kept-none, kept-drop, kept-given, kept-more, drop-past, drop-within, rank, rank-less, rank-older}
 use Rattle.engine_held_bindings.specs.Sizes.{messageSize, itemsSize, bulk, cappedItems, itemBulk, Cached, allSizes, ownSize}
 use Rattle.engine_held_bindings.specs.Held.{Measures}
 use Rattle.engine_held_bindings.specs.declared.Measured.{Measured}
@@ -32,11 +33,14 @@ use Rattle.engine_held_bindings.specs.declared.Measured.{Measured}
 pub cached-none : (script : List ℕ) → Cached script [] [] [] [] []
 cached-none script = record { counted = kept-none itemCount script; sized = kept-none messageSize script; bulked = kept-none itemBulk script }
 
-pub cached-drop : {script vs ps cs ss bs : List ℕ} (k : ℕ) → Cached script vs ps cs ss bs → Cached script (drop k vs) (drop k ps) (drop k cs) (drop k ss) (drop k bs)
+cached-drop : {script vs ps cs ss bs : List ℕ} (k : ℕ) → Cached script vs ps cs ss bs → Cached script (drop k vs) (drop k ps) (drop k cs) (drop k ss) (drop k bs)
 cached-drop k ok = record { counted = kept-drop (ok .counted) k; sized = kept-drop (ok .sized) k; bulked = kept-drop (ok .bulked) k }
 
 pub cached-as : {script vs ps cs ss bs us qs ds ts fs : List ℕ} → us ≡ vs → qs ≡ ps → ds ≡ cs → ts ≡ ss → fs ≡ bs → Cached script vs ps cs ss bs → Cached script us qs ds ts fs
 cached-as e₁ e₂ e₃ e₄ e₅ ok = rw (e₁, e₂, e₃, e₄, e₅) ok
+
+pub cached-older : (script vs ps cs ss bs : List ℕ) → Cached script vs ps cs ss bs → (k : ℕ) (us qs ds ts fs : List ℕ) → us ≡ drop k vs → qs ≡ drop k ps → ds ≡ drop k cs → ts ≡ drop k ss → fs ≡ drop k bs → Cached script us qs ds ts fs
+cached-older script vs ps cs ss bs ok k us qs ds ts fs e₁ e₂ e₃ e₄ e₅ = cached-as e₁ e₂ e₃ e₄ e₅ (cached-drop k ok)
 
 -- one binding more, and what was counted of its message
 pub cached-more : {script vs ps cs ss bs : List ℕ} (v a : ℕ) (r : Measured) → Cached script vs ps cs ss bs → {w : ℕ} → w ≡ a → Measures (resolve (bindingsIn script vs ps) (messageAt (drop w script))) r → Cached script (v ∷ vs) (a ∷ ps) (r .count ∷ cs) (r .size ∷ ss) (r .bulk ∷ bs)
@@ -117,6 +121,56 @@ bulk-none x o e = rw (e, drop-nil {A = Message} o)
 pub bulk-only : (x : List Message) (m : Message) {r t : ℕ} → x ≡ m ∷ [] → r ≡ capped (messageSize m) → t ≡ capped (1 + r) → t ≡ capped (bulk x)
 unfolding bulk capped
 bulk-only x m e p q = rw e (omega arith)
+
+-- the bulk of the items of messages from an offset on: those that the first word has of its own stand before the offset, or do not
+module _ (script words vs ps cs : List ℕ) (ok : Kept itemCount script vs ps cs) (p o c : ℕ) (own : (script ps : List ℕ) → Kept itemCount script vs ps cs → c ≡ capped (length (ownItems (bindingsIn script vs ps) words))) where
+  pub own-within : o < c → o < length (ownItems (bindingsIn script vs ps) words)
+  own-within h = below-count _ _ _ (own script ps ok) h
+
+  module _ (b : Behind) (done : Passed words p b) (ws : List ℕ) (e : ws ≡ drop (b .used) words) where
+    split : allItems (bindingsIn script vs ps) (firsts p (spelled words)) ≡ ownItems (bindingsIn script vs ps) words ++ allItems (bindingsIn script vs ps) (firsts (b .left) (spelled ws))
+    split = rw e (done .split (bindingsIn script vs ps))
+
+    pub bulk-past : c ≤ o → o < 4294967295 → (r : ℕ) → r ≡ capped (bulk (drop (o - c) (allItems (bindingsIn script vs ps) (firsts (b .left) (spelled ws))))) → r ≡ capped (bulk (drop o (allItems (bindingsIn script vs ps) (firsts p (spelled words)))))
+    bulk-past h q r f = f ∙ ap (λ (l : List Message). capped (bulk l)) (drop-past _ (ownItems (bindingsIn script vs ps) words) _ o c split (own script ps ok) h q)
+
+    pub bulk-within : o < c → (h r t : ℕ) → h ≡ capped (bulk (drop o (ownItems (bindingsIn script vs ps) words))) → r ≡ capped (bulk (allItems (bindingsIn script vs ps) (firsts (b .left) (spelled ws)))) → t ≡ capped (h + r)
+        → t ≡ capped (bulk (drop o (allItems (bindingsIn script vs ps) (firsts p (spelled words)))))
+    bulk-within q h r t = bulk-sum (drop o (ownItems (bindingsIn script vs ps) words)) _ _ (drop-within _ (ownItems (bindingsIn script vs ps) words) _ o c split (own script ps ok) q)
+
+-- what is left is less: the items that the first word has of its own, or what stands behind them
+pub own-less : (v n t : ℕ) → rank v (suc n) ≡ t → rank v 0 < t
+own-less v n t e = rank-less _ _ _ _ e (omega arith)
+
+module _ (words : List ℕ) (p : ℕ) (b : Behind) (done : Passed words p b) (ws : List ℕ) (e : ws ≡ drop (b .used) words) where
+  pub behind-less : (v t : ℕ) → rank v (suc (3 * length words + p)) ≡ t → rank v (suc (3 * length ws + b .left)) < t
+  behind-less v t f = rank-less _ _ _ _ f (omega (arith, ap length e, done .less))
+
+  pub behind-room : p + length words < 2 ^ 64 → b .left + length ws < 2 ^ 64
+  behind-room h = omega (arith, ap length e, done .room)
+
+-- the bulk of those that a word has of its own: the word is looked up among the bindings
+module _ (script words vs ps cs ss bs : List ℕ) (o k t : ℕ) (m : MessageWord) (ok : Cached script vs ps cs ss bs) (e : m ≡ firstWord words) (f : k ≡ boundAt m vs) where
+  pub bulk-kept : k < length vs → o ≡ 0 → getD bs k 0 ≡ capped (bulk (drop o (ownItems (bindingsIn script vs ps) words)))
+  bulk-kept h z = rw z (kept-given (ok .bulked) k h ∙ ap (λ (l : List Message). capped (bulk l)) (given-items script vs ps (ok .counted .aligned) k h words (first-bound words vs e f)))
+
+  pub bulk-older : (us qs g : List ℕ) → k < length vs → us ≡ drop (k + 1) vs → qs ≡ drop (k + 1) ps → g ≡ drop (getD ps k 0) script
+      → t ≡ capped (bulk (drop o (allItems (bindingsIn script us qs) (firsts 1 (spelled g))))) → t ≡ capped (bulk (drop o (ownItems (bindingsIn script vs ps) words)))
+  bulk-older us qs g h e₁ e₂ e₃ q = q ∙ ap (λ (l : List Message). capped (bulk (drop o l))) (given-own script vs ps (ok .counted .aligned) k h words (first-bound words vs e f) e₁ e₂ e₃)
+
+  pub bulk-single : length vs ≤ k → o < length (ownItems (bindingsIn script vs ps) words)
+      → (r : ℕ) → ((script ps : List ℕ) → Kept messageSize script vs ps ss → r ≡ capped (allSizes (bindingsIn script vs ps) (firsts 1 (spelled words)))) → t ≡ capped (1 + r) → t ≡ capped (bulk (drop o (ownItems (bindingsIn script vs ps) words)))
+  bulk-single h q r x y =
+      let free = unbound-free script vs ps (firstWord words) (omega (arith, first-bound words vs e f)) in
+      bulk-only _ _ (single _ words o free q) (x script ps (ok .sized) ∙ ap capped (one-size _ refl)) y
+
+-- what was bound is a part of the script, and the older bindings are fewer
+module _ (script ps g : List ℕ) (k : ℕ) (e : g ≡ drop (getD ps k 0) script) (small : length script * 4 < 2 ^ 63) where
+  pub given-room : 1 + length g < 2 ^ 64
+  given-room = omega (arith, ap length e, length-drop (getD ps k 0) script)
+
+  pub given-less : (vs us : List ℕ) (t : ℕ) → us ≡ drop (k + 1) vs → k < length vs → rank (length vs) 0 ≡ t → rank (length us) (suc (3 * length g + 1)) < t
+  given-less vs us t f h q = rank-older _ _ _ _ _ q (omega (arith, ap length f, length-drop (k + 1) vs)) (omega (arith, given-room))
 
 -- An action's items are written with one PATH less than there are items, and none of them with one word.
 items-bulk : (m : Message) (ms : List Message) → suc (itemsSize (m ∷ ms)) ≡ bulk (m ∷ ms)
