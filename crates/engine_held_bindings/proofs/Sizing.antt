@@ -7,7 +7,7 @@ use native.Mathlib.Omega.{arith}
 use native.Mathlib.Nat.{add-zero}
 use lib.ListN.{length, drop, getD, length-drop}
 use lib.Seq.{drop-drop, drop-nil}
-use Rattle.read_messages.specs.Message.{Message}
+use Rattle.read_messages.specs.Message.{Message, items}
 use Rattle.read_messages.specs.Spelling.{topMessage, push, spelled, messageAt}
 use Rattle.read_messages.specs.declared.MessageWord.{MessageWord}
 use Rattle.read_messages.specs.declared.MessageWord.the-variants.{Name, Variable, Enter, Exit, Open, Empty, Path, Unfit}
@@ -19,9 +19,8 @@ use Rattle.engine_message_words.specs.Words.{firstWord, shapeOf, arityOf, bound
 use Rattle.engine_bindings.specs.Passes.{firsts, allItems, ownItems, Passed}
 use Rattle.engine_bindings.specs.declared.Behind.{Behind}
 use Rattle.theory_closures.proofs.Resolving.{resolve-name, resolve-enter, resolve-exit, resolve-opens, resolve-empty, resolve-path}
-use Rattle.engine_bindings.proofs.Bindings.{bindingMessage}
 use Rattle.engine_message_words.proofs.FirstWords.{bound, bound-variable}
-use Rattle.engine_bindings.proofs.Passing.{firsts-first, first-bound, Free, unbound-free, single, given-newest, given-items, given-own}
+use Rattle.engine_bindings.proofs.Passing.{firsts-first, less-behind, one-message, first-bound, Free, unbound-free, single, given-newest, given-items, given-own}
 use Rattle.base_slices.proofs.Capping.{capped-sum, below-count}
 use Rattle.engine_bindings.proofs.Counting.{kept-none, kept-drop, kept-given, kept-more, drop-past, drop-within, rank, rank-less, rank-older}
 use Rattle.engine_held_bindings.specs.Sizes.{messageSize, itemsSize, bulk, cappedItems, itemBulk, Cached, allSizes, ownSize}
@@ -59,9 +58,13 @@ pub none-size : (σ : List (ℕ × Message)) (p : ℕ) (s : List Message) → p 
 unfolding capped allSizes firsts
 none-size σ p s e = rw e
 
-pub one-size : (σ : List (ℕ × Message)) {l ws : List ℕ} → l ≡ ws → allSizes σ (firsts 1 (spelled l)) ≡ messageSize (resolve σ (messageAt ws))
+one-size : (σ : List (ℕ × Message)) {l ws : List ℕ} → l ≡ ws → allSizes σ (firsts 1 (spelled l)) ≡ messageSize (resolve σ (messageAt ws))
 unfolding allSizes firsts messageAt
 one-size σ e = rw e (add-zero _)
+
+pub size-one : (script l ws vs ps ss : List ℕ) → l ≡ ws → Kept messageSize script vs ps ss → (r : ℕ) → ((script ps : List ℕ) → Kept messageSize script vs ps ss → r ≡ capped (allSizes (bindingsIn script vs ps) (firsts 1 (spelled l))))
+    → r ≡ capped (messageSize (resolve (bindingsIn script vs ps) (messageAt ws)))
+size-one script l ws vs ps ss e ok r q = q script ps ok ∙ ap capped (one-size _ e)
 
 sizes-word : (σ : List (ℕ × Message)) (m : MessageWord) (p : ℕ) (s : List Message) → allSizes σ (firsts (suc p) (push m s)) ≡ ownSize σ m + allSizes σ (firsts (p + arityOf m) s)
 unfolding allSizes firsts push topMessage ownSize shapeOf messageSize
@@ -81,9 +84,25 @@ sizes-first σ l (suc p) h =
     let q : suc p - 1 ≡ p = omega arith in
     rw (q, firsts-first (suc p) l) (sizes-word σ (firstWord l) p (spelled (drop 1 l)))
 
-pub sizes-sum : (σ : List (ℕ × Message)) (l : List ℕ) (p : ℕ) → 0 < p → {m : MessageWord} {a : ℕ} {ws : List ℕ} → m ≡ firstWord l → a ≡ arityOf (firstWord l) → ws ≡ drop 1 l → {o r t : ℕ}
-    → o ≡ capped (ownSize σ m) → r ≡ capped (allSizes σ (firsts (p - 1 + a) (spelled ws))) → t ≡ capped (o + r) → t ≡ capped (allSizes σ (firsts p (spelled l)))
-sizes-sum σ l p h {m} {a} {ws} e₁ e₂ e₃ = capped-sum (ownSize σ m) (allSizes σ (firsts (p - 1 + a) (spelled ws))) (rw (e₁, e₂, e₃) (sizes-first σ l p h))
+-- a pass over words: the first word, its arity, and the words behind it
+module _ (l : List ℕ) (p a : ℕ) (m : MessageWord) (first : m ≡ firstWord l) (arity : a ≡ arityOf m) (h : p ≡ 0 → ⊥) where
+  behind : (ws : List ℕ) → ws ≡ drop 1 l → (p - 1 + a + length ws ≤ p + length l) × (3 * length ws + (p - 1 + a) < 3 * length l + p)
+  behind ws e = less-behind l p a e (omega arith) (rw (arity, first) (omega arith))
+
+  pub pass-fits : p + length l < 2 ^ 64 → p - 1 + a < 2 ^ 64
+  pass-fits q = omega (arith, behind (drop 1 l) refl .0)
+
+  pub pass-room : (ws : List ℕ) → ws ≡ drop 1 l → p + length l < 2 ^ 64 → p - 1 + a + length ws < 2 ^ 64
+  pass-room ws e q = omega (arith, behind ws e .0)
+
+  pub pass-less : (ws : List ℕ) → ws ≡ drop 1 l → (t : ℕ) → 3 * length l + p ≡ t → 3 * length ws + (p - 1 + a) < t
+  pass-less ws e t q = omega (arith, behind ws e .1)
+
+  pub sizes-sum : (ws : List ℕ) → ws ≡ drop 1 l → (script vs ps ss : List ℕ) → Kept messageSize script vs ps ss → (o r t : ℕ)
+      → ((script ps : List ℕ) → Kept messageSize script vs ps ss → o ≡ capped (ownSize (bindingsIn script vs ps) m))
+      → ((script ps : List ℕ) → Kept messageSize script vs ps ss → r ≡ capped (allSizes (bindingsIn script vs ps) (firsts (p - 1 + a) (spelled ws))))
+      → t ≡ capped (o + r) → t ≡ capped (allSizes (bindingsIn script vs ps) (firsts p (spelled l)))
+  sizes-sum ws e script vs ps ss ok o r t own rest = capped-sum (ownSize (bindingsIn script vs ps) m) (allSizes (bindingsIn script vs ps) (firsts (p - 1 + a) (spelled ws))) (rw (e, arity, first) (sizes-first (bindingsIn script vs ps) l p (omega arith))) (own script ps ok) (rest script ps ok)
 
 size-free : (σ : List (ℕ × Message)) (m : MessageWord) → Free σ m → ownSize σ m ≡ 1
 unfolding ownSize messageSize
@@ -96,13 +115,15 @@ size-free σ Empty f = refl
 size-free σ Path f = refl
 size-free σ Unfit f = refl
 
-pub capped-one : (σ : List (ℕ × Message)) (m : MessageWord) → Free σ m → 1 ≡ capped (ownSize σ m)
-unfolding capped
-capped-one σ m f = omega (arith, size-free σ m f)
+-- of a word: it is looked up among the bindings
+module _ (script vs ps : List ℕ) (m : MessageWord) (k : ℕ) (e : k ≡ boundAt m vs) where
+  pub size-unbound : length vs ≤ k → 1 ≡ capped (ownSize (bindingsIn script vs ps) m)
+  unfolding capped
+  size-unbound h = omega (arith, size-free (bindingsIn script vs ps) m (unbound-free script vs ps m (omega arith)))
 
-pub given-size : (script vs ps : List ℕ) → length ps ≡ length vs → (k : ℕ) → k < length vs → (m : MessageWord) → k ≡ boundAt m vs → messageSize (bindingMessage script vs ps k) ≡ ownSize (bindingsIn script vs ps) m
-unfolding ownSize
-given-size script vs ps l k h m e = elim (bound-variable vs m k e h) [ bound v q p ↦ rw q (ap messageSize (given-newest script vs ps l k h v p)) ]
+  pub size-bound : (ss : List ℕ) → Kept messageSize script vs ps ss → k < length vs → getD ss k 0 ≡ capped (ownSize (bindingsIn script vs ps) m)
+  unfolding ownSize
+  size-bound ss ok h = kept-given ok k h ∙ ap capped (elim (bound-variable vs m k e h) [ bound v q p ↦ rw q (ap messageSize (given-newest script vs ps (ok .aligned) k h v p)) ])
 
 -- the items' bulk
 
@@ -164,19 +185,23 @@ module _ (script words vs ps cs ss bs : List ℕ) (o k t : ℕ) (m : MessageWord
       let free = unbound-free script vs ps (firstWord words) (omega (arith, first-bound words vs e f)) in
       bulk-only _ _ (single _ words o free q) (x script ps (ok .sized) ∙ ap capped (one-size _ refl)) y
 
--- what was bound is a part of the script, and the older bindings are fewer
-module _ (script ps g : List ℕ) (k : ℕ) (e : g ≡ drop (getD ps k 0) script) (small : length script * 4 < 2 ^ 63) where
-  pub given-room : 1 + length g < 2 ^ 64
-  given-room = omega (arith, ap length e, length-drop (getD ps k 0) script)
+-- a message is a part of the script, and where it was bound, the older bindings are fewer
+module _ (script ws : List ℕ) (at : ℕ) (e : ws ≡ drop at script) (small : length script * 4 < 2 ^ 63) where
+  pub part-room : 1 + length ws < 2 ^ 64
+  part-room = omega (arith, ap length e, length-drop at script)
 
-  pub given-less : (vs us : List ℕ) (t : ℕ) → us ≡ drop (k + 1) vs → k < length vs → rank (length vs) 0 ≡ t → rank (length us) (suc (3 * length g + 1)) < t
-  given-less vs us t f h q = rank-older _ _ _ _ _ q (omega (arith, ap length f, length-drop (k + 1) vs)) (omega (arith, given-room))
+  pub older-less : (vs us : List ℕ) (k t : ℕ) → us ≡ drop (k + 1) vs → k < length vs → rank (length vs) 0 ≡ t → rank (length us) (suc (3 * length ws + 1)) < t
+  older-less vs us k t f h q = rank-older _ _ _ _ _ q (omega (arith, ap length f, length-drop (k + 1) vs)) (omega (arith, part-room))
 
 -- An action's items are written with one PATH less than there are items, and none of them with one word.
 items-bulk : (m : Message) (ms : List Message) → suc (itemsSize (m ∷ ms)) ≡ bulk (m ∷ ms)
 unfolding itemsSize bulk
 items-bulk m [] = omega arith
 items-bulk m (k ∷ ms) = omega (arith, items-bulk k ms)
+
+-- of one message: the words from where it stands
+pub bulk-one : (o : ℕ) (σ : List (ℕ × Message)) (l ws : List ℕ) → l ≡ ws → (r : ℕ) → r ≡ capped (bulk (drop o (allItems σ (firsts 1 (spelled l))))) → r ≡ capped (bulk (drop o (items (resolve σ (messageAt ws)))))
+bulk-one o σ l ws e r q = q ∙ ap (λ (x : List Message). capped (bulk (drop o x))) (one-message σ e)
 
 pub words-none : (x : List Message) (b : ℕ) → b ≡ capped (bulk x) → b ≡ 0 → 1 ≡ cappedItems (itemsSize x)
 unfolding cappedItems itemsSize bulk capped

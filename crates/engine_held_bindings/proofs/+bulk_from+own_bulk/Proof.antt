@@ -5,7 +5,7 @@ use borrow.Author.Needs.{needs}
 use lib.ListN.{length}
 use Rattle.engine_bindings.proofs.Passing.{none-pending}
 use Rattle.engine_bindings.proofs.Counting.{kept-length, rank}
-use Rattle.engine_held_bindings.proofs.Sizing.{bulk-none, bulk-past, bulk-within, bulk-kept, bulk-older, bulk-single, cached-older, own-within, own-less, behind-less, behind-room, given-room, given-less}
+use Rattle.engine_held_bindings.proofs.Sizing.{bulk-none, bulk-past, bulk-within, bulk-kept, bulk-older, bulk-single, cached-older, own-within, own-less, behind-less, behind-room, part-room, older-less}
 use borrow.Fn.Kinds.{In, Out}
 use borrow.Fn.PlainCycle.{Measures, is, falls, and}
 use Rattle.engine_held_bindings.proofs.bulk_from.Reads as bulk-from
@@ -92,7 +92,7 @@ module _ (t : ℕ) where
   kept-returns c = search (bulk-kept, needs)
 
   given-requires : Own own-lts.Need-bulk-from-requires
-  given-requires c κs = search (given-less, given-room, cached-older, given-start c .good .0 .1, given-start c .pre, needs)
+  given-requires c κs = search (older-less, part-room, cached-older, given-start c .good .0 .1, given-start c .pre, needs)
 
   given-returns : Own own-lts.Need-returns-2
   given-returns c = search (bulk-older, given-start (bulk-given c) .pre .1 .cached, needs)
