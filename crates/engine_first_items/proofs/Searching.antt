@@ -62,7 +62,7 @@ unbound o j vs m e h = omega (arith, length-drop o vs)
 
 pub sought : (script vs ps : List ℕ) → Search → First
 sought script vs ps s =
-    firstItem (drop (s .before) (allItems (bindingsIn script (drop (s .older) vs) (drop (s .older) ps)) (firsts (s .pending) (spelled (wordsLeft script (s .left))))))
+    firstItem (drop (s .ahead) (allItems (bindingsIn script (drop (s .older) vs) (drop (s .older) ps)) (firsts (s .pending) (spelled (wordsLeft script (s .left))))))
 
 pub sought-first : (script vs ps : List ℕ) (at offset : ℕ) → firstItem (drop offset (items (resolve (bindingsIn script vs ps) (messageAt (drop at script))))) ≡ sought script vs ps (searching (length script - at) 1 offset 0)
 unfolding sought
@@ -71,7 +71,7 @@ sought-first script vs ps at offset =
 
 pub sought-none : (script vs ps : List ℕ) (s : Search) → s .pending ≡ 0 → Nothing ≡ sought script vs ps s
 unfolding sought
-sought-none script vs ps s e = item-none _ (s .before) (none-pending _ _ _ e)
+sought-none script vs ps s e = item-none _ (s .ahead) (none-pending _ _ _ e)
 
 module _ {script vs ps cs : List ℕ} (ok : Kept itemCount script vs ps cs) (l p b o : ℕ) (some : 0 < p) where
   abbrev words : List ℕ
@@ -132,7 +132,7 @@ module _ {script vs ps cs : List ℕ} (ok : Kept itemCount script vs ps cs) (l p
 pub record Finding (script vs ps : List ℕ) (item : First) (s : Search) : Type 0 where
   pub within : s .left ≤ length script
   pub room : s .pending + s .left ≤ 1 + length script
-  pub small : s .before < 4294967295
+  pub small : s .ahead < 4294967295
   pub older : s .older ≤ length vs
   pub same : item ≡ sought script vs ps s
 
@@ -149,26 +149,26 @@ stands-first script vs ps at offset h = record { within = omega arith; room = om
 
 module _ {script vs ps cs : List ℕ} (ok : Kept itemCount script vs ps cs) (item : First) (s : Search) (st : Finding script vs ps item s) (some : 0 < s .pending) where
   module _ (k j : ℕ) (at : k ≡ s .older + j) (e : j ≡ boundAt (firstWord (wordsLeft script (s .left))) (drop (s .older) vs)) (h : k < length vs) (r : Search) where
-    inside : s .before < getD cs k 0 → r ≡ searching (length script - getD ps k 0) 1 (s .before) (k + 1) → Finding script vs ps item r
-    inside q x = rw x record { within = omega arith; room = omega arith; small = st .small; older = omega arith; same = st .same ∙ sought-inside ok (s .left) (s .pending) (s .before) (s .older) some k j at e h q }
+    inside : s .ahead < getD cs k 0 → r ≡ searching (length script - getD ps k 0) 1 (s .ahead) (k + 1) → Finding script vs ps item r
+    inside q x = rw x record { within = omega arith; room = omega arith; small = st .small; older = omega arith; same = st .same ∙ sought-inside ok (s .left) (s .pending) (s .ahead) (s .older) some k j at e h q }
 
-    past : getD cs k 0 ≤ s .before → r ≡ searching (s .left - 1) (s .pending - 1) (s .before - getD cs k 0) (s .older) → Finding script vs ps item r
-    past q x = rw x record { within = omega (arith, st .within); room = omega (arith, st .room); small = omega (arith, st .small); older = st .older; same = st .same ∙ sought-past ok (s .left) (s .pending) (s .before) (s .older) some k j at e h (st .within) q (st .small) }
+    past : getD cs k 0 ≤ s .ahead → r ≡ searching (s .left - 1) (s .pending - 1) (s .ahead - getD cs k 0) (s .older) → Finding script vs ps item r
+    past q x = rw x record { within = omega (arith, st .within); room = omega (arith, st .room); small = omega (arith, st .small); older = st .older; same = st .same ∙ sought-past ok (s .left) (s .pending) (s .ahead) (s .older) some k j at e h (st .within) q (st .small) }
 
     pub on-variable : {source : ℕ} → source ≡ getD ps k 0 → AtVariable s (length script) k (getD cs k 0) source r → length script < 2 ^ 64 → On script vs ps item s r
     on-variable x y w =
         let v = rw x at y in
-        byTest (ltb (s .before) (getD cs k 0))
+        byTest (ltb (s .ahead) (getD cs k 0))
         (λ t. let g = v .inside (ltb-true _ _ t) in record { fewer = rw g (rank-older _ _ _ _ _ refl (omega arith) (omega arith)); stands = inside (ltb-true _ _ t) g })
         (λ t. let g = v .past (ltb-false _ _ t) in record { fewer = rw g (rank-less _ _ _ _ refl (omega (arith, some))); stands = past (ltb-false _ _ t) g })
 
   -- at a word that is no variable with a binding, which has that shape
   module _ (e : length (drop (s .older) vs) ≤ boundAt (firstWord (wordsLeft script (s .left))) (drop (s .older) vs)) {f : Shape} (x : f ≡ shapeOf (firstWord (wordsLeft script (s .left)))) where
-    pub stands-here : s .before < f .items → (m : MessageWord) (n : Named) {us qs ws : List ℕ} → m ≡ firstWord (wordsLeft script (s .left)) → us ≡ drop (s .older) vs → qs ≡ drop (s .older) ps → ws ≡ drop 1 (wordsLeft script (s .left))
+    pub stands-here : s .ahead < f .items → (m : MessageWord) (n : Named) {us qs ws : List ℕ} → m ≡ firstWord (wordsLeft script (s .left)) → us ≡ drop (s .older) vs → qs ≡ drop (s .older) ps → ws ≡ drop 1 (wordsLeft script (s .left))
         → n ≡ nameOf (resolve (bindingsIn script us qs) (messageAt ws)) → plainItem m n ≡ item
-    stands-here q m n e₁ e₂ e₃ e₄ y = rw (e₁, y, e₂, e₃, e₄) (sought-here ok (s .left) (s .pending) (s .before) (s .older) some e (rw x at q) ∙ sym (st .same))
+    stands-here q m n e₁ e₂ e₃ e₄ y = rw (e₁, y, e₂, e₃, e₄) (sought-here ok (s .left) (s .pending) (s .ahead) (s .older) some e (rw x at q) ∙ sym (st .same))
 
-    pub on-behind : f .items ≤ s .before → (b : Behind) {ws : List ℕ} {n : ℕ} → ws ≡ wordsLeft script (s .left) → Passed ws (s .pending) b → n ≡ s .left - b .used → On script vs ps item s (searching n (b .left) (s .before - f .items) (s .older))
+    pub on-behind : f .items ≤ s .ahead → (b : Behind) {ws : List ℕ} {n : ℕ} → ws ≡ wordsLeft script (s .left) → Passed ws (s .pending) b → n ≡ s .left - b .used → On script vs ps item s (searching n (b .left) (s .ahead - f .items) (s .older))
     on-behind q b e₁ p e₂ =
         let o = rw e₁ at p in
         let l = length-drop (b .used) (wordsLeft script (s .left)) in
@@ -180,6 +180,6 @@ module _ {script vs ps cs : List ℕ} (ok : Kept itemCount script vs ps cs) (ite
             room = omega (arith, o .room, l, w, st .room);
             small = omega (arith, st .small);
             older = st .older;
-            same = st .same ∙ sought-behind ok (s .left) (s .pending) (s .before) (s .older) some e (b .used) (b .left) (st .within) (o .split _) (rw x at q) (st .small);
+            same = st .same ∙ sought-behind ok (s .left) (s .pending) (s .ahead) (s .older) some e (b .used) (b .left) (st .within) (o .split _) (rw x at q) (st .small);
           };
         }

@@ -125,7 +125,7 @@ on-bound c =
     on-variable (a .pre .counted) _ (s b) (bound-loop b .loop .inv) (bound-test b .if1 .taken) _ (b .bound .result) refl (binding b) (t .if2 .taken) (c .at-variable .result) (c .before .wide .ensures) (c .at-variable .ensures) (omega (arith, a .good .0))
 
 on-free : (c : At tie.After-less2)
-    → let k = less-else c .before in Onward (shape-bound k) (searching (c .less2 .result) (c .before .after-own .result .left) (s (shape-bound k) .before - known-shape k .shape-of .result .items) (s (shape-bound k) .older))
+    → let k = less-else c .before in Onward (shape-bound k) (searching (c .less2 .result) (c .before .after-own .result .left) (s (shape-bound k) .ahead - known-shape k .shape-of .result .items) (s (shape-bound k) .older))
 on-free c =
     let e = less-else c in
     let k = e .before in
