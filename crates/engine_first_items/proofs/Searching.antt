@@ -218,9 +218,6 @@ module _ (script vs ps cs : List ℕ) (ok : Kept itemCount script vs ps cs) (ite
 pub words-room : (script words : List ℕ) (l p : ℕ) → words ≡ wordsLeft script l → l ≤ length script → p + l ≤ 1 + length script → length script * 4 < 2 ^ 63 → p + length words < 2 ^ 64
 words-room script words l p e h q small = omega (arith, ap length e, left-length script l h)
 
-pub names-aligned : (script vs ps cs us qs : List ℕ) (o : ℕ) → Kept itemCount script vs ps cs → us ≡ drop o vs → qs ≡ drop o ps → length qs ≡ length us
-names-aligned script vs ps cs us qs o ok e₁ e₂ = rw (e₁, e₂) (kept-drop ok o .aligned)
-
 pub kept-below : (script vs ps cs : List ℕ) (k : ℕ) → Kept itemCount script vs ps cs → k < length vs → k < length cs
 kept-below script vs ps cs k ok h = omega (arith, kept-length ok)
 

@@ -20,7 +20,7 @@ use Rattle.engine_bindings.specs.Passes.{firsts, allItems, ownItems, Passed}
 use Rattle.engine_bindings.specs.declared.Behind.{Behind}
 use Rattle.theory_closures.proofs.Resolving.{resolve-name, resolve-enter, resolve-exit, resolve-opens, resolve-empty, resolve-path}
 use Rattle.engine_message_words.proofs.FirstWords.{bound, bound-variable}
-use Rattle.engine_bindings.proofs.Passing.{firsts-first, less-behind, one-message, first-bound, Free, unbound-free, single, given-newest, given-items, given-own}
+use Rattle.engine_bindings.proofs.Passing.{firsts-first, less-behind, one-message, part-room, first-bound, Free, unbound-free, single, given-newest, given-items, given-own}
 use Rattle.base_slices.proofs.Capping.{capped-sum, below-count}
 use Rattle.engine_bindings.proofs.Counting.{kept-none, kept-drop, kept-given, kept-more, drop-past, drop-within, rank, rank-less, rank-older}
 use Rattle.engine_held_bindings.specs.Sizes.{messageSize, itemsSize, bulk, cappedItems, itemBulk, Cached, allSizes, ownSize}
@@ -160,15 +160,11 @@ module _ (script words vs ps cs : List ℕ) (ok : Kept itemCount script vs ps cs
     bulk-within q h r t = bulk-sum (drop o (ownItems (bindingsIn script vs ps) words)) _ _ (drop-within _ (ownItems (bindingsIn script vs ps) words) _ o c split (own script ps ok) q)
 
 -- what is left is less: the items that the first word has of its own, or what stands behind them
-pub own-less : (v n t : ℕ) → rank v (suc n) ≡ t → rank v 0 < t
-own-less v n t e = rank-less _ _ _ _ e (omega arith)
+pub rank-own : (v n t : ℕ) → rank v (suc n) ≡ t → rank v 0 < t
+rank-own v n t e = rank-less _ _ _ _ e (omega arith)
 
-module _ (words : List ℕ) (p : ℕ) (b : Behind) (done : Passed words p b) (ws : List ℕ) (e : ws ≡ drop (b .used) words) where
-  pub behind-less : (v t : ℕ) → rank v (suc (3 * length words + p)) ≡ t → rank v (suc (3 * length ws + b .left)) < t
-  behind-less v t f = rank-less _ _ _ _ f (omega (arith, ap length e, done .less))
-
-  pub behind-room : p + length words < 2 ^ 64 → b .left + length ws < 2 ^ 64
-  behind-room h = omega (arith, ap length e, done .room)
+pub rank-behind : (words : List ℕ) (p : ℕ) (b : Behind) → Passed words p b → (ws : List ℕ) → ws ≡ drop (b .used) words → (v t : ℕ) → rank v (suc (3 * length words + p)) ≡ t → rank v (suc (3 * length ws + b .left)) < t
+rank-behind words p b done ws e v t f = rank-less _ _ _ _ f (omega (arith, ap length e, done .less))
 
 -- the bulk of those that a word has of its own: the word is looked up among the bindings
 module _ (script words vs ps cs ss bs : List ℕ) (o k t : ℕ) (m : MessageWord) (ok : Cached script vs ps cs ss bs) (e : m ≡ firstWord words) (f : k ≡ boundAt m vs) where
@@ -185,13 +181,9 @@ module _ (script words vs ps cs ss bs : List ℕ) (o k t : ℕ) (m : MessageWord
       let free = unbound-free script vs ps (firstWord words) (omega (arith, first-bound words vs e f)) in
       bulk-only _ _ (single _ words o free q) (x script ps (ok .sized) ∙ ap capped (one-size _ refl)) y
 
--- a message is a part of the script, and where it was bound, the older bindings are fewer
-module _ (script ws : List ℕ) (at : ℕ) (e : ws ≡ drop at script) (small : length script * 4 < 2 ^ 63) where
-  pub part-room : 1 + length ws < 2 ^ 64
-  part-room = omega (arith, ap length e, length-drop at script)
-
-  pub older-less : (vs us : List ℕ) (k t : ℕ) → us ≡ drop (k + 1) vs → k < length vs → rank (length vs) 0 ≡ t → rank (length us) (suc (3 * length ws + 1)) < t
-  older-less vs us k t f h q = rank-older _ _ _ _ _ q (omega (arith, ap length f, length-drop (k + 1) vs)) (omega (arith, part-room))
+-- where a message was bound, the older bindings are fewer
+pub rank-given : (script ws : List ℕ) (at : ℕ) → ws ≡ drop at script → length script * 4 < 2 ^ 63 → (vs us : List ℕ) (k t : ℕ) → us ≡ drop (k + 1) vs → k < length vs → rank (length vs) 0 ≡ t → rank (length us) (suc (3 * length ws + 1)) < t
+rank-given script ws at e small vs us k t f h q = rank-older _ _ _ _ _ q (omega (arith, ap length f, length-drop (k + 1) vs)) (omega (arith, part-room script ws at e small))
 
 -- An action's items are written with one PATH less than there are items, and none of them with one word.
 items-bulk : (m : Message) (ms : List Message) → suc (itemsSize (m ∷ ms)) ≡ bulk (m ∷ ms)

@@ -5,7 +5,8 @@ use Rattle.read_messages.specs.Message.{items, firstItem}
 use Rattle.read_messages.specs.Spelling.{messageAt}
 use Rattle.theory_closures.specs.Resolve.{resolve}
 use Rattle.engine_bindings.specs.Bindings.{bindingsIn}
-use Rattle.engine_first_items.proofs.Searching.{Finding, turns, stands-first, finds-none, variable-fewer, variable-stands, stands-here, behind-fewer, behind-stands, words-room, names-aligned, kept-below, index-fits}
+use Rattle.engine_bindings.proofs.Passing.{older-aligned}
+use Rattle.engine_first_items.proofs.Searching.{Finding, turns, stands-first, finds-none, variable-fewer, variable-stands, stands-here, behind-fewer, behind-stands, words-room, kept-below, index-fits}
 use Rattle.engine_first_items.proofs.first_item.Statement.{statement}
 use Rattle.engine_first_items.proofs.first_item.Tie as tie
 
@@ -55,7 +56,7 @@ loop-again : At tie.Need-loop-again
 loop-again c = search (variable-stands, variable-turn c, needs)
 
 name-of-requires : At tie.Need-name-of-requires
-name-of-requires c κs = search (names-aligned, tails-turn c, needs)
+name-of-requires c κs = search (older-aligned, tails-turn c, needs)
 
 returns : At tie.Need-returns
 returns c = search (stands-here, item-turn c .if1 .taken, turn-loop (item-turn c) .loop .inv, turn-start (item-turn c) .pre .counted, needs)

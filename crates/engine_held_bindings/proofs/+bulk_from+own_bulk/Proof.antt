@@ -3,9 +3,9 @@
 use Prim.Native.Nat.{ℕ, suc, _+_, _*_, _<_}
 use borrow.Author.Needs.{needs}
 use lib.ListN.{length}
-use Rattle.engine_bindings.proofs.Passing.{none-pending}
+use Rattle.engine_bindings.proofs.Passing.{none-pending, behind-room, part-room}
 use Rattle.engine_bindings.proofs.Counting.{kept-length, rank}
-use Rattle.engine_held_bindings.proofs.Sizing.{bulk-none, bulk-past, bulk-within, bulk-kept, bulk-older, bulk-single, cached-older, own-within, own-less, behind-less, behind-room, part-room, older-less}
+use Rattle.engine_held_bindings.proofs.Sizing.{bulk-none, bulk-past, bulk-within, bulk-kept, bulk-older, bulk-single, cached-older, own-within, rank-own, rank-behind, rank-given}
 use borrow.Fn.Kinds.{In, Out}
 use borrow.Fn.PlainCycle.{Measures, is, falls, and}
 use Rattle.engine_held_bindings.proofs.bulk_from.Reads as bulk-from
@@ -59,16 +59,16 @@ module _ (t : ℕ) where
   none-returns c = search (bulk-none, none-pending, needs)
 
   past-requires : From from-lts.Need-bulk-from-requires
-  past-requires c κs = (search (behind-less, needs), record { room = search (behind-room, needs); cached = search needs; below = search needs })
+  past-requires c κs = (search (rank-behind, needs), record { room = search (behind-room, needs); cached = search needs; below = search needs })
 
   past-returns : From from-lts.Need-returns-2
   past-returns c = search (bulk-past, needs)
 
   own-requires : From from-lts.Need-own-bulk-requires
-  own-requires c κs = search (own-less, own-within, needs)
+  own-requires c κs = search (rank-own, own-within, needs)
 
   behind-requires : From from-lts.Need-bulk-from-requires-2
-  behind-requires c κs = search (behind-less, behind-room, needs)
+  behind-requires c κs = search (rank-behind, behind-room, needs)
 
   behind-returns : From from-lts.Need-returns-3
   behind-returns c = search (bulk-within, sum-start c .pre .1 .cached .counted, needs)
@@ -92,7 +92,7 @@ module _ (t : ℕ) where
   kept-returns c = search (bulk-kept, needs)
 
   given-requires : Own own-lts.Need-bulk-from-requires
-  given-requires c κs = search (older-less, part-room, cached-older, given-start c .good .0 .1, given-start c .pre, needs)
+  given-requires c κs = search (rank-given, part-room, cached-older, given-start c .good .0 .1, given-start c .pre, needs)
 
   given-returns : Own own-lts.Need-returns-2
   given-returns c = search (bulk-older, given-start (bulk-given c) .pre .1 .cached, needs)

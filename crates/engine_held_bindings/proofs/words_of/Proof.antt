@@ -1,7 +1,8 @@
 -- `engine_held_bindings::words_of` meets its contract. Assumes nothing.
 use borrow.Author.Needs.{needs}
+use Rattle.engine_bindings.proofs.Passing.{part-room}
 use Rattle.engine_bindings.proofs.Counting.{kept-length}
-use Rattle.engine_held_bindings.proofs.Sizing.{part-room, size-one}
+use Rattle.engine_held_bindings.proofs.Sizing.{size-one}
 use Rattle.engine_held_bindings.proofs.words_of.Statement.{statement}
 use Rattle.engine_held_bindings.proofs.words_of.Tie as tie
 
