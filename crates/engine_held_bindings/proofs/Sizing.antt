@@ -132,14 +132,14 @@ unfolding bulk
 bulk-append [] b = omega arith
 bulk-append (m ∷ a) b = omega (arith, bulk-append a b)
 
-pub bulk-sum : (a b x : List Message) {o r t : ℕ} → a ++ b ≡ x → o ≡ capped (bulk a) → r ≡ capped (bulk b) → t ≡ capped (o + r) → t ≡ capped (bulk x)
+bulk-sum : (a b x : List Message) {o r t : ℕ} → a ++ b ≡ x → o ≡ capped (bulk a) → r ≡ capped (bulk b) → t ≡ capped (o + r) → t ≡ capped (bulk x)
 bulk-sum a b x e p q s = capped-sum (bulk a) (bulk b) (ap bulk (sym e) ∙ bulk-append a b) p q s
 
 pub bulk-none : (x : List Message) (o : ℕ) → x ≡ [] → 0 ≡ capped (bulk (drop o x))
 unfolding bulk capped
 bulk-none x o e = rw (e, drop-nil {A = Message} o)
 
-pub bulk-only : (x : List Message) (m : Message) {r t : ℕ} → x ≡ m ∷ [] → r ≡ capped (messageSize m) → t ≡ capped (1 + r) → t ≡ capped (bulk x)
+bulk-only : (x : List Message) (m : Message) {r t : ℕ} → x ≡ m ∷ [] → r ≡ capped (messageSize m) → t ≡ capped (1 + r) → t ≡ capped (bulk x)
 unfolding bulk capped
 bulk-only x m e p q = rw e (omega arith)
 
@@ -185,15 +185,15 @@ module _ (script words vs ps cs ss bs : List ℕ) (o k t : ℕ) (m : MessageWord
 pub rank-given : (script ws : List ℕ) (at : ℕ) → ws ≡ drop at script → length script * 4 < 2 ^ 63 → (vs us : List ℕ) (k t : ℕ) → us ≡ drop (k + 1) vs → k < length vs → rank (length vs) 0 ≡ t → rank (length us) (suc (3 * length ws + 1)) < t
 rank-given script ws at e small vs us k t f h q = rank-older _ _ _ _ _ q (omega (arith, ap length f, length-drop (k + 1) vs)) (omega (arith, part-room script ws at e small))
 
+-- the bulk of the items of one message, by the words from where it stands
+pub bulk-one : (o : ℕ) (σ : List (ℕ × Message)) (l ws : List ℕ) → l ≡ ws → (r : ℕ) → r ≡ capped (bulk (drop o (allItems σ (firsts 1 (spelled l))))) → r ≡ capped (bulk (drop o (items (resolve σ (messageAt ws)))))
+bulk-one o σ l ws e r q = q ∙ ap (λ (x : List Message). capped (bulk (drop o x))) (one-message σ e)
+
 -- An action's items are written with one PATH less than there are items, and none of them with one word.
 items-bulk : (m : Message) (ms : List Message) → suc (itemsSize (m ∷ ms)) ≡ bulk (m ∷ ms)
 unfolding itemsSize bulk
 items-bulk m [] = omega arith
 items-bulk m (k ∷ ms) = omega (arith, items-bulk k ms)
-
--- of one message: the words from where it stands
-pub bulk-one : (o : ℕ) (σ : List (ℕ × Message)) (l ws : List ℕ) → l ≡ ws → (r : ℕ) → r ≡ capped (bulk (drop o (allItems σ (firsts 1 (spelled l))))) → r ≡ capped (bulk (drop o (items (resolve σ (messageAt ws)))))
-bulk-one o σ l ws e r q = q ∙ ap (λ (x : List Message). capped (bulk (drop o x))) (one-message σ e)
 
 pub words-none : (x : List Message) (b : ℕ) → b ≡ capped (bulk x) → b ≡ 0 → 1 ≡ cappedItems (itemsSize x)
 unfolding cappedItems itemsSize bulk capped
