@@ -6,13 +6,16 @@ use mathlib.Core.Path.{_≡_, refl, sym, ap, _∙_}
 use native.Mathlib.Omega.{arith}
 use lib.Dec.{eqb, ltb}
 use lib.ListN.{length, drop, getD}
-use Rattle.read_messages.specs.Message.{Message, name, variable}
+use borrow.Author.Tests.{lt-ltb, le-ltb}
+use Rattle.read_messages.specs.Message.{Message, name, variable, nameOf}
+use Rattle.read_messages.specs.declared.Named.{Named}
+use Rattle.read_messages.specs.declared.Named.the-variants.{Called}
 use Rattle.read_messages.specs.Spelling.{messageAt}
 use Rattle.engine_message_words.specs.Words.{newestBinding}
 use Rattle.base_slices.proofs.Tests.{byTest}
 use Rattle.engine_message_words.proofs.Variables.{newest-hit, newest-miss}
 use Rattle.theory_closures.specs.Resolve.{resolve}
-use Rattle.theory_closures.proofs.Resolving.{substitute-hit, substitute-miss}
+use Rattle.theory_closures.proofs.Resolving.{substitute-hit, substitute-miss, resolve-name}
 use Rattle.engine_bindings.specs.Bindings.{bindingsIn, messageOf}
 
 -- a variable that has no binding stays
@@ -51,3 +54,11 @@ message-word script start e = rw e
 pub message-given : (script : List ℕ) (start : ℕ) → ltb start 65536 ≡ false → messageOf script start ≡ name (start - 65536)
 unfolding messageOf
 message-given script start e = rw e
+
+-- and its name
+pub name-word : (script vs ps ws : List ℕ) (start w : ℕ) → w ≡ start → ws ≡ drop w script → start < 65536 → (r : Named) → r ≡ nameOf (resolve (bindingsIn script vs ps) (messageAt ws)) → r ≡ nameOf (resolve (bindingsIn script vs ps) (messageOf script start))
+name-word script vs ps ws start w e₁ e₂ h r e = e ∙ rw (e₂, e₁, message-word script start (lt-ltb _ _ h))
+
+pub name-given : (script vs ps : List ℕ) (start : ℕ) → 65536 ≤ start → Called (start - 65536) ≡ nameOf (resolve (bindingsIn script vs ps) (messageOf script start))
+unfolding nameOf
+name-given script vs ps start h = rw (message-given script start (le-ltb _ _ h), resolve-name)

@@ -6,23 +6,26 @@ use mathlib.Core.Path.{_≡_, refl, sym, ap, _∙_}
 use native.Mathlib.Omega.{arith}
 use lib.ListN.{length, drop, getD, length-append, length-drop}
 use lib.Seq.{drop-nil, drop-append-le, drop-append-add}
-use Rattle.read_messages.specs.Message.{Message, asks, firstItem}
-use Rattle.read_messages.specs.Spelling.{messageAt}
+use Rattle.read_messages.specs.Message.{Message, items, asks, firstItem}
+use Rattle.read_messages.specs.Spelling.{spelled, messageAt}
+use Rattle.read_messages.specs.declared.MessageWord.{MessageWord}
 use Rattle.read_messages.specs.declared.First.the-variants.{Nothing}
 use Rattle.base_slices.proofs.Capping.{capped-sum, below-count, whole-count}
 use Rattle.theory_closures.specs.Resolve.{resolve}
 use Rattle.engine_bindings.specs.Bindings.{bindingsIn}
 use Rattle.base_slices.specs.Sums.{capped}
-use Rattle.engine_bindings.specs.Measures.{keptOf, Kept}
-use Rattle.engine_message_words.specs.Words.{firstWord, shapeOf}
-use Rattle.engine_bindings.specs.Passes.{ownItems}
+use Rattle.engine_bindings.specs.Measures.{itemCount, keptOf, Kept}
+use Rattle.engine_message_words.specs.Words.{firstWord, shapeOf, boundAt}
+use Rattle.engine_message_words.specs.declared.Shape.{Shape}
+use Rattle.engine_bindings.specs.Passes.{firsts, allItems, ownItems, Passed}
+use Rattle.engine_bindings.specs.declared.Behind.{Behind}
 use Rattle.engine_bindings.proofs.Bindings.{bindingMessage, binding-message-next}
 use Rattle.engine_message_words.proofs.FirstWords.{items-small}
-use Rattle.engine_bindings.proofs.Passing.{Free, own-free}
+use Rattle.engine_bindings.proofs.Passing.{one-message, first-bound, Free, unbound-free, own-free, given-items}
 
 -- numbers of items
 
-pub items-sum : (x a b : List Message) {o r t : ℕ} → x ≡ a ++ b → o ≡ capped (length a) → r ≡ capped (length b) → t ≡ capped (o + r) → t ≡ capped (length x)
+items-sum : (x a b : List Message) {o r t : ℕ} → x ≡ a ++ b → o ≡ capped (length a) → r ≡ capped (length b) → t ≡ capped (o + r) → t ≡ capped (length x)
 items-sum x a b e p q s = capped-sum (length a) (length b) (ap length e ∙ length-append a b) p q s
 
 pub no-items : (x : List Message) → x ≡ [] → 0 ≡ capped (length x)
@@ -76,6 +79,28 @@ module _ {f : Message → ℕ} {script vs ps values : List ℕ} (ok : Kept f scr
   pub kept-more : (v a n : ℕ) → n ≡ capped (f (resolve (bindingsIn script vs ps) (messageAt (drop a script)))) → Kept f script (v ∷ vs) (a ∷ ps) (n ∷ values)
   unfolding keptOf
   kept-more v a n e = record { aligned = ap suc (ok .aligned); right = rw (e, ok .right) }
+
+-- of a word's own items, as it is read and looked up
+module _ (script words vs ps cs : List ℕ) (ok : Kept itemCount script vs ps cs) (m : MessageWord) (first : m ≡ firstWord words) (k : ℕ) (looked : k ≡ boundAt m vs) where
+  pub count-bound : k < length vs → getD cs k 0 ≡ capped (length (ownItems (bindingsIn script vs ps) words))
+  count-bound h = kept-given ok k h ∙ ap (λ (l : List Message). capped (length l)) (given-items script vs ps (ok .aligned) k h words (first-bound words vs first looked))
+
+  pub count-unbound : length vs ≤ k → (f : Shape) → f ≡ shapeOf m → f .items ≡ capped (length (ownItems (bindingsIn script vs ps) words))
+  count-unbound h f e = rw (e, first) (capped-shape _ words (unbound-free script vs ps _ (omega (arith, first-bound words vs first looked))))
+
+-- of messages: the first word's own, and those behind them
+pub count-sum : (words ws : List ℕ) (p : ℕ) (b : Behind) → Passed words p b → ws ≡ drop (b .used) words → (script vs ps cs : List ℕ) → Kept itemCount script vs ps cs → (o r t : ℕ)
+    → ((script ps : List ℕ) → Kept itemCount script vs ps cs → o ≡ capped (length (ownItems (bindingsIn script vs ps) words)))
+    → ((script ps : List ℕ) → Kept itemCount script vs ps cs → r ≡ capped (length (allItems (bindingsIn script vs ps) (firsts (b .left) (spelled ws)))))
+    → t ≡ capped (o + r) → t ≡ capped (length (allItems (bindingsIn script vs ps) (firsts p (spelled words))))
+count-sum words ws p b done e script vs ps cs ok o r t own rest =
+    let σ = bindingsIn script vs ps in
+    items-sum _ (ownItems σ words) _ (done .split σ) (own script ps ok) (rw e at (rest script ps ok))
+
+-- of one message
+pub count-one : (script l ws vs ps cs : List ℕ) → l ≡ ws → Kept itemCount script vs ps cs → (r : ℕ) → ((script ps : List ℕ) → Kept itemCount script vs ps cs → r ≡ capped (length (allItems (bindingsIn script vs ps) (firsts 1 (spelled l)))))
+    → r ≡ capped (length (items (resolve (bindingsIn script vs ps) (messageAt ws))))
+count-one script l ws vs ps cs e ok r q = q script ps ok ∙ ap (λ (x : List Message). capped (length x)) (one-message _ e)
 
 -- items from an offset on: those of a and then those of b are x, and c is what is kept of a's number
 

@@ -1,5 +1,5 @@
 -- Laws of a pass over words: what the first word begins, its own items, and where they end. Assumes nothing.
-use Prim.Native.Nat.{ℕ, zero, suc, _+_, _-_, _*_, _≤_, _<_}
+use Prim.Native.Nat.{ℕ, zero, suc, _+_, _-_, _*_, _^_, _≤_, _<_}
 use mathlib.Core.List.{List, [], _∷_, _++_, append-assoc, append-nil}
 use mathlib.Core.Path.{_≡_, refl, sym, ap, _∙_}
 use native.Mathlib.Omega.{arith}
@@ -9,13 +9,15 @@ use lib.Seq.{drop-drop, drop-nil}
 use Rattle.read_messages.specs.Message.{Message, variable, emptyMessage, items, nameOf, asks}
 use Rattle.read_messages.specs.Spelling.{topMessage, push, spelled, messageAt}
 use Rattle.read_messages.specs.declared.MessageWord.{MessageWord}
+use Rattle.read_messages.specs.declared.Named.{Named}
 use Rattle.read_messages.specs.declared.MessageWord.the-variants.{Name, Variable, Enter, Exit, Open, Empty, Path, Unfit}
 use Rattle.engine_message_words.specs.Words.{newestBinding, firstWord, shapeOf, arityOf, boundAt, plainName, plainItem}
 use Rattle.engine_message_words.specs.declared.Shape.{Shape}
 use Rattle.engine_message_words.proofs.FirstWords.{arity-small, bound, bound-variable}
 use Rattle.theory_closures.specs.Resolve.{resolve}
 use Rattle.engine_bindings.specs.Bindings.{bindingsIn}
-use Rattle.engine_bindings.specs.Passes.{firsts, allItems, wordItems, ownItems}
+use Rattle.engine_bindings.specs.Passes.{firsts, allItems, wordItems, ownItems, Skipped, Passed}
+use Rattle.engine_bindings.specs.declared.Behind.{Behind}
 use Rattle.theory_closures.proofs.Resolving.{resolve-name, resolve-enter, resolve-exit, resolve-opens, resolve-empty, resolve-path}
 use Rattle.engine_bindings.proofs.Bindings.{resolve-unbound, resolve-bound, bindingMessage}
 
@@ -66,17 +68,35 @@ push-skip Unfit p s = rw (add-zero p)
 pub drop-more : (r : ℕ) (l : List ℕ) → drop (r + 1) l ≡ drop r (drop 1 l)
 drop-more r l = sym (drop-drop r 1 l ∙ ap (λ (j : ℕ). drop j l) (add-comm 1 r))
 
-pub skip-none : (l : List ℕ) (p : ℕ) → length l ≡ 0 → spelled l ≡ drop p (spelled l)
+pub skip-none : (l : List ℕ) (p : ℕ) → length l ≡ 0 → Skipped l p 0
 unfolding spelled
-skip-none [] p h = sym (drop-nil p)
+skip-none [] p h = record { within = omega arith; behind = sym (drop-nil p) }
 skip-none (w ∷ l) p h = absurd (omega arith)
 
-pub skip-some : (l : List ℕ) (p r : ℕ) → 0 < length l → 0 < p
+skip-behind : (l : List ℕ) (p r : ℕ) → 0 < length l → 0 < p
     → spelled (drop r (drop 1 l)) ≡ drop (p - 1 + arityOf (firstWord l)) (spelled (drop 1 l)) → spelled (drop (r + 1) l) ≡ drop p (spelled l)
-skip-some l zero r h z e = absurd (omega arith)
-skip-some l (suc p) r h z e =
+skip-behind l zero r h z e = absurd (omega arith)
+skip-behind l (suc p) r h z e =
     let q : suc p - 1 ≡ p = omega arith in
     rw (drop-more r l, e, q, spelled-first l h) (sym (push-skip (firstWord l) p (spelled (drop 1 l))))
+
+-- one word, and then those of the messages that it opens
+module _ (l : List ℕ) (p : ℕ) (some : p ≡ 0 → ⊥) (word : length l ≡ 0 → ⊥) (m : MessageWord) (a : ℕ) (first : m ≡ firstWord l) (arity : a ≡ arityOf m) where
+  pub skip-fits : p + length l < 2 ^ 64 → p - 1 + a < 2 ^ 64
+  skip-fits h = omega (arith, arity-small m)
+
+  module _ (ws : List ℕ) (e : ws ≡ drop 1 l) where
+    pub skip-room : p + length l < 2 ^ 64 → p - 1 + a + length ws < 2 ^ 64
+    skip-room h = omega (arith, arity-small m, ap length e, length-drop 1 l)
+
+    pub skip-some : (r : ℕ) → Skipped ws (p - 1 + a) r → Skipped l p (r + 1)
+    skip-some r k = record { within = omega (arith, ap length e, length-drop 1 l, k .within); behind = skip-behind l p r (omega arith) (omega arith) (rw (e, arity, first) at (k .behind)) }
+
+pub tail-less : (l ws : List ℕ) → ws ≡ drop 1 l → (length l ≡ 0 → ⊥) → (t : ℕ) → length l ≡ t → length ws < t
+tail-less l ws e h t q = omega (arith, ap length e, length-drop 1 l)
+
+pub skipped-fits : (l ws : List ℕ) → ws ≡ drop 1 l → (p r : ℕ) → Skipped ws p r → length l * 4 < 2 ^ 63 → r + 1 < 2 ^ 64
+skipped-fits l ws e p r k h = omega (arith, ap length e, length-drop 1 l, k .within)
 
 -- the items of messages, by the first word's own and those behind them
 split-word : (σ : List (ℕ × Message)) (m : MessageWord) (p : ℕ) (s : List Message)
@@ -101,9 +121,34 @@ own-front σ l (suc p) z =
     let q : suc p - 1 ≡ p = omega arith in
     rw (q, firsts-first (suc p) l) (split-word σ (firstWord l) p (spelled (drop 1 l)))
 
-pub split-first : (σ : List (ℕ × Message)) (l : List ℕ) (p r : ℕ) → 0 < p → {s : Shape} {ws : List ℕ} → s ≡ shapeOf (firstWord l) → ws ≡ drop 1 l
-    → spelled (drop r ws) ≡ drop (s .closed) (spelled ws) → allItems σ (firsts p (spelled l)) ≡ ownItems σ l ++ allItems σ (firsts (p - 1 + s .opened) (spelled (drop (r + 1) l)))
-split-first σ l p r z e₁ e₂ e = rw (drop-more r l, ← e₂, e, e₁, e₂) (own-front σ l p z)
+-- behind the first word's own items
+module _ (l : List ℕ) (p : ℕ) (some : 0 < p) (m : MessageWord) (f : Shape) (first : m ≡ firstWord l) (shape : f ≡ shapeOf m) where
+  opened-small : f .opened ≤ arityOf (firstWord l)
+  opened-small = rw (shape, first) (omega arith)
+
+  pub opened-fits : p + length l < 2 ^ 64 → p - 1 + f .opened < 2 ^ 64
+  opened-fits h = omega (arith, room l p (f .opened) 0 some opened-small .0)
+
+  module _ (ws : List ℕ) (e : ws ≡ drop 1 l) where
+    pub closed-room : p + length l < 2 ^ 64 → f .closed + length ws < 2 ^ 64
+    closed-room h = rw shape (omega (arith, arity-small m, ap length e, length-drop 1 l))
+
+    pub passed-first : (r : ℕ) → Skipped ws (f .closed) r → Passed l p (record { used = r + 1; left = p - 1 + f .opened })
+    passed-first r k =
+        let less = room l p (f .opened) r some opened-small in
+        record {
+          room = less .0;
+          less = less .1;
+          split = λ σ. rw (drop-more r l, ← e, k .behind, shape, first, e) (own-front σ l p some);
+        }
+
+-- what is left there
+module _ (words : List ℕ) (p : ℕ) (b : Behind) (done : Passed words p b) (ws : List ℕ) (e : ws ≡ drop (b .used) words) where
+  pub behind-less : (t : ℕ) → 3 * length words + p ≡ t → 3 * length ws + b .left < t
+  behind-less t f = omega (arith, ap length e, done .less)
+
+  pub behind-room : p + length words < 2 ^ 64 → b .left + length ws < 2 ^ 64
+  behind-room h = omega (arith, ap length e, done .room)
 
 pub none-pending : (σ : List (ℕ × Message)) (p : ℕ) (s : List Message) → p ≡ 0 → allItems σ (firsts p s) ≡ []
 unfolding allItems firsts
@@ -112,6 +157,10 @@ none-pending σ p s e = rw e
 pub one-message : (σ : List (ℕ × Message)) {l ws : List ℕ} → l ≡ ws → allItems σ (firsts 1 (spelled l)) ≡ items (resolve σ (messageAt ws))
 unfolding messageAt allItems firsts
 one-message σ {l} {ws} e = rw e (append-nil (items (resolve σ (topMessage (spelled ws)))))
+
+-- it is a part of the script
+pub part-room : (script ws : List ℕ) (at : ℕ) → ws ≡ drop at script → length script * 4 < 2 ^ 63 → 1 + length ws < 2 ^ 64
+part-room script ws at e h = omega (arith, ap length e, length-drop at script)
 
 -- the first word, as it is read and then looked up
 pub first-bound : (l vs : List ℕ) {m : MessageWord} {k : ℕ} → m ≡ firstWord l → k ≡ boundAt m vs → k ≡ boundAt (firstWord l) vs
@@ -193,3 +242,20 @@ module _ (script vs ps : List ℕ) (l : length ps ≡ length vs) (k : ℕ) (h : 
   pub given-own : (ws : List ℕ) → k ≡ boundAt (firstWord ws) vs → {us qs g : List ℕ} → us ≡ drop (k + 1) vs → qs ≡ drop (k + 1) ps → g ≡ drop (getD ps k 0) script
       → allItems (bindingsIn script us qs) (firsts 1 (spelled g)) ≡ ownItems (bindingsIn script vs ps) ws
   given-own ws e e₁ e₂ e₃ = rw (e₁, e₂) (one-message _ e₃ ∙ given-items ws e)
+
+-- the name of the message that begins with a word, as it is read and looked up
+module _ (script vs ps ws : List ℕ) (m : MessageWord) (first : m ≡ firstWord ws) (k : ℕ) (looked : k ≡ boundAt m vs) (r : Named) where
+  pub name-bound : length ps ≡ length vs → k < length vs → (us qs g : List ℕ) → us ≡ drop (k + 1) vs → qs ≡ drop (k + 1) ps → g ≡ drop (getD ps k 0) script
+      → r ≡ nameOf (resolve (bindingsIn script us qs) (messageAt g)) → r ≡ nameOf (resolve (bindingsIn script vs ps) (messageAt ws))
+  name-bound l h us qs g e₁ e₂ e₃ e = e ∙ ap nameOf (given-message script vs ps l k h ws (first-bound ws vs first looked) e₁ e₂ e₃)
+
+  pub name-unbound : length vs ≤ k → r ≡ plainName m → r ≡ nameOf (resolve (bindingsIn script vs ps) (messageAt ws))
+  name-unbound h e = e ∙ rw first (sym (name-free _ ws (unbound-free script vs ps _ (omega (arith, first-bound ws vs first looked)))))
+
+-- the older bindings
+
+pub older-less : (vs us : List ℕ) (k : ℕ) → us ≡ drop (k + 1) vs → k < length vs → (t : ℕ) → length vs ≡ t → length us < t
+older-less vs us k e h t q = omega (arith, ap length e, length-drop (k + 1) vs)
+
+pub older-aligned : (vs ps us qs : List ℕ) (k : ℕ) → us ≡ drop k vs → qs ≡ drop k ps → length ps ≡ length vs → length qs ≡ length us
+older-aligned vs ps us qs k e₁ e₂ h = omega (arith, ap length e₁, ap length e₂, length-drop k vs, length-drop k ps)

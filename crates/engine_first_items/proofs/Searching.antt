@@ -20,6 +20,7 @@ use Rattle.base_slices.specs.Sums.{capped}
 use Rattle.engine_bindings.specs.Measures.{itemCount, Kept}
 use Rattle.engine_message_words.specs.Words.{firstWord, shapeOf, boundAt, plainItem}
 use Rattle.engine_message_words.specs.declared.Shape.{Shape}
+use Rattle.engine_message_words.proofs.FirstWords.{bound-within}
 use Rattle.engine_first_items.specs.Search.{searching, AtVariable}
 use Rattle.engine_bindings.specs.Passes.{firsts, allItems, ownItems, Passed}
 use Rattle.engine_bindings.specs.declared.Behind.{Behind}
@@ -28,7 +29,7 @@ use Rattle.base_slices.proofs.Tests.{byTest}
 use Rattle.engine_bindings.proofs.Bindings.{bindingMessage}
 use Rattle.engine_bindings.proofs.Passing.{none-pending, one-message, own-front, split-bound, unbound-free, item-free, single, given-items}
 use Rattle.base_slices.proofs.Capping.{below-count}
-use Rattle.engine_bindings.proofs.Counting.{capped-shape, kept-drop, kept-given, drop-past, item-none, item-here, item-only, rank, rank-less, rank-older}
+use Rattle.engine_bindings.proofs.Counting.{capped-shape, kept-length, kept-drop, kept-given, drop-past, item-none, item-here, item-only, rank, rank-less, rank-older}
 
 -- the words that are left
 
@@ -54,24 +55,16 @@ left-behind script l u h =
 pub left-length : (script : List ℕ) (l : ℕ) → l ≤ length script → length (wordsLeft script l) ≡ l
 left-length script l h = omega (arith, length-drop (length script - l) script)
 
--- an index behind all bindings, from the o-th on too
-pub unbound : (o j : ℕ) (vs : List ℕ) (m : MessageWord) → j ≡ boundAt m (drop o vs) → length vs ≤ o + j → length (drop o vs) ≤ boundAt m (drop o vs)
-unbound o j vs m e h = omega (arith, length-drop o vs)
-
 -- the item that a search is for, the bindings being those of the variables vs and the sources ps
 
 pub sought : (script vs ps : List ℕ) → Search → First
 sought script vs ps s =
-    firstItem (drop (s .before) (allItems (bindingsIn script (drop (s .older) vs) (drop (s .older) ps)) (firsts (s .pending) (spelled (wordsLeft script (s .left))))))
+    firstItem (drop (s .ahead) (allItems (bindingsIn script (drop (s .older) vs) (drop (s .older) ps)) (firsts (s .pending) (spelled (wordsLeft script (s .left))))))
 
-pub sought-first : (script vs ps : List ℕ) (at offset : ℕ) → firstItem (drop offset (items (resolve (bindingsIn script vs ps) (messageAt (drop at script))))) ≡ sought script vs ps (searching (length script - at) 1 offset 0)
+sought-first : (script vs ps : List ℕ) (at offset : ℕ) → firstItem (drop offset (items (resolve (bindingsIn script vs ps) (messageAt (drop at script))))) ≡ sought script vs ps (searching (length script - at) 1 offset 0)
 unfolding sought
 sought-first script vs ps at offset =
     ap (λ (l : List Message). firstItem (drop offset l)) (sym (rw (left-from script at) (one-message (bindingsIn script vs ps) refl)))
-
-pub sought-none : (script vs ps : List ℕ) (s : Search) → s .pending ≡ 0 → Nothing ≡ sought script vs ps s
-unfolding sought
-sought-none script vs ps s e = item-none _ (s .before) (none-pending _ _ _ e)
 
 module _ {script vs ps cs : List ℕ} (ok : Kept itemCount script vs ps cs) (l p b o : ℕ) (some : 0 < p) where
   abbrev words : List ℕ
@@ -132,7 +125,7 @@ module _ {script vs ps cs : List ℕ} (ok : Kept itemCount script vs ps cs) (l p
 pub record Finding (script vs ps : List ℕ) (item : First) (s : Search) : Type 0 where
   pub within : s .left ≤ length script
   pub room : s .pending + s .left ≤ 1 + length script
-  pub small : s .before < 4294967295
+  pub small : s .ahead < 4294967295
   pub older : s .older ≤ length vs
   pub same : item ≡ sought script vs ps s
 
@@ -144,42 +137,89 @@ pub record On (script vs ps : List ℕ) (item : First) (s r : Search) : Type 0 w
   pub fewer : turns vs r < turns vs s
   pub stands : Finding script vs ps item r
 
-pub stands-first : (script vs ps : List ℕ) (at offset : ℕ) → offset < 4294967295 → Finding script vs ps (firstItem (drop offset (items (resolve (bindingsIn script vs ps) (messageAt (drop at script)))))) (searching (length script - at) 1 offset 0)
-stands-first script vs ps at offset h = record { within = omega arith; room = omega arith; small = h; older = omega arith; same = sought-first script vs ps at offset }
+pub stands-first : (script vs ps : List ℕ) (at offset l : ℕ) → l ≡ length script - at → offset < 4294967295 → Finding script vs ps (firstItem (drop offset (items (resolve (bindingsIn script vs ps) (messageAt (drop at script)))))) (searching l 1 offset 0)
+stands-first script vs ps at offset l e h = rw e record { within = omega arith; room = omega arith; small = h; older = omega arith; same = sought-first script vs ps at offset }
 
-module _ {script vs ps cs : List ℕ} (ok : Kept itemCount script vs ps cs) (item : First) (s : Search) (st : Finding script vs ps item s) (some : 0 < s .pending) where
-  module _ (k j : ℕ) (at : k ≡ s .older + j) (e : j ≡ boundAt (firstWord (wordsLeft script (s .left))) (drop (s .older) vs)) (h : k < length vs) (r : Search) where
-    inside : s .before < getD cs k 0 → r ≡ searching (length script - getD ps k 0) 1 (s .before) (k + 1) → Finding script vs ps item r
-    inside q x = rw x record { within = omega arith; room = omega arith; small = st .small; older = omega arith; same = st .same ∙ sought-inside ok (s .left) (s .pending) (s .before) (s .older) some k j at e h q }
+-- where no message is pending, there is none
+pub finds-none : (script vs ps : List ℕ) (item : First) (s : Search) → Finding script vs ps item s → s .pending ≤ 0 → Nothing ≡ item
+unfolding sought
+finds-none script vs ps item s st h = item-none _ (s .ahead) (none-pending _ _ _ (omega arith)) ∙ sym (st .same)
 
-    past : getD cs k 0 ≤ s .before → r ≡ searching (s .left - 1) (s .pending - 1) (s .before - getD cs k 0) (s .older) → Finding script vs ps item r
-    past q x = rw x record { within = omega (arith, st .within); room = omega (arith, st .room); small = omega (arith, st .small); older = st .older; same = st .same ∙ sought-past ok (s .left) (s .pending) (s .before) (s .older) some k j at e h (st .within) q (st .small) }
+-- the word that the search stands at, as it is read and looked up
+module _ (script vs ps cs : List ℕ) (ok : Kept itemCount script vs ps cs) (item : First) (s : Search) (st : Finding script vs ps item s) (some : 0 < s .pending) (words : List ℕ) (at : words ≡ wordsLeft script (s .left))
+    (m : MessageWord) (first : m ≡ firstWord words) (us : List ℕ) (newer : us ≡ drop (s .older) vs) (j : ℕ) (looked : j ≡ boundAt m us) where
+  word : m ≡ firstWord (wordsLeft script (s .left))
+  word = first ∙ ap firstWord at
 
-    pub on-variable : {source : ℕ} → source ≡ getD ps k 0 → AtVariable s (length script) k (getD cs k 0) source r → length script < 2 ^ 64 → On script vs ps item s r
-    on-variable x y w =
-        let v = rw x at y in
-        byTest (ltb (s .before) (getD cs k 0))
-        (λ t. let g = v .inside (ltb-true _ _ t) in record { fewer = rw g (rank-older _ _ _ _ _ refl (omega arith) (omega arith)); stands = inside (ltb-true _ _ t) g })
-        (λ t. let g = v .past (ltb-false _ _ t) in record { fewer = rw g (rank-less _ _ _ _ refl (omega (arith, some))); stands = past (ltb-false _ _ t) g })
+  binding : j ≡ boundAt (firstWord (wordsLeft script (s .left))) (drop (s .older) vs)
+  binding = rw (← newer, ← word) looked
 
-  -- at a word that is no variable with a binding, which has that shape
-  module _ (e : length (drop (s .older) vs) ≤ boundAt (firstWord (wordsLeft script (s .left))) (drop (s .older) vs)) {f : Shape} (x : f ≡ shapeOf (firstWord (wordsLeft script (s .left)))) where
-    pub stands-here : s .before < f .items → (m : MessageWord) (n : Named) {us qs ws : List ℕ} → m ≡ firstWord (wordsLeft script (s .left)) → us ≡ drop (s .older) vs → qs ≡ drop (s .older) ps → ws ≡ drop 1 (wordsLeft script (s .left))
-        → n ≡ nameOf (resolve (bindingsIn script us qs) (messageAt ws)) → plainItem m n ≡ item
-    stands-here q m n e₁ e₂ e₃ e₄ y = rw (e₁, y, e₂, e₃, e₄) (sought-here ok (s .left) (s .pending) (s .before) (s .older) some e (rw x at q) ∙ sym (st .same))
+  -- a variable with a binding: the search goes on in its message or behind it
+  module _ (h : s .older + j < length vs) (small : length script * 4 < 2 ^ 63) (r : Search) (source : ℕ) (e : source ≡ getD ps (s .older + j) 0) (to : AtVariable s (length script) (s .older + j) (getD cs (s .older + j) 0) source r) where
+    inside : s .ahead < getD cs (s .older + j) 0 → r ≡ searching (length script - getD ps (s .older + j) 0) 1 (s .ahead) (s .older + j + 1) → On script vs ps item s r
+    inside q x = rw x record {
+      fewer = rank-older _ _ _ _ _ refl (omega arith) (omega arith);
+      stands = record { within = omega arith; room = omega arith; small = st .small; older = omega arith; same = st .same ∙ sought-inside ok (s .left) (s .pending) (s .ahead) (s .older) some (s .older + j) j refl binding h q };
+    }
 
-    pub on-behind : f .items ≤ s .before → (b : Behind) {ws : List ℕ} {n : ℕ} → ws ≡ wordsLeft script (s .left) → Passed ws (s .pending) b → n ≡ s .left - b .used → On script vs ps item s (searching n (b .left) (s .before - f .items) (s .older))
-    on-behind q b e₁ p e₂ =
-        let o = rw e₁ at p in
-        let l = length-drop (b .used) (wordsLeft script (s .left)) in
-        let w = left-length script (s .left) (st .within) in
-        rw (e₂, x) record {
-          fewer = rank-less _ _ _ _ refl (omega (arith, o .less, l, w));
-          stands = record {
-            within = omega (arith, st .within);
-            room = omega (arith, o .room, l, w, st .room);
-            small = omega (arith, st .small);
-            older = st .older;
-            same = st .same ∙ sought-behind ok (s .left) (s .pending) (s .before) (s .older) some e (b .used) (b .left) (st .within) (o .split _) (rw x at q) (st .small);
-          };
-        }
+    past : getD cs (s .older + j) 0 ≤ s .ahead → r ≡ searching (s .left - 1) (s .pending - 1) (s .ahead - getD cs (s .older + j) 0) (s .older) → On script vs ps item s r
+    past q x = rw x record {
+      fewer = rank-less _ _ _ _ refl (omega (arith, some));
+      stands = record { within = omega (arith, st .within); room = omega (arith, st .room); small = omega (arith, st .small); older = st .older; same = st .same ∙ sought-past ok (s .left) (s .pending) (s .ahead) (s .older) some (s .older + j) j refl binding h (st .within) q (st .small) };
+    }
+
+    on-variable : On script vs ps item s r
+    on-variable =
+        let v = rw e at to in
+        byTest (ltb (s .ahead) (getD cs (s .older + j) 0)) (λ t. inside (ltb-true _ _ t) (v .inside (ltb-true _ _ t))) (λ t. past (ltb-false _ _ t) (v .past (ltb-false _ _ t)))
+
+    pub variable-fewer : turns vs r < turns vs s
+    variable-fewer = on-variable .fewer
+
+    pub variable-stands : Finding script vs ps item r
+    variable-stands = on-variable .stands
+
+  -- a word that is none, which has that shape: the item is there, or behind it
+  module _ (h : length vs ≤ s .older + j) (f : Shape) (shape : f ≡ shapeOf m) where
+    unbound : length (drop (s .older) vs) ≤ boundAt (firstWord (wordsLeft script (s .left))) (drop (s .older) vs)
+    unbound = omega (arith, length-drop (s .older) vs, binding)
+
+    shaped : f ≡ shapeOf (firstWord (wordsLeft script (s .left)))
+    shaped = shape ∙ ap shapeOf word
+
+    pub stands-here : s .ahead < f .items → (qs ws : List ℕ) → qs ≡ drop (s .older) ps → ws ≡ drop 1 words → (n : Named) → n ≡ nameOf (resolve (bindingsIn script us qs) (messageAt ws)) → (r : First) → r ≡ plainItem m n → r ≡ item
+    stands-here q qs ws e₁ e₂ n y r z = z ∙ rw (word, y, newer, e₁, e₂, at) (sought-here ok (s .left) (s .pending) (s .ahead) (s .older) some unbound (rw shaped at q) ∙ sym (st .same))
+
+    module _ (q : f .items ≤ s .ahead) (b : Behind) (done : Passed words (s .pending) b) (n : ℕ) (e : n ≡ s .left - b .used) where
+      on-behind : On script vs ps item s (searching n (b .left) (s .ahead - f .items) (s .older))
+      on-behind =
+          let o = rw at at done in
+          let l = length-drop (b .used) (wordsLeft script (s .left)) in
+          let w = left-length script (s .left) (st .within) in
+          rw (e, shaped) record {
+            fewer = rank-less _ _ _ _ refl (omega (arith, o .less, l, w));
+            stands = record {
+              within = omega (arith, st .within);
+              room = omega (arith, o .room, l, w, st .room);
+              small = omega (arith, st .small);
+              older = st .older;
+              same = st .same ∙ sought-behind ok (s .left) (s .pending) (s .ahead) (s .older) some unbound (b .used) (b .left) (st .within) (o .split _) (rw shaped at q) (st .small);
+            };
+          }
+
+      pub behind-fewer : turns vs (searching n (b .left) (s .ahead - f .items) (s .older)) < turns vs s
+      behind-fewer = on-behind .fewer
+
+      pub behind-stands : Finding script vs ps item (searching n (b .left) (s .ahead - f .items) (s .older))
+      behind-stands = on-behind .stands
+
+-- what is asked of the functions that it calls
+
+pub words-room : (script words : List ℕ) (l p : ℕ) → words ≡ wordsLeft script l → l ≤ length script → p + l ≤ 1 + length script → length script * 4 < 2 ^ 63 → p + length words < 2 ^ 64
+words-room script words l p e h q small = omega (arith, ap length e, left-length script l h)
+
+pub kept-below : (script vs ps cs : List ℕ) (k : ℕ) → Kept itemCount script vs ps cs → k < length vs → k < length cs
+kept-below script vs ps cs k ok h = omega (arith, kept-length ok)
+
+pub index-fits : (o j : ℕ) (vs us : List ℕ) (m : MessageWord) → j ≡ boundAt m us → us ≡ drop o vs → o ≤ length vs → length vs * 4 < 2 ^ 63 → o + j < 2 ^ 64
+index-fits o j vs us m e₁ e₂ h small = omega (arith, bound-within m us, ap length e₂, length-drop o vs)

@@ -23,7 +23,7 @@ ghost use Rattle.engine_first_items.specs.Asked.{VariableAsked, ItemAske
 struct Search {
     left: usize,
     pending: usize,
-    before: u32,
+    ahead: u32,
     older: usize,
 }
 
@@ -40,18 +40,18 @@ fn at_variable(s: Search, n: usize, k: usize, count: u32, source: usize) -> Sear
     requires { ⌜ VariableAsked s k ⌝ }
     ensures { λ r. ⌜ AtVariable s n k count source r ⌝ }
 {
-    if s.before < count {
+    if s.ahead < count {
         return Search {
             left: less(n, source),
             pending: 1,
-            before: s.before,
+            ahead: s.ahead,
             older: k + 1,
         };
     }
     Search {
         left: less(s.left, 1),
         pending: s.pending - 1,
-        before: s.before - count,
+        ahead: s.ahead - count,
         older: s.older,
     }
 }
@@ -73,7 +73,7 @@ pub fn first_item(
     let mut s = Search {
         left: less(n, at),
         pending: 1,
-        before: offset,
+        ahead: offset,
         older: 0,
     };
     while 0 < s.pending {
@@ -85,7 +85,7 @@ pub fn first_item(
             s = at_variable(s, n, k, counts[k], wide(sources[k]));
         } else {
             let own = shape_of(m);
-            if s.before < own.items {
+            if s.ahead < own.items {
                 return plain_item(
                     m,
                     name_of(script, tail(words, 1), receipts, tail(sources, s.older)),
@@ -95,7 +95,7 @@ pub fn first_item(
             let left = less(s.left, b.used);
             s.left = left;
             s.pending = b.left;
-            s.before -= own.items;
+            s.ahead -= own.items;
         }
     }
     First::Nothing

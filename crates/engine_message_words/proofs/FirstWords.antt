@@ -1,5 +1,5 @@
 -- Laws of the first word of a message: what it begins, and where it is bound. Assumes nothing.
-use Prim.Native.Nat.{ℕ, _+_, _≤_, _<_}
+use Prim.Native.Nat.{ℕ, _+_, _^_, _≤_, _<_}
 use mathlib.Core.List.{List, [], _∷_}
 use mathlib.Core.Path.{_≡_, refl}
 use native.Mathlib.Omega.{arith}
@@ -32,8 +32,8 @@ arity-small Empty = omega arith
 arity-small Path = omega arith
 arity-small Unfit = omega arith
 
-pub shape-small : (m : MessageWord) (s : Shape) → s ≡ shapeOf m → s .closed + s .opened ≤ 2
-shape-small m s e = rw e (arity-small m)
+pub shape-fits : (m : MessageWord) (s : Shape) → s ≡ shapeOf m → s .closed + s .opened < 2 ^ 64
+shape-fits m s e = rw e (omega (arith, arity-small m))
 
 pub items-small : (m : MessageWord) → shapeOf m .items ≤ 1
 unfolding shapeOf

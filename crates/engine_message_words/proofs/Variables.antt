@@ -61,8 +61,8 @@ past-more vs u i p h n =
     let d = ap (λ (l : List ℕ). newestBinding l u) (drop-drop 1 i vs) in
     omega arith
 
-pub past-all : (vs : List ℕ) (u i : ℕ) → Past vs u i → i ≡ length vs → length vs ≡ newestBinding vs u
+pub past-all : (vs : List ℕ) (u i : ℕ) → Past vs u i → i ≤ length vs → length vs ≤ i → length vs ≡ newestBinding vs u
 unfolding Past
-past-all vs u i p h =
+past-all vs u i p h q =
     let z = newest-none (drop i vs) u (omega (arith, length-drop i vs)) in
     omega arith

@@ -10,8 +10,11 @@ use Rattle.engine_held_bindings.proofs.Sizing.{cached-as, cached-more, 
 use Rattle.engine_held_bindings.proofs.bind.Statement.{statement}
 use Rattle.engine_held_bindings.proofs.bind.Tie as tie
 
+abbrev known-measured : tie.After-struct-known → tie.After-measure-held
+known-measured c = c .before
+
 abbrev known-wide : tie.After-struct-known → tie.After-wide
-known-wide c = c .before .before
+known-wide c = known-measured c .before
 
 abbrev known-start : tie.After-struct-known → tie.Start
 known-start c = known-wide c .before .before
@@ -25,13 +28,14 @@ returns c =
     let l-counts : length (s .args .b .counts) ≡ 32 = search needs in
     let l-sizes : length (s .args .b .sizes) ≡ 32 = search needs in
     let l-bulks : length (s .args .b .bulks) ≡ 32 = search needs in
+    let m = known-measured c .measure-held in
     let variables = drop-set (s .args .b .variables) (s .args .b .first) (s .args .v) (s .pre .room) (omega arith) in
     let sources = drop-set (s .args .b .sources) (s .args .b .first) (s .args .at) (s .pre .room) (omega arith) in
-    let counts = drop-set (s .args .b .counts) (s .args .b .first) (c .before .measure-held .result .count) (s .pre .room) (omega arith) in
-    let sizes = drop-set (s .args .b .sizes) (s .args .b .first) (c .before .measure-held .result .size) (s .pre .room) (omega arith) in
-    let bulks = drop-set (s .args .b .bulks) (s .args .b .first) (c .before .measure-held .result .bulk) (s .pre .room) (omega arith) in
+    let counts = drop-set (s .args .b .counts) (s .args .b .first) (m .result .count) (s .pre .room) (omega arith) in
+    let sizes = drop-set (s .args .b .sizes) (s .args .b .first) (m .result .size) (s .pre .room) (omega arith) in
+    let bulks = drop-set (s .args .b .bulks) (s .args .b .first) (m .result .bulk) (s .pre .room) (omega arith) in
     record {
-      held = record { within = omega arith; cached = cached-as variables sources counts sizes bulks (cached-more (s .args .v) (s .args .at) (c .before .measure-held .result) (s .pre .held .cached) (known-wide c .wide .ensures) (c .before .measure-held .ensures)) };
+      held = record { within = omega arith; cached = cached-as variables sources counts sizes bulks (cached-more (s .args .v) (s .args .at) (m .result) (s .pre .held .cached) (known-wide c .wide .ensures) (m .ensures)) };
       bindings = bindings-more _ variables sources;
       room = refl;
     }

@@ -1,7 +1,6 @@
 -- `engine_message_words::arity` meets its contract. Assumes nothing.
-use native.Mathlib.Omega.{arith}
 use borrow.Author.Needs.{needs}
-use Rattle.engine_message_words.proofs.FirstWords.{shape-small}
+use Rattle.engine_message_words.proofs.FirstWords.{shape-fits}
 use Rattle.engine_message_words.proofs.arity.Statement.{statement}
 use Rattle.engine_message_words.proofs.arity.Tie as tie
 
@@ -10,5 +9,5 @@ arity-spec =
     tie.close
     (tie.spec
     (λ c κs. search needs)
-    (λ c. omega (arith, shape-small _ _ (c .before .shape-of .ensures)))
-    (λ c. rw (c .before .shape-of .ensures)))
+    (λ c. search (shape-fits, needs))
+    (λ c. cc))

@@ -24,4 +24,4 @@ find-spec =
     (tie.spec
     Inv-loop μ-loop (λ c. (omega arith, past-none _ _))
     (λ c. search needs) (λ c. search needs) returns (λ c. search needs) (λ c. search needs) loop-again
-    (λ c. past-all _ _ _ (c .before .loop .inv .1) (omega (arith, c .before .loop .inv .0, c .loop-test .left))))
+    (λ c. search (needs, past-all)))

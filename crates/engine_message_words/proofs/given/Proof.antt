@@ -4,7 +4,7 @@ use Rattle.engine_message_words.proofs.given.Statement.{statement}
 use Rattle.engine_message_words.proofs.given.Tie as tie
 
 returns : tie.Need-returns
-returns c = rw (c .before .wide .ensures) at (c .tail .ensures)
+returns c = cc
 
 pub given-spec : {M : Type 1} → statement M
 given-spec = tie.close (tie.spec (λ c. search needs) (λ c. search needs) (λ c κs. search needs) (λ c κs. search needs) returns)

@@ -13,7 +13,4 @@ shape-of-spec =
     (λ c κs. search needs) (λ c. search needs) (λ c κs. search needs) (λ c. search needs) (λ c κs. search needs)
     (λ c. search needs) (λ c κs. search needs) (λ c. search needs) (λ c κs. search needs) (λ c. search needs)
     (λ c κs. search needs)
-    (λ c. rw (c .before .enum-told .given .1) (c .shaped .ensures)) (λ c. rw (c .before .enum-told2 .given .1) (c .shaped2 .ensures))
-    (λ c. rw (c .before .enum-told3 .given .1) (c .shaped3 .ensures)) (λ c. rw (c .before .enum-told4 .given .1) (c .shaped4 .ensures))
-    (λ c. rw (c .before .enum-told5 .given .1) (c .shaped5 .ensures)) (λ c. rw (c .before .enum-told6 .given .1) (c .shaped6 .ensures))
-    (λ c. rw (c .before .enum-told7 .given .1) (c .shaped7 .ensures)) (λ c. rw (c .before .enum-told8 .given .1) (c .shaped8 .ensures)))
+    (λ c. cc) (λ c. cc) (λ c. cc) (λ c. cc) (λ c. cc) (λ c. cc) (λ c. cc) (λ c. cc))
