@@ -14,8 +14,7 @@ eighth-set : (s : List ℕ) (i v : ℕ) → length s ≡ 8 → 0 < i → i ≤ 8
 eighth-set s i v l z h = drop-set s i v z (rw l h)
 
 returns : tie.Need-returns
-returns c =
-    record { sooner = omega arith; holds = search (needs, eighth-set) }
+returns c = record { sooner = omega arith; holds = search (needs, eighth-set) }
 
 pub with-some-spec : {M : Type 1} → statement M
 with-some-spec = tie.close (tie.spec (λ c. search needs) (λ c. search needs) (λ c. search needs) returns)
