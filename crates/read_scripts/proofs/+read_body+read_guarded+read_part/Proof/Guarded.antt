@@ -5,7 +5,6 @@ use borrow.Author.Needs.{needs}
 use lib.ListN.{length, drop}
 use Rattle.base_slices.proofs.Tails as Tails
 use Rattle.read_messages.proofs.Laws.{readOf}
-use Rattle.read_scripts.specs.Table.{Readable}
 use Rattle.read_scripts.proofs.Steps.{lent, message-bounds, guarded-inside, guarded-refused, guarded-law}
 use Rattle.read_scripts.proofs.+read_body+read_guarded+read_part.Lts-read_guarded as lts
 use Rattle.read_scripts.proofs.read_guarded.Reads as reads
@@ -37,12 +36,11 @@ module _ (t : ℕ) where
       let a = read-start c .args in
       lent (a .around .indices) (a .around .first) (Tails.part (a .s .now) 1) (a .at + 1) (a .nest) (suc (a .table .count)) _ (long (read-start c)) (c .read-message .ensures (suc (a .table .count)))
 
-  -- where the message ends, and what the call asked for
-  pub bounds : (c : lts.After-m (read-guarded-claims t) (read-guarded-at t) reads.Post) → let a = read-start (told-read c) .args in (a .at + 1 < c .m .given .0 .0) × (c .m .given .0 .0 ≤ a .at + length (a .s .now)) × Readable (a .s .now) (a .at) (a .nest) (a .around .first) (a .table .count)
+  -- where the message ends
+  pub bounds : (c : lts.After-m (read-guarded-claims t) (read-guarded-at t) reads.Post) → let a = read-start (told-read c) .args in (a .at + 1 < c .m .given .0 .0) × (c .m .given .0 .0 ≤ a .at + length (a .s .now))
   bounds c =
       let s = read-start (told-read c) in
-      let b = message-bounds (s .args .s .now) (s .args .at) (s .args .nest) _ (s .args .owner) (s .args .table) _ (told (told-read c)) (s .pre .1 .some) _ (c .m .given .1) in
-      (b .0, b .1, s .pre .1 .reads)
+      message-bounds (s .args .s .now) (s .args .at) (s .args .nest) _ (s .args .owner) (s .args .table) _ (told (told-read c)) (s .pre .1 .some) _ (c .m .given .1)
 
   pub returns : lts.Need-returns (read-guarded-claims t) (read-guarded-at t) reads.Post
   returns c = search (needs, guarded-refused, told)

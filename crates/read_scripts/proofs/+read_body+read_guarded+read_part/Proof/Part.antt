@@ -18,7 +18,9 @@ use Rattle.read_scripts.proofs.+read_body+read_guarded+read_part.Lts-re
 use Rattle.read_scripts.proofs.read_part.Reads as reads
 use Rattle.read_scripts.proofs.+read_body+read_guarded+read_part.Proof.Measures.{read-part-at, read-part-claims}
 
-by-word : (s : List ℕ) (at nest : ℕ) (around : List ℕ) (owner : ℕ) (table : Table) (w v : PartWord) (r : Scan) → w ≡ v → r ≡ scannedPart owner table (partAt v s at nest around (table .count)) → r ≡ scannedPart owner table (partAt w s at nest around (table .count))
+-- what is read of a part whose first word is known
+by-word : (s : List ℕ) (at nest : ℕ) (around : List ℕ) (owner : ℕ) (table : Table) (w v : PartWord) (r : Scan) → w ≡ v → r ≡ scannedPart owner table (partAt v s at nest around (table .count))
+    → r ≡ scannedPart owner table (partAt w s at nest around (table .count))
 by-word s at nest around owner table w v r e h = rw e h
 
 module _ (t : ℕ) where
