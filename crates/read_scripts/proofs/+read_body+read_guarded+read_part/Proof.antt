@@ -2,7 +2,8 @@
 -- Assumes nothing.
 use native.Mathlib.Omega.{arith}
 use borrow.Author.Needs.{needs}
-use Rattle.read_scripts.specs.Script.{partFits}
+use Rattle.read_scripts.specs.Script.{partFits, partFrom}
+use Rattle.read_scripts.specs.Table.{scannedPart}
 use Rattle.read_scripts.proofs.Steps.{body-begins, guarded-asks}
 use Rattle.read_scripts.proofs.read_body.Reads as read-body
 use Rattle.read_scripts.proofs.+read_body+read_guarded+read_part.Lts-read_body as read-body-lts
@@ -19,7 +20,7 @@ use Rattle.read_scripts.proofs.+read_body+read_guarded+read_part.{state
 use Rattle.read_scripts.proofs.+read_body+read_guarded+read_part.Tie.{close}
 
 pub +read-body+read-guarded+read-part-spec : {M : Type 1} → statement M
-unfolding partFits
+unfolding partFits partFrom scannedPart
 +read-body+read-guarded+read-part-spec =
     close μ-read-body μ-read-guarded μ-read-part
     (λ t. read-body-lts.spec (read-body-claims t) (read-body-at t) read-body.Post
@@ -41,5 +42,5 @@ unfolding partFits
     (λ c κs. search needs) (λ c. search needs) (λ c. search needs) (λ c. search needs) (λ c. search needs) (λ c. search needs) (Part.read-body-requires t)
     (λ c. search needs) (λ c. search needs) (λ c. search needs) (λ c. search needs) (λ c. search needs) (λ c. search needs) (λ c. search needs)
     (λ c. search needs) (λ c. search (needs, Part.long t)) (λ c κs. search needs) (λ c. search needs) (λ c. search needs)
-    (λ c κs. search needs) (Part.returns t) (λ c. search needs) (λ c. search needs) (λ c κs. search needs) (Part.returns-2 t) (Part.returns-3 t)
-    (Part.returns-4 t) (Part.returns-5 t) (Part.returns-6 t) (Part.returns-7 t))
+    (λ c κs. search needs) (Part.returns t) (λ c. search needs) (λ c. search needs) (λ c κs. search needs) (λ c. search (needs, Part.by-word))
+    (λ c. search (needs, Part.by-word)) (λ c. search (needs, Part.by-word)) (Part.returns-5 t) (Part.returns-6 t) (Part.returns-7 t))

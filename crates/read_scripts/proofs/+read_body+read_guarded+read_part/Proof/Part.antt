@@ -19,7 +19,7 @@ use Rattle.read_scripts.proofs.read_part.Reads as reads
 use Rattle.read_scripts.proofs.+read_body+read_guarded+read_part.Proof.Measures.{read-part-at, read-part-claims}
 
 -- what is read of a part whose first word is known
-by-word : (s : List ℕ) (at nest : ℕ) (around : List ℕ) (owner : ℕ) (table : Table) (w v : PartWord) (r : Scan) → w ≡ v → r ≡ scannedPart owner table (partAt v s at nest around (table .count))
+pub by-word : (s : List ℕ) (at nest : ℕ) (around : List ℕ) (owner : ℕ) (table : Table) (w v : PartWord) (r : Scan) → w ≡ v → r ≡ scannedPart owner table (partAt v s at nest around (table .count))
     → r ≡ scannedPart owner table (partAt w s at nest around (table .count))
 by-word s at nest around owner table w v r e h = rw e h
 
@@ -54,18 +54,6 @@ module _ (t : ℕ) where
 
   pub returns : lts.Need-returns (read-part-claims t) (read-part-at t) reads.Post
   returns c = search (needs, output-refused, told)
-
-  pub returns-2 : lts.Need-returns-2 (read-part-claims t) (read-part-at t) reads.Post
-  unfolding partFrom scannedPart
-  returns-2 c = search (needs, by-word)
-
-  pub returns-3 : lts.Need-returns-3 (read-part-claims t) (read-part-at t) reads.Post
-  unfolding partFrom scannedPart
-  returns-3 c = search (needs, by-word)
-
-  pub returns-4 : lts.Need-returns-4 (read-part-claims t) (read-part-at t) reads.Post
-  unfolding partFrom
-  returns-4 c = search (needs, by-word)
 
   pub returns-5 : lts.Need-returns-5 (read-part-claims t) (read-part-at t) reads.Post
   unfolding partFrom
