@@ -1,10 +1,9 @@
 -- `read_rules::read_rule` meets its contract. The measure is how many words are left. Assumes nothing.
 use Prim.Native.Nat.{ℕ, _+_, _-_, _<_, _≤_}
-use mathlib.Core.Path.{_≡_, refl, sym, ap, _∙_}
+use mathlib.Core.Path.{_≡_, refl, sym, _∙_}
 use native.Mathlib.Omega.{arith}
 use native.Mathlib.Nat.{add-le-add, le-refl}
-use mathlib.Core.List.{List}
-use lib.ListN.{length, getD, take, drop, length-drop}
+use lib.ListN.{length, getD, drop, length-drop}
 use borrow.Author.Needs.{needs}
 use borrow.Fn.Kinds.{In}
 use borrow.Fn.PlainCycle.{Measures, is, falls, and}
@@ -14,8 +13,7 @@ use Rattle.read_rule_words.specs.ReadRule.{ruleKind}
 use Rattle.read_rule_words.specs.RuleWords.{asked}
 use Rattle.read_rule_words.specs.declared.Asked.{Asked}
 use Rattle.read_rule_words.specs.declared.Asked.the-variants.{Leaf, One, Two, Choice, Place}
-use Rattle.read_rules.specs.declared.RuleTable.{RuleTable}
-use Rattle.read_rules.proofs.Steps.{lent, First, level, behind, Left, read-none, no-read, leaf-read, one-read, two-refused, left-read, two-read, choice-read, place-read}
+use Rattle.read_rules.proofs.Steps.{lent, lent-few, next-first, same-count, First, level, behind, Left, read-none, no-read, leaf-read, one-read, two-refused, left-read, two-read, choice-read, place-read}
 use Rattle.read_rules.proofs.read_rule.Reads as read-rule
 use Rattle.read_rules.proofs.read_rule.Kinds as read-rule-kinds
 use Rattle.read_rules.proofs.+read_rule.Lts-read_rule as lts
@@ -35,13 +33,6 @@ read-rule-at t = and 1 read-rule-kinds.ps (is 1 read-rule-kinds.ps μ-read-rule 
 
 abbrev claims : ℕ → lts.Claims
 claims t = (refused-reads.Asked, refused-reads.Learnt, ask-rule-reads.Asked, ask-rule-reads.Learnt, and 1 read-rule-kinds.ps (falls 1 read-rule-kinds.ps _<_ μ-read-rule t) read-rule.Pre, read-rule.Post, turn-reads.Asked, turn-reads.Learnt, with-some-reads.Asked, with-some-reads.Learnt, enter-reads.Asked, enter-reads.Learnt)
-
--- a table that was turned or entered, and an array's next free index
-still-fewer : (u v : RuleTable) (m : ℕ) → u ≡ v → v .count ≤ m → u .count ≤ m
-still-fewer u v m e h = rw e h
-
-sooner-fits : (f g : ℕ) → f + 1 ≡ g → g ≤ 8 → f ≤ 8
-sooner-fits f g e h = omega arith
 
 module _ (t : ℕ) where
   -- the way from a point of the code to one before it
@@ -83,9 +74,6 @@ module _ (t : ℕ) where
 
   long : (s : lts.Start (claims t) (read-rule-at t) read-rule.Post) → length (s .args .somes .indices) ≡ 8
   long s = search needs
-
-  short : (l : List ℕ) (f : ℕ) → length l ≡ 8 → length (take (8 - f) (drop f l)) ≤ 8
-  short l f h = omega (arith, ap length (lent l f h), length-drop f l)
 
   -- what the first word was asked, with the SOMEs around as the contract has them
   told : (c : lts.After-ask-rule (claims t) (read-rule-at t) read-rule.Post) → let a = asked-start c .args in c .ask-rule .result ≡ asked (a .around) (drop (a .somes .first) (a .somes .indices)) (ruleKind (getD (a .s .now) 0 0)) (operand (getD (a .s .now) 0 0))
@@ -136,14 +124,14 @@ module _ (t : ℕ) where
   left c = (left-read (left-first (read-left c)) _ (read-left c .read-rule2 .ensures) _ (c .o .given .1), left-first (read-left c) .asks .few)
 
   ask-rule-requires : lts.Need-ask-rule-requires (claims t) (read-rule-at t) read-rule.Post
-  ask-rule-requires c κs = search (needs, long, short)
+  ask-rule-requires c κs = search (needs, long, lent-few)
 
   read-rule-requires-3 : lts.Need-read-rule-requires-3 (claims t) (read-rule-at t) read-rule.Post
   read-rule-requires-3 c κs =
       let b = left (second-left c) in
       let x = left-first (read-left (second-left c)) in
       let l = length-part (x .words) (second-left c .o .given .0 .0 - x .at) in
-      (omega (arith, l, b), record { few = omega (arith, l, b); shallow = omega (arith, level x _ refl); somes = x .asks .somes; fewer = search (needs, still-fewer, b .0 .fewer (x .asks .fewer)) })
+      (omega (arith, l, b), record { few = omega (arith, l, b); shallow = omega (arith, level x _ refl); somes = x .asks .somes; fewer = search (needs, same-count, b .0 .fewer (x .asks .fewer)) })
 
   returns-2 : lts.Need-returns-2 (claims t) (read-rule-at t) read-rule.Post
   returns-2 c = two-refused (left-first (refused-left c)) _ (refused-left c .read-rule2 .ensures) _ _ (c .enum-told4 .given .1) refl
@@ -193,11 +181,11 @@ pub +read-rule-spec : {M : Type 1} → statement M
     (λ c. search needs) (λ c. search needs)
     (λ c κs. record { room = omega (arith, choice t c .free, level (choice t c) _ refl); somes = choice t c .asks .somes })
     (λ c. search needs) (λ c. search needs) (λ c. search needs) (λ c. search needs) (λ c. search needs)
-    (λ c κs. behind (choice t (some-choice t c)) t _ _ (omega arith) (level (choice t (some-choice t c)) _ refl .0) (search (needs, sooner-fits)) (omega arith))
+    (λ c κs. behind (choice t (some-choice t c)) t _ _ (omega arith) (level (choice t (some-choice t c)) _ refl .0) (search (needs, next-first)) (omega arith))
     (λ c. search needs)
     (λ c κs. record { inside = omega (arith, place t c .some, place t c .asks .few); fewer = omega (arith, place t c .some, place t c .asks) })
     (λ c. search needs) (λ c. search needs) (λ c. search needs) (λ c. search needs) (λ c. search needs)
-    (λ c κs. behind (place t (enter-place t c)) t _ _ (omega arith) (level (place t (enter-place t c)) _ refl) (place t (enter-place t c) .asks .somes) (search (needs, still-fewer, add-le-add, le-refl)))
+    (λ c κs. behind (place t (enter-place t c)) t _ _ (omega arith) (level (place t (enter-place t c)) _ refl) (place t (enter-place t c) .asks .somes) (search (needs, same-count, add-le-add, le-refl)))
     (returns-3 t)
     (λ c. leaf-read (leaf t c) refl)
     (returns-5 t) (returns-6 t) (returns-7 t) (returns-8 t)
