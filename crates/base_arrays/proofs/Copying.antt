@@ -88,8 +88,8 @@ putting-in-next n at i from before after h l P =
     let d = P .kept in
     record { within = omega arith; kept = length-set after _ _ ∙ d; puts = putting-next at i _ from before after (omega arith) (P .puts) refl }
 
-pub put-all : (at i : ℕ) (from before after : List ℕ) → i ≡ length from → Putting at i from before after → Put at from before after
-put-all at i from before after e P = record { here = λ j m. P .here j (omega arith); below = P .below; beyond = λ j m. P .beyond j (omega arith) }
+pub put-all : (at i : ℕ) (from before after : List ℕ) → i ≤ length from → length from ≤ i → Putting at i from before after → Put at from before after
+put-all at i from before after w h P = record { here = λ j m. P .here j (omega arith); below = P .below; beyond = λ j m. P .beyond j (omega arith) }
 
 -- ---- what is put stands, and stays where something is put elsewhere
 

@@ -148,11 +148,15 @@ module _ (around : ℕ) (somes : List ℕ) (n : ℕ) (a : Asked) where
       pub term-free : b ≡ false → No 9 ≡ askedTerm around somes n a
       term-free f = rw (← chosen-asked i (sym d ∙ e), ← h, f)
 
--- The greatest name, read from the end: none behind the end, and with the word before i in front.
+-- The greatest name, read from the end: none behind the end, all from the start, and with the word before i in front.
 pub greatest-end : (l : List ℕ) → greatestRuleName (drop (length l) l) ≡ 0
 unfolding greatestRuleName
 greatest-end [] = refl
 greatest-end (w ∷ l) = greatest-end l
+
+pub greatest-whole : (l : List ℕ) (i g : ℕ) → i ≤ 0 → g ≡ greatestRuleName (drop i l) → g ≡ greatestRuleName l
+greatest-whole l zero g h e = e
+greatest-whole l (suc i) g h e = absurd (omega arith)
 
 module _ (l : List ℕ) (i g n : ℕ) (h : 0 < i) (k : i ≤ length l) (e : g ≡ greatestRuleName (drop i l)) (d : n ≡ ruleName (getD l (i - 1) 0)) where
   greatest-of : (r : ℕ) → r ≡ max n g → r ≡ greatestRuleName (drop (i - 1) l)

@@ -32,6 +32,17 @@ ruleAt l i around somes n = readRule (length l) around somes (cursor i n l)
 pub lent : (l : List ℕ) (f : ℕ) → length l ≡ 8 → take (8 - f) (drop f l) ≡ drop f l
 lent l f h = take-all (8 - f) (drop f l) (omega (arith, length-drop f l))
 
+pub lent-few : (l : List ℕ) (f : ℕ) → length l ≡ 8 → length (take (8 - f) (drop f l)) ≤ 8
+lent-few l f h = omega (arith, ap length (lent l f h), length-drop f l)
+
+-- one SOME more stands in the array
+pub next-first : (f g : ℕ) → f + 1 ≡ g → g ≤ 8 → f ≤ 8
+next-first f g e h = omega arith
+
+-- the count of a table that was turned or entered
+pub same-count : (u v : RuleTable) (m : ℕ) → u ≡ v → v .count ≤ m → u .count ≤ m
+same-count u v m e h = rw e h
+
 -- no word is left
 pub read-none : (l : List ℕ) (i around : ℕ) (somes : List ℕ) (t : RuleTable) → length l ≡ 0 → refusedAt 11 i ≡ scanned t (ruleAt l i around somes (t .count))
 unfolding readRule scanned

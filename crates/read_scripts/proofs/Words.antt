@@ -1,5 +1,5 @@
 -- Laws of the part words and of the greatest name. Assumes nothing.
-use Prim.Native.Nat.{ℕ, _-_, _≤_, _<_, max}
+use Prim.Native.Nat.{ℕ, zero, suc, _-_, _≤_, _<_, max}
 use mathlib.Core.List.{List, [], _∷_}
 use mathlib.Core.Logic.{⊎-elim}
 use mathlib.Core.Path.{_≡_, refl}
@@ -45,11 +45,15 @@ pub asked-within : (nest : ℕ) (p r : PartWord) → r ≡ p → nest ≤ 64 →
 unfolding askedPart
 asked-within nest p r e h = rw (le-leb nest 64 h) (byTest (partFits p) (λ d. rw d e) (λ d. rw d e))
 
--- The greatest name, read from the end: none behind the end, and with the word before i in front.
+-- The greatest name, read from the end: none behind the end, all from the start, and with the word before i in front.
 pub greatest-end : (l : List ℕ) → greatestName (drop (length l) l) ≡ 0
 unfolding greatestName
 greatest-end [] = refl
 greatest-end (w ∷ l) = greatest-end l
+
+pub greatest-whole : (l : List ℕ) (i g : ℕ) → i ≤ 0 → g ≡ greatestName (drop i l) → g ≡ greatestName l
+greatest-whole l zero g h e = e
+greatest-whole l (suc i) g h e = absurd (omega arith)
 
 module _ (l : List ℕ) (i g : ℕ) (h : 0 < i) (k : i ≤ length l) (e : g ≡ greatestName (drop i l)) where
   pub greatest-other : (kind (getD l (i - 1) 0) ≡ 8 → ⊥) → g ≡ greatestName (drop (i - 1) l)

@@ -264,7 +264,7 @@ pub move-costs : (s r : ℕ) (σ : Bindings) (a t : ℕ) (b : Closure) (m : Move
 unfolding B
 move-costs s r σ a t b m e x =
     let y = closure-inv σ a t b m e in
-    let c = y .before in
+    let c = y .unsettled in
     let k : Distinct (m .body) = λ j. subst (λ (d : Closure). timesIn j d ≤ 1) (sym (y .settled)) (omega (
       arith,
       settle-total (λ i h. oneIf (eqb j i)) (allSpent (m .news ++ σ)) c,

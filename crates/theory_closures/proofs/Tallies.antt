@@ -216,14 +216,14 @@ module _ (σ : Bindings) (a t : ℕ) where
 
   -- a closure move that is made: the step, and then the closure is settled under the bindings that hold after it
   pub record Moves (b : Closure) (m : MoveMade Action) : Type 0 where
-    pub before : Closure
-    pub makes : Makes (viewUnder σ) (moveHere (viewUnder σ) a t) b before (m .news)
-    pub settled : m .body ≡ settleUnder (m .news ++ σ) before
+    pub unsettled : Closure
+    pub makes : Makes (viewUnder σ) (moveHere (viewUnder σ) a t) b unsettled (m .news)
+    pub settled : m .body ≡ settleUnder (m .news ++ σ) unsettled
 
   settled-inv : (b : Closure) (x : Option (MoveMade Action)) → anywhere (viewUnder σ) (moveHere (viewUnder σ) a t) b ≡ x → (m : MoveMade Action) → settledUnder σ x ≡ some m → Moves b m
   unfolding settledUnder
   settled-inv b none q m e = none≢some e
-  settled-inv b (some l) q m e = subst (Moves b) (some-is e) (record { before = l .body; makes = anywhere-inv (viewUnder σ) (moveHere (viewUnder σ) a t) b l q; settled = refl })
+  settled-inv b (some l) q m e = subst (Moves b) (some-is e) (record { unsettled = l .body; makes = anywhere-inv (viewUnder σ) (moveHere (viewUnder σ) a t) b l q; settled = refl })
 
   pub closure-inv : (b : Closure) (m : MoveMade Action) → closureMove σ a t b ≡ some m → Moves b m
   unfolding closureMove
@@ -232,5 +232,5 @@ module _ (σ : Bindings) (a t : ℕ) where
   pub move-step : (b : Closure) (m : MoveMade Action) → closureMove σ a t b ≡ some m → TallyStep b (m .body) (m .news)
   move-step b m e =
       let x = closure-inv b m e in
-      lift b (x .before) b (m .body) (m .news)
-      (λ T. omega (arith, of-settle T (m .news ++ σ) (x .before), ap (tallyOf T) (x .settled))) (makes-step (x .makes))
+      lift b (x .unsettled) b (m .body) (m .news)
+      (λ T. omega (arith, of-settle T (m .news ++ σ) (x .unsettled), ap (tallyOf T) (x .settled))) (makes-step (x .makes))

@@ -116,7 +116,7 @@ move-low σ limit a t b m l e =
     let M = closure-inv σ a t b m e in
     let K : Keeps (viewUnder σ) (λ (i : ℕ) (h : ClosureHead). i < limit) = record { spends = λ i h q. q; delivers = λ i v n c q x. x } in
     let (x, y, u) = makes-everywhere (viewUnder σ) (λ (i : ℕ) (h : ClosureHead). i < limit) K a t (M .makes) (low-under limit b l) in
-    (x .1, y .1, under-low limit (m .body) (rw (M .settled) (settle-everywhere (λ (i : ℕ) (h : ClosureHead). i < limit) (allSpent (m .news ++ σ)) (M .before) u)))
+    (x .1, y .1, under-low limit (m .body) (rw (M .settled) (settle-everywhere (λ (i : ℕ) (h : ClosureHead). i < limit) (allSpent (m .news ++ σ)) (M .unsettled) u)))
 
 pub move-high : (σ : Bindings) (limit a t : ℕ) (b : Closure) → Low limit b → limit ≤ t → isSome (closureMove σ a t b) ≡ false
 unfolding isSome

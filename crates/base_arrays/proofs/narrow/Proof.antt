@@ -1,6 +1,5 @@
 -- `narrow` meets its contract: the first j are copied. Assumes nothing.
 use Prim.Native.Nat.{_-_, _%_}
-use mathlib.Core.Path.{refl}
 use lib.ListN.{getD}
 use Rattle.base_arrays.proofs.Copying.{Filling, filling-none, filling-next, copy-filled}
 use native.Mathlib.Nat.{mod-eq-of-lt}
@@ -15,7 +14,7 @@ abbrev μ-loop : tie.MeasureT-loop
 μ-loop from r₀ j₀ r j = 64 - j
 
 loop-again : tie.Need-loop-again Inv-loop μ-loop
-loop-again c = filling-next _ _ _ _ _ (c .before .loop .inv) (c .loop-test .taken) refl
+loop-again c = search (needs, filling-next)
 
 pub narrow-spec : {M : Type 1} → statement M
 narrow-spec =
@@ -24,4 +23,4 @@ narrow-spec =
     Inv-loop μ-loop (λ c. filling-none _ _ _ (search needs))
     (λ c. search needs) (λ c. search needs) (λ c. search needs) (λ c. search needs) (λ c. search needs) (λ c. search needs)
     loop-again
-    (λ c low. copy-filled _ _ _ _ _ (c .before .loop .inv) (c .loop-test .left) (search needs) (λ j m. mod-eq-of-lt (low j m))))
+    (λ c low. search (needs, copy-filled, mod-eq-of-lt)))

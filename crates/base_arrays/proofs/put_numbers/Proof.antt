@@ -23,4 +23,4 @@ put-numbers-spec =
     Inv-loop μ-loop (λ c. record { within = omega arith; kept = c .pre .long; puts = putting-none (c .args .at) (c .args .from .now) (c .args .to .now) })
     (λ c. search needs) (λ c. search needs) (λ c. search needs) (λ c. search needs) (λ c. search needs) (λ c. search needs) (λ c. search needs)
     loop-again
-    (λ c. (c .before .loop .inv .kept, put-all _ _ _ _ _ (omega arith) (c .before .loop .inv .puts))))
+    (λ c. search (needs, put-all)))

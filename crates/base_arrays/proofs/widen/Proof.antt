@@ -1,7 +1,7 @@
 -- `widen` meets its contract: the first j are copied. Assumes nothing.
 use Prim.Native.Nat.{ℕ, _<_, _-_}
 use mathlib.Core.List.{List}
-use mathlib.Core.Path.{_≡_, refl, sym, subst}
+use mathlib.Core.Path.{_≡_, sym, subst}
 use lib.ListN.{getD}
 use mir.Syntax.{w8}
 use mir.Val.{Fits}
@@ -18,17 +18,17 @@ abbrev μ-loop : tie.MeasureT-loop
 μ-loop from r₀ j₀ r j = 64 - j
 
 -- an entry of the array is a byte
-byte : (c : tie.At-loop Inv-loop μ-loop) (i : ℕ) → Fits w8 (getD (c .before .args .t1) i 0)
-byte c i = search needs
+byte : (s : tie.Start Inv-loop μ-loop) (i : ℕ) → Fits w8 (getD (s .args .t1) i 0)
+byte s i = search needs
 
 widened : (l r : List ℕ) → r ≡ l → ((i : ℕ) → Fits w8 (getD l i 0)) → Widened l r
 widened l r e low = record { same = e; bytes = λ i m. subst (λ (x : List ℕ). getD x i 0 < 256) (sym e) (low i .fits) }
 
 loop-again : tie.Need-loop-again Inv-loop μ-loop
-loop-again c = filling-next _ _ _ _ _ (c .before .loop .inv) (c .loop-test .taken) refl
+loop-again c = search (needs, filling-next)
 
 returns : tie.Need-returns Inv-loop μ-loop
-returns c = widened _ _ (copy-filled _ _ _ _ _ (c .before .loop .inv) (c .loop-test .left) (search needs) (λ j m. refl)) (byte (c .before))
+returns c = search (needs, widened, copy-filled, byte)
 
 pub widen-spec : {M : Type 1} → statement M
 widen-spec =

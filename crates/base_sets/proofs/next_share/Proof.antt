@@ -8,12 +8,7 @@ wrapping-sub-u64-requires : tie.Need-wrapping-sub-u64-requires
 wrapping-sub-u64-requires c κs = search needs
 
 returns : tie.Need-returns
-returns c =
-    let m = c .before .args .m in let s = c .before .args .s in
-    let sub = c .wrapping-sub-u64 in (
-      (λ k l e. share-next m s (sub .result) k (c .before .fits .m .fits) (c .before .fits .s .fits) (sub .ok) (sub .ensures) l e),
-      (λ e. share-around m s (sub .result) (c .before .fits .m .fits) (c .before .fits .s .fits) (sub .ok) (sub .ensures) e),
-    )
+returns c = ((λ k l e. search (needs, share-next)), (λ e. search (needs, share-around)))
 
 pub next-share-spec : {M : Type 1} → statement M
 next-share-spec = tie.close (tie.spec wrapping-sub-u64-requires returns)

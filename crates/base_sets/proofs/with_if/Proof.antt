@@ -1,11 +1,10 @@
 -- `base_sets::with_if` meets its contract: the set with i, or as it is. Assumes nothing.
-use mathlib.Core.Path.{_∙_}
 use borrow.Author.Needs.{needs}
 use Rattle.base_sets.proofs.with_if.Statement.{statement}
 use Rattle.base_sets.proofs.with_if.Tie as tie
 
 returns : tie.Need-returns
-returns c = c .with .ensures ∙ rw (c .before .if1 .taken)
+returns c = cc
 
 returns-2 : tie.Need-returns-2
 returns-2 c = rw (c .if1 .left)

@@ -7,7 +7,8 @@ use native.Mathlib.Omega.{arith}
 use borrow.Author.Needs.{needs}
 use borrow.Author.Tests.{le-leb, lt-leb, ne-eqb}
 use Rattle.read_messages.specs.Words.{kind, operand, nameFits}
-use Rattle.read_messages.specs.ReadMessage.{messageWord}
+use Rattle.read_messages.specs.ReadMessage.{messageKind, messageWord}
+use Rattle.read_messages.specs.declared.MessageWord.{MessageWord}
 use Rattle.read_messages.specs.declared.MessageWord.the-variants.{Name, Unfit}
 use Rattle.read_messages.proofs.message_word.Statement.{statement}
 use Rattle.read_messages.proofs.message_word.Tie as tie
@@ -17,8 +18,12 @@ either : {A : Type 0} (t : Bool) (a : A) → cond t a a ≡ a
 either true a = refl
 either false a = refl
 
--- a name by its operand, and a word that is neither name nor variable
+-- a word with operand zero by its kind, a name by its operand, and a word that is neither name nor variable
 module _ (w : ℕ) where
+  zero-word : (m : MessageWord) (k : ℕ) → kind w ≡ k → operand w ≡ 0 → m ≡ messageKind k 0 → m ≡ messageWord w
+  unfolding messageWord
+  zero-word m k e o d = rw (e, o) d
+
   large : kind w ≡ 8 → 255 < operand w → Unfit ≡ messageWord w
   unfolding messageWord nameFits
   large e h = rw (e, le-leb 1 (operand w) (omega arith), lt-leb (operand w) 255 h)
@@ -36,8 +41,8 @@ module _ (w : ℕ) where
   other a b c d e f g = rw (ne-eqb _ _ a, ne-eqb _ _ b, ne-eqb _ _ c, ne-eqb _ _ d, ne-eqb _ _ e, ne-eqb _ _ f, ne-eqb _ _ g)
 
 returns : tie.Need-returns
-unfolding messageWord kind operand nameFits
-returns c = rw (c .before .if1 .taken, c .if2 .taken)
+unfolding kind operand nameFits
+returns c = search (needs, zero-word)
 
 returns-3 : tie.Need-returns-3
 unfolding kind operand
@@ -48,8 +53,8 @@ unfolding kind operand
 returns-2 c = search (needs, large)
 
 returns-8 : tie.Need-returns-8
-unfolding messageWord kind operand
-returns-8 c = rw (c .match .keys3, c .before .if5 .left)
+unfolding kind operand
+returns-8 c = search (needs, zero-word)
 
 pub message-word-spec : {M : Type 1} → statement M
 unfolding messageWord kind operand
@@ -57,6 +62,5 @@ message-word-spec =
     tie.close
     (tie.spec
     returns returns-2 returns-3 (λ c. rw (c .if4 .taken)) (λ c. search (needs, unfit))
-    (λ c. rw (c .match .keys1, c .before .if5 .left)) (λ c. rw (c .match .keys2, c .before .if5 .left))
-    returns-8 (λ c. rw (c .match .keys4, c .before .if5 .left))
-    (λ c. rw (c .match .keys5, c .before .if5 .left)) (λ c. search (needs, other)))
+    (λ c. search (needs, zero-word)) (λ c. search (needs, zero-word)) returns-8
+    (λ c. search (needs, zero-word)) (λ c. search (needs, zero-word)) (λ c. search (needs, other)))

@@ -25,7 +25,7 @@ returns c = variable _ (c .if1 .taken)
 
 returns-2 : tie.Need-returns-2
 unfolding ruleName kind operand
-returns-2 c = rw (c .if2 .taken, lt-ltb _ _ (c .before .if1 .left))
+returns-2 c = search (needs, c .if2 .taken, lt-ltb)
 
 returns-3 : tie.Need-returns-3
 unfolding ruleName kind operand
@@ -33,7 +33,7 @@ returns-3 c = search (needs, c .if3 .taken, lt-ltb)
 
 returns-4 : tie.Need-returns-4
 unfolding ruleName kind operand
-returns-4 c = rw (ne-eqb _ _ (c .before .if2 .left), ne-eqb _ _ (c .if3 .left))
+returns-4 c = search (needs, ne-eqb)
 
 pub rule-name-spec : {M : Type 1} → statement M
 rule-name-spec = tie.close (tie.spec returns returns-2 returns-3 returns-4)

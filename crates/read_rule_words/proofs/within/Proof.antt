@@ -1,5 +1,4 @@
 -- `read_rule_words::within` meets its contract. Assumes nothing.
-use native.Mathlib.Omega.{arith}
 use borrow.Author.Needs.{needs}
 use borrow.Author.Tests.{le-leb, lt-leb}
 use Rattle.read_rule_words.specs.RuleWords.{levelled}
@@ -8,7 +7,7 @@ use Rattle.read_rule_words.proofs.within.Tie as tie
 
 returns : tie.Need-returns
 unfolding levelled
-returns c = rw (lt-leb (c .before .args .around) 64 (omega arith))
+returns c = search (needs, lt-leb)
 
 returns-2 : tie.Need-returns-2
 unfolding levelled

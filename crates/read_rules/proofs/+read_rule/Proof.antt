@@ -1,7 +1,8 @@
 -- `read_rules::read_rule` meets its contract. The measure is how many words are left. Assumes nothing.
 use Prim.Native.Nat.{ℕ, _+_, _-_, _<_, _≤_}
-use mathlib.Core.Path.{_≡_, refl, sym, ap, _∙_}
+use mathlib.Core.Path.{_≡_, refl, sym, _∙_}
 use native.Mathlib.Omega.{arith}
+use native.Mathlib.Nat.{add-le-add, le-refl}
 use lib.ListN.{length, getD, drop, length-drop}
 use borrow.Author.Needs.{needs}
 use borrow.Fn.Kinds.{In}
@@ -12,8 +13,7 @@ use Rattle.read_rule_words.specs.ReadRule.{ruleKind}
 use Rattle.read_rule_words.specs.RuleWords.{asked}
 use Rattle.read_rule_words.specs.declared.Asked.{Asked}
 use Rattle.read_rule_words.specs.declared.Asked.the-variants.{Leaf, One, Two, Choice, Place}
-use Rattle.read_rules.specs.declared.RuleTable.{RuleTable}
-use Rattle.read_rules.proofs.Steps.{lent, First, level, behind, Left, read-none, no-read, leaf-read, one-read, two-refused, left-read, two-read, choice-read, place-read}
+use Rattle.read_rules.proofs.Steps.{lent, lent-few, next-first, same-count, First, level, behind, Left, read-none, no-read, leaf-read, one-read, two-refused, left-read, two-read, choice-read, place-read}
 use Rattle.read_rules.proofs.read_rule.Reads as read-rule
 use Rattle.read_rules.proofs.read_rule.Kinds as read-rule-kinds
 use Rattle.read_rules.proofs.+read_rule.Lts-read_rule as lts
@@ -36,26 +36,41 @@ claims t = (refused-reads.Asked, refused-reads.Learnt, ask-rule-reads.Asked, ask
 
 module _ (t : ℕ) where
   -- the way from a point of the code to one before it
-  abbrev lent-start : lts.After-all2 (claims t) (read-rule-at t) read-rule.Post → lts.Start (claims t) (read-rule-at t) read-rule.Post
-  lent-start c = c .before .before .before .before .before
-
   abbrev asked-start : lts.After-ask-rule (claims t) (read-rule-at t) read-rule.Post → lts.Start (claims t) (read-rule-at t) read-rule.Post
-  asked-start c = lent-start (c .before .before)
+  asked-start c = c .before .before .before .before .before .before .before
 
-  abbrev read-left : lts.After-known-told2 (claims t) (read-rule-at t) read-rule.Post → lts.After-read-rule2 (claims t) (read-rule-at t) read-rule.Post
-  read-left c = c .before .before .before
+  abbrev read-one : lts.After-read-rule (claims t) (read-rule-at t) read-rule.Post → lts.After-read-rule-arg (claims t) (read-rule-at t) read-rule.Post
+  read-one c = c .before
 
   abbrev refused-left : lts.After-enum-told4 (claims t) (read-rule-at t) read-rule.Post → lts.After-read-rule2 (claims t) (read-rule-at t) read-rule.Post
   refused-left c = c .before .before
 
-  abbrev second-left : lts.After-read-rule-arg3 (claims t) (read-rule-at t) read-rule.Post → lts.After-known-told2 (claims t) (read-rule-at t) read-rule.Post
-  second-left c = c .before .before
+  abbrev read-left : lts.After-o (claims t) (read-rule-at t) read-rule.Post → lts.After-read-rule2 (claims t) (read-rule-at t) read-rule.Post
+  read-left c = c .before .before
+
+  abbrev told-left : lts.After-known-told2 (claims t) (read-rule-at t) read-rule.Post → lts.After-o (claims t) (read-rule-at t) read-rule.Post
+  told-left c = c .before
+
+  abbrev turned-left : lts.After-turn (claims t) (read-rule-at t) read-rule.Post → lts.After-o (claims t) (read-rule-at t) read-rule.Post
+  turned-left c = c .before .before
+
+  abbrev second-left : lts.After-read-rule-arg3 (claims t) (read-rule-at t) read-rule.Post → lts.After-o (claims t) (read-rule-at t) read-rule.Post
+  second-left c = c .before .before .before
+
+  abbrev second-read : lts.After-read-rule3 (claims t) (read-rule-at t) read-rule.Post → lts.After-o (claims t) (read-rule-at t) read-rule.Post
+  second-read c = c .before .before .before .before
 
   abbrev some-choice : lts.After-read-rule-arg4 (claims t) (read-rule-at t) read-rule.Post → lts.After-enum-told5 (claims t) (read-rule-at t) read-rule.Post
   some-choice c = c .before .before
 
+  abbrev read-choice : lts.After-read-rule4 (claims t) (read-rule-at t) read-rule.Post → lts.After-enum-told5 (claims t) (read-rule-at t) read-rule.Post
+  read-choice c = c .before .before .before
+
   abbrev enter-place : lts.After-read-rule-arg5 (claims t) (read-rule-at t) read-rule.Post → lts.After-enum-told6 (claims t) (read-rule-at t) read-rule.Post
   enter-place c = c .before .before
+
+  abbrev read-place : lts.After-read-rule5 (claims t) (read-rule-at t) read-rule.Post → lts.After-enum-told6 (claims t) (read-rule-at t) read-rule.Post
+  read-place c = c .before .before .before
 
   long : (s : lts.Start (claims t) (read-rule-at t) read-rule.Post) → length (s .args .somes .indices) ≡ 8
   long s = search needs
@@ -95,6 +110,9 @@ module _ (t : ℕ) where
   abbrev at-two : lts.After-read-rule-arg2 (claims t) (read-rule-at t) read-rule.Post → First
   at-two c = asked-at (c .before .before .before) Two (c .before .enum-told3 .given .1)
 
+  abbrev left-first : lts.After-read-rule2 (claims t) (read-rule-at t) read-rule.Post → First
+  left-first c = at-two (c .before)
+
   abbrev choice : lts.After-enum-told5 (claims t) (read-rule-at t) read-rule.Post → First
   choice c = asked-at (c .before .before) Choice (c .enum-told5 .given .1)
 
@@ -102,41 +120,38 @@ module _ (t : ℕ) where
   place c = asked-at (c .before .before) Place (c .enum-told6 .given .1)
 
   -- the first of two rules was read
-  left : (c : lts.After-known-told2 (claims t) (read-rule-at t) read-rule.Post) → let x = at-two (read-left c .before) in Left x (read-left c .read-rule2 .result) (read-left c .read-rule2 .ensures) (c .before .o .given .0 .0) (c .before .o .given .1) × (x .at + length (x .words) ≤ 256)
-  left c = (left-read (at-two (read-left c .before)) _ (read-left c .read-rule2 .ensures) _ (c .before .o .given .1), at-two (read-left c .before) .asks .few)
+  left : (c : lts.After-o (claims t) (read-rule-at t) read-rule.Post) → let x = left-first (read-left c) in Left x (read-left c .read-rule2 .result) (read-left c .read-rule2 .ensures) (c .o .given .0 .0) (c .o .given .1) × (x .at + length (x .words) ≤ 256)
+  left c = (left-read (left-first (read-left c)) _ (read-left c .read-rule2 .ensures) _ (c .o .given .1), left-first (read-left c) .asks .few)
 
   ask-rule-requires : lts.Need-ask-rule-requires (claims t) (read-rule-at t) read-rule.Post
-  ask-rule-requires c κs =
-      let s = lent-start (c .before) in
-      omega (arith, ap length (lent (s .args .somes .indices) (s .args .somes .first) (long s)), length-drop (s .args .somes .first) (s .args .somes .indices), long s)
+  ask-rule-requires c κs = search (needs, long, lent-few)
 
   read-rule-requires-3 : lts.Need-read-rule-requires-3 (claims t) (read-rule-at t) read-rule.Post
   read-rule-requires-3 c κs =
       let b = left (second-left c) in
-      let x = at-two (read-left (second-left c) .before) in
-      let l = length-part (x .words) (second-left c .before .o .given .0 .0 - x .at) in
-      let n = b .0 .fewer (x .asks .fewer) in
-      (omega (arith, l, b), record { few = omega (arith, l, b); shallow = omega (arith, level x _ refl); somes = x .asks .somes; fewer = omega (arith, n, ap (λ (x : RuleTable). x .count) (c .before .turn .ensures)) })
+      let x = left-first (read-left (second-left c)) in
+      let l = length-part (x .words) (second-left c .o .given .0 .0 - x .at) in
+      (omega (arith, l, b), record { few = omega (arith, l, b); shallow = omega (arith, level x _ refl); somes = x .asks .somes; fewer = search (needs, same-count, b .0 .fewer (x .asks .fewer)) })
 
   returns-2 : lts.Need-returns-2 (claims t) (read-rule-at t) read-rule.Post
-  returns-2 c = two-refused (at-two (refused-left c .before)) _ (refused-left c .read-rule2 .ensures) _ _ (c .enum-told4 .given .1) refl
+  returns-2 c = two-refused (left-first (refused-left c)) _ (refused-left c .read-rule2 .ensures) _ _ (c .enum-told4 .given .1) refl
 
   returns-3 : lts.Need-returns-3 (claims t) (read-rule-at t) read-rule.Post
   returns-3 c = c .refused2 .ensures ∙ no-read (no c) _ refl
 
   returns-5 : lts.Need-returns-5 (claims t) (read-rule-at t) read-rule.Post
-  returns-5 c = one-read (at-one (c .before)) _ (c .read-rule .ensures) refl
+  returns-5 c = one-read (at-one (read-one c)) _ (c .read-rule .ensures) refl
 
   returns-6 : lts.Need-returns-6 (claims t) (read-rule-at t) read-rule.Post
   returns-6 c =
-      let n = second-left (c .before) in
-      two-read (at-two (read-left n .before)) _ (read-left n .read-rule2 .ensures) _ (n .before .o .given .1) _ _ (cc) (c .read-rule3 .ensures) refl
+      let n = second-read c in
+      two-read (left-first (read-left n)) _ (read-left n .read-rule2 .ensures) _ (n .o .given .1) _ _ (cc) (c .read-rule3 .ensures) refl
 
   returns-7 : lts.Need-returns-7 (claims t) (read-rule-at t) read-rule.Post
-  returns-7 c = choice-read (choice (some-choice (c .before))) _ _ (cc) (c .read-rule4 .ensures) refl
+  returns-7 c = choice-read (choice (read-choice c)) _ _ (cc) (c .read-rule4 .ensures) refl
 
   returns-8 : lts.Need-returns-8 (claims t) (read-rule-at t) read-rule.Post
-  returns-8 c = place-read (place (enter-place (c .before))) _ _ (cc) (c .read-rule5 .ensures) refl
+  returns-8 c = place-read (place (read-place c)) _ _ (cc) (c .read-rule5 .ensures) refl
 
 pub +read-rule-spec : {M : Type 1} → statement M
 +read-rule-spec =
@@ -149,7 +164,7 @@ pub +read-rule-spec : {M : Type 1} → statement M
     (λ c κs. search needs)
     (λ c. c .refused .ensures ∙ search (needs, read-none))
     (λ c. search needs) (λ c. search needs) (λ c. search needs) (λ c. search needs)
-    (λ c. omega (arith, long t (lent-start t c)))
+    (λ c. search (needs, long t))
     (ask-rule-requires t)
     (λ c. search needs) (λ c κs. search needs) (λ c. search needs) (λ c. search needs) (λ c. search needs)
     (λ c. search needs) (λ c. search needs) (λ c. search needs) (λ c. search needs) (λ c. search needs)
@@ -159,18 +174,18 @@ pub +read-rule-spec : {M : Type 1} → statement M
     (λ c κs. behind (at-two t c) t _ _ (omega arith) (level (at-two t c) _ refl) (at-two t c .asks .somes) (omega arith))
     (λ c. search needs) (λ c. search needs)
     (returns-2 t)
-    (λ c. omega (arith, left t c)) (λ c κs. omega (arith, left t c)) (λ c. omega (arith, left t (c .before)))
-    (λ c. omega (arith, left t (c .before))) (λ c. omega (arith, left t (c .before))) (λ c. omega (arith, left t (c .before)))
-    (λ c. omega (arith, left t (c .before))) (λ c. search needs)
+    (λ c. omega (arith, left t (told-left t c))) (λ c κs. omega (arith, left t (told-left t c))) (λ c. omega (arith, left t (turned-left t c)))
+    (λ c. omega (arith, left t (turned-left t c))) (λ c. omega (arith, left t (turned-left t c))) (λ c. omega (arith, left t (turned-left t c)))
+    (λ c. omega (arith, left t (turned-left t c))) (λ c. search needs)
     (read-rule-requires-3 t)
     (λ c. search needs) (λ c. search needs)
     (λ c κs. record { room = omega (arith, choice t c .free, level (choice t c) _ refl); somes = choice t c .asks .somes })
     (λ c. search needs) (λ c. search needs) (λ c. search needs) (λ c. search needs) (λ c. search needs)
-    (λ c κs. behind (choice t (some-choice t c)) t _ _ (omega arith) (level (choice t (some-choice t c)) _ refl .0) (omega (arith, c .before .with-some .ensures .sooner)) (omega arith))
+    (λ c κs. behind (choice t (some-choice t c)) t _ _ (omega arith) (level (choice t (some-choice t c)) _ refl .0) (search (needs, next-first)) (omega arith))
     (λ c. search needs)
     (λ c κs. record { inside = omega (arith, place t c .some, place t c .asks .few); fewer = omega (arith, place t c .some, place t c .asks) })
     (λ c. search needs) (λ c. search needs) (λ c. search needs) (λ c. search needs) (λ c. search needs)
-    (λ c κs. behind (place t (enter-place t c)) t _ _ (omega arith) (level (place t (enter-place t c)) _ refl) (place t (enter-place t c) .asks .somes) (omega (arith, ap (λ (x : RuleTable). x .count) (c .before .enter .ensures))))
+    (λ c κs. behind (place t (enter-place t c)) t _ _ (omega arith) (level (place t (enter-place t c)) _ refl) (place t (enter-place t c) .asks .somes) (search (needs, same-count, add-le-add, le-refl)))
     (returns-3 t)
     (λ c. leaf-read (leaf t c) refl)
     (returns-5 t) (returns-6 t) (returns-7 t) (returns-8 t)

@@ -13,15 +13,15 @@ use Rattle.read_rules.proofs.read_whole_rule.Tie as tie
 abbrev read-start : tie.After-read-rule → tie.Start
 read-start c = c .before .before .before .before .before
 
-abbrev told-read : tie.After-known-told → tie.After-read-rule
-told-read c = c .before .before .before
+abbrev told-read : tie.After-o → tie.After-read-rule
+told-read c = c .before .before
 
-abbrev count-told : tie.Else4 → tie.After-known-told
-count-told c = c .before .before
+abbrev count-told : tie.Else4 → tie.After-o
+count-told c = c .before .before .before
 
 -- question 7 and the rule's reading
 read : (c : tie.After-read-rule) → RuleAsked (read-start c .args .parts) (read-start c .args .rule .now) (c .read-rule .result)
-read c = record { some = omega arith; most = omega arith; rule = rw (c .before .vacant .ensures) at (c .read-rule .ensures) }
+read c = record { some = omega arith; most = omega arith; rule = cc }
 
 returns-4 : tie.Need-returns-4
 returns-4 c = answers _ _ _ (c .refused3 .ensures ∙ search (needs, rule-behind, read))
@@ -33,12 +33,12 @@ pub read-whole-rule-spec : {M : Type 1} → statement M
 read-whole-rule-spec =
     tie.close
     (tie.spec
-    (λ c κs. search needs) (λ c. answers _ _ _ (c .refused .ensures ∙ rule-none _ _ (c .before .if1 .taken)))
-    (λ c κs. search needs) (λ c. answers _ _ _ (c .refused2 .ensures ∙ rule-long _ _ (c .before .if2 .taken)))
+    (λ c κs. search needs) (λ c. answers _ _ _ (c .refused .ensures ∙ search (needs, rule-none)))
+    (λ c κs. search needs) (λ c. answers _ _ _ (c .refused2 .ensures ∙ search (needs, rule-long)))
     (λ c κs. search needs) (λ c κs. search (needs, ap (λ (x : RuleTable). x .count) (c .vacant .ensures))) (λ c. search needs) (λ c. search needs)
     (λ c. answers _ _ _ (search (needs, rule-refused, read)))
     (λ c κs. search needs) returns-4 (λ c κs. search needs)
     (λ c. answers _ _ _ (c .refused4 .ensures ∙ search (needs, rule-many, read, lt-of-lt-of-le, le-add-right)))
-    (λ c. omega (arith, rule-fewer _ (read (told-read (count-told c))) _ (count-told c .before .o .given .1))) (λ c κs. search needs)
+    (λ c. omega (arith, rule-fewer _ (read (told-read (count-told c))) _ (count-told c .o .given .1))) (λ c κs. search needs)
     (λ c. answers _ _ _ (c .refused5 .ensures ∙ search (needs, rule-many, read)))
     returns-7)

@@ -19,7 +19,7 @@ with-start c = c .before .before .before .before
 
 returns : tie.Need-returns
 unfolding entered
-returns c = rw (le-ltb (c .before .args .table .count) 64 (omega arith))
+returns c = search (needs, le-ltb)
 
 returns-2 : tie.Need-returns-2
 unfolding entered

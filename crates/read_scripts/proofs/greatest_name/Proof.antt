@@ -1,12 +1,11 @@
 -- `read_scripts::greatest_name` meets its contract: the greatest name of the words behind i. Assumes nothing.
 use Prim.Native.Nat.{_≤_}
 use mathlib.Core.Path.{_≡_, sym}
-use native.Mathlib.Omega.{arith}
 use borrow.Author.Needs.{needs}
 use lib.ListN.{length, drop}
 use Rattle.read_messages.specs.Words.{kind, operand}
 use Rattle.read_scripts.specs.Measures.{greatestName}
-use Rattle.read_scripts.proofs.Words.{greatest-end, greatest-other, greatest-more, greatest-kept}
+use Rattle.read_scripts.proofs.Words.{greatest-end, greatest-whole, greatest-other, greatest-more, greatest-kept}
 use Rattle.read_scripts.proofs.greatest_name.Statement.{statement}
 use Rattle.read_scripts.proofs.greatest_name.Tie as tie
 
@@ -29,9 +28,7 @@ unfolding kind operand
 loop-again-3 c = (search needs, search (needs, greatest-other, c .if1 .left))
 
 returns : tie.Need-returns Inv-loop μ-loop
-returns c =
-    let z : c .before .loop .i ≡ 0 = omega arith in
-    rw z at (c .before .loop .inv .1)
+returns c = search (needs, greatest-whole)
 
 pub greatest-name-spec : {M : Type 1} → statement M
 greatest-name-spec =

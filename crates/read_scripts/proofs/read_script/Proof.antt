@@ -14,7 +14,7 @@ read-start c = c .before .before .before .before .before
 
 -- question 1 and the body's reading
 read : (c : tie.After-read-body) → BodyAsked (read-start c .args .s .now) (c .read-body .result)
-read c = record { some = omega arith; most = omega arith; body = rw (c .before .vacant .ensures) at (c .read-body .ensures) }
+read c = record { some = omega arith; most = omega arith; body = cc }
 
 returns-4 : tie.Need-returns-4
 returns-4 c = answers _ _ (c .refused3 .ensures ∙ search (needs, script-behind, read))
@@ -26,8 +26,8 @@ pub read-script-spec : {M : Type 1} → statement M
 read-script-spec =
     tie.close
     (tie.spec
-    (λ c κs. search needs) (λ c. answers _ _ (c .refused .ensures ∙ script-none _ (c .before .if1 .taken)))
-    (λ c κs. search needs) (λ c. answers _ _ (c .refused2 .ensures ∙ script-long _ (c .before .if2 .taken)))
+    (λ c κs. search needs) (λ c. answers _ _ (c .refused .ensures ∙ search (needs, script-none)))
+    (λ c κs. search needs) (λ c. answers _ _ (c .refused2 .ensures ∙ search (needs, script-long)))
     (λ c κs. search needs) (λ c κs. search (needs, ap (λ (x : Table). x .count) (c .vacant .ensures))) (λ c. search needs) (λ c. search needs)
     (λ c. answers _ _ (search (needs, script-refused, read)))
     (λ c κs. search needs) returns-4 (λ c κs. search needs)

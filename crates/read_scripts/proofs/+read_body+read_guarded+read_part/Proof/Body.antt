@@ -20,17 +20,20 @@ module _ (t : ℕ) where
   abbrev loop-start : lts.At-loop (read-body-claims t) (read-body-at t) reads.Post Inv-loop μ-loop → lts.Start (read-body-claims t) (read-body-at t) reads.Post Inv-loop μ-loop
   loop-start c = c .before .before
 
-  abbrev asked-loop : lts.After-ask-part (read-body-claims t) (read-body-at t) reads.Post Inv-loop μ-loop → lts.At-loop (read-body-claims t) (read-body-at t) reads.Post Inv-loop μ-loop
-  asked-loop c = c .before .before .before
+  abbrev part-loop : lts.After-read-part-arg (read-body-claims t) (read-body-at t) reads.Post Inv-loop μ-loop → lts.At-loop (read-body-claims t) (read-body-at t) reads.Post Inv-loop μ-loop
+  part-loop c = c .before .before .before .before .before
 
-  abbrev part-asked : lts.After-read-part-arg (read-body-claims t) (read-body-at t) reads.Post Inv-loop μ-loop → lts.After-ask-part (read-body-claims t) (read-body-at t) reads.Post Inv-loop μ-loop
-  part-asked c = c .before .before
+  abbrev told-read : lts.After-o (read-body-claims t) (read-body-at t) reads.Post Inv-loop μ-loop → lts.After-read-part (read-body-claims t) (read-body-at t) reads.Post Inv-loop μ-loop
+  told-read c = c .before .before
 
-  abbrev told-read : lts.After-known-told (read-body-claims t) (read-body-at t) reads.Post Inv-loop μ-loop → lts.After-read-part (read-body-claims t) (read-body-at t) reads.Post Inv-loop μ-loop
-  told-read c = c .before .before .before
+  abbrev told-loop : lts.After-o (read-body-claims t) (read-body-at t) reads.Post Inv-loop μ-loop → lts.At-loop (read-body-claims t) (read-body-at t) reads.Post Inv-loop μ-loop
+  told-loop c = part-loop (told-read c .before)
+
+  abbrev pub next-told : lts.After-t (read-body-claims t) (read-body-at t) reads.Post Inv-loop μ-loop → lts.After-o (read-body-claims t) (read-body-at t) reads.Post Inv-loop μ-loop
+  next-told c = c .before .before
 
   -- the part that was read, and the loop behind it
-  pub again : (c : lts.After-known-told (read-body-claims t) (read-body-at t) reads.Post Inv-loop μ-loop) → let l = asked-loop (part-asked (told-read c .before)) in let a = loop-start l .args in BodyOn (a .s .now) (a .at) (a .nest) (drop (a .around .first) (a .around .indices)) (a .owner) (a .table) (l .loop .k) (c .before .o .given .0 .0) (told-read c .read-part .result .table)
+  pub again : (c : lts.After-o (read-body-claims t) (read-body-at t) reads.Post Inv-loop μ-loop) → let l = told-loop c in let a = loop-start l .args in BodyOn (a .s .now) (a .at) (a .nest) (drop (a .around .first) (a .around .indices)) (a .owner) (a .table) (l .loop .k) (c .o .given .0 .0) (told-read c .read-part .result .table)
   again c = search (needs, body-again)
 
   pub returns : lts.Need-returns (read-body-claims t) (read-body-at t) reads.Post Inv-loop μ-loop
@@ -38,14 +41,14 @@ module _ (t : ℕ) where
 
   pub read-part-requires : lts.Need-read-part-requires (read-body-claims t) (read-body-at t) reads.Post Inv-loop μ-loop
   read-part-requires c κs =
-      let l = asked-loop (part-asked c) in
-      body-asks _ _ _ _ _ _ _ _ (l .loop .inv) (omega arith) _ (part-asked c .ask-part .ensures) (loop-start l .pre .1) t (loop-start l .pre .0)
+      let l = part-loop c in
+      body-asks _ _ _ _ _ _ _ _ (l .loop .inv) (omega arith) _ (search needs) (loop-start l .pre .1) t (loop-start l .pre .0)
 
   pub returns-2 : lts.Need-returns-2 (read-body-claims t) (read-body-at t) reads.Post Inv-loop μ-loop
   returns-2 c = search (needs, body-hands)
 
   pub loop-again : lts.Need-loop-again (read-body-claims t) (read-body-at t) reads.Post Inv-loop μ-loop
-  loop-again c = again (c .before) .loop
+  loop-again c = again (next-told c) .loop
 
   pub returns-3 : lts.Need-returns-3 (read-body-claims t) (read-body-at t) reads.Post Inv-loop μ-loop
   returns-3 c = c .refused .ensures ∙ search (needs, body-ends)
