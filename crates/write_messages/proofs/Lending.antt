@@ -58,6 +58,9 @@ partly-within b h = omega (arith, partly-lent b)
 pub partly-sum : {xs ys : List ℕ} {m r : ℕ} → Partly xs ys m → r ≤ length (lent m ys) → Fits w64 (r + m)
 partly-sum b h = omega (arith, partly-within b h, b .long)
 
+pub lent-sum : (m r : ℕ) (xs ys : List ℕ) → length xs * 4 < 2 ^ 63 → length ys ≡ length xs → m ≤ length xs → r ≤ length (lent m ys) → Fits w64 (r + m)
+lent-sum m r xs ys long kept h i = let b : Partly xs ys m = record { long = long; within = h; kept = kept } in partly-sum b i
+
 -- the lent tail comes back with its length
 pub partly-kept : {xs ys : List ℕ} {m : ℕ} → Partly xs ys m → (zs : List ℕ) → length zs ≡ length (lent m ys) → length (joined m ys zs) ≡ length xs
 partly-kept {xs} {ys} {m} b zs e =

@@ -6,8 +6,6 @@ use mathlib.Core.Path.{_≡_, ap}
 use native.Mathlib.Omega.{arith}
 use borrow.Author.Needs.{needs}
 use lib.ListN.{length, drop, getD}
-use mir.Syntax.{w64}
-use mir.Val.{Fits}
 use Rattle.read_messages.specs.Message.{Message}
 use Rattle.read_messages.specs.Spelling.{spelled}
 use Rattle.read_messages.specs.declared.MessageWord.{MessageWord}
@@ -24,7 +22,7 @@ use Rattle.theory_written_trees.specs.Write.{Indices}
 use Rattle.write_messages.specs.Asked.{PendingItemsAsked}
 use Rattle.write_messages.specs.Buffer.{Wrote}
 use Rattle.write_messages.specs.Passes.{allWritten, link, strung}
-use Rattle.write_messages.proofs.Lending.{lent, joined, Partly, partly-lent, partly-sum, partly-kept, wrote-none, wrote-as, wrote-if, wrote-more}
+use Rattle.write_messages.proofs.Lending.{lent, joined, Partly, partly-lent, partly-sum, lent-sum, partly-kept, wrote-none, wrote-as, wrote-if, wrote-more}
 use Rattle.write_messages.proofs.Items.{strung-none, strung-single, strung-split}
 use Rattle.write_messages.proofs.Words.{few-words, fewer-older, older-kept}
 use borrow.Fn.Kinds.{In, Out}
@@ -97,9 +95,6 @@ behind-asked : (script vs ps cs rs is ws ts xs ys : List ℕ) (p o m : ℕ) (b :
     → PendingItemsAsked script ts (b .left) 0 vs ps cs rs is (lent m ys)
 behind-asked script vs ps cs rs is ws ts xs ys p o m b a passed e h kept =
     record { room = omega (arith, ap length e, passed .room, a .room); asked = record { counted = a .asked .counted; indexed = a .asked .indexed; small = omega (arith, a .asked .small, partly-lent (partly-small o m xs ys (a .asked .small) h kept)) } }
-
-behind-sum : (o m r : ℕ) (xs ys : List ℕ) → o + length xs < 4294967295 → length ys ≡ length xs → m ≤ length xs → r ≤ length (lent m ys) → Fits w64 (r + m)
-behind-sum o m r xs ys small kept h i = partly-sum (partly-small o m xs ys small h kept) i
 
 -- what is pending is the word's own items and those behind them
 module _ (script vs ps cs ws ts : List ℕ) (p c o : ℕ) (b : Behind) (passed : Passed ws p b) (e : ts ≡ drop (b .used) ws) (count : Counts c vs cs ws) (ok : Kept itemCount script vs ps cs) where
@@ -213,7 +208,7 @@ module _ (t : ℕ) where
       (λ c κs. search needs) past-requires (λ c. search needs) past-returns own-requires
       (λ c. search needs) (λ c κs. search needs) (λ c κs. search needs)
       (λ c. search (tail-start c .pre .1, needs)) (λ c. search needs) (λ c. search needs) (λ c. omega arith)
-      behind-requires (λ c. search (behind-sum, behind-end c .pre .1 .asked .small, needs)) (λ c. search (partly-kept, needs)) behind-returns
+      behind-requires (λ c. search (lent-sum, behind-end c .good .1 .1 .1 .1 .1 .1 .1 .1 .1 .1 .0, needs)) (λ c. search (partly-kept, needs)) behind-returns
 
 pub +write-own+write-rest-spec : {M : Type 1} → statement M
 +write-own+write-rest-spec = close μ-own μ-rest (λ t. own-met t) (λ t. rest-met t)
