@@ -9,12 +9,12 @@ use borrow.Author.Needs.{needs}
 use lib.ListN.{length, getD}
 use Rattle.base_slices.specs.Sums.{capped}
 use Rattle.base_sets.specs.Sets.{members, headOr}
-use Rattle.base_sets.proofs.Members.{first-is, first-below, not-none, members-empty}
+use Rattle.base_sets.proofs.Members.{first-is, not-none, members-empty}
 use Rattle.theory_closures.specs.Closure.{ClosureHead, Bindings, unfoldHead}
 use Rattle.engine_states.specs.Represents.{headOf, heads}
 use Rattle.theory_written_trees.specs.Write.{Indices, writeHead}
-use Rattle.write_trees.specs.Bodies.{hasBody, Scripted, CountsPart, CountsBody}
-use Rattle.write_trees.proofs.Parts.{counts-none, counts-end, counts-inside, counts-only, counts-more}
+use Rattle.write_trees.specs.Bodies.{hasBody, CountsPart, CountsBody}
+use Rattle.write_trees.proofs.Parts.{first-low, part-placed, part-spent, counts-none, counts-end, counts-inside, counts-only, counts-more}
 use borrow.Fn.Kinds.{In, Out}
 use borrow.Fn.PlainCycle.{Measures, is, falls, and}
 use Rattle.write_trees.proofs.count_body.Reads as count-body
@@ -51,9 +51,6 @@ module _ (σ : Bindings) (k : ℕ → List ℕ) (w : ℕ → ClosureHead) (left 
       → CountsPart σ k w (k i) (w i) (fuel - 1) one′ → CountsBody σ k w (members l) (fuel - 1) beside → t ≡ capped (one′ + beside) → CountsBody σ k w (members left) fuel t
   more-counts i l one′ beside t h n f e = counts-more σ k w (members left) fuel i (members l) (first-is left i h n f ∙ ap (λ (ms : List ℕ). i ∷ ms) (sym e))
 
-first-low : (m i : ℕ) → m < 2 ^ 64 → (m ≡ 0 → ⊥) → i ≡ headOr 64 (members m) → i < 64
-first-low m i h n e = first-below m i (tail (members m)) (first-is m i h n e)
-
 -- a part's head, and then its body, if it has one
 module _ (σ : Bindings) (k : ℕ → List ℕ) (script kinds starts offsets : List ℕ) (i fuel front : ℕ) (b : Bool) where
   abbrev w : ℕ → ClosureHead
@@ -65,12 +62,6 @@ module _ (σ : Bindings) (k : ℕ → List ℕ) (script kinds starts offsets : L
 
     only-counts : b ≡ false → CountsPart σ k w (k i) (w i) fuel front
     only-counts e = counts-only σ k w (k i) fuel (w i) counted (sym (has script _ _) ∙ e)
-
-part-placed : (starts offsets : List ℕ) (i : ℕ) → Scripted starts offsets → getD starts i 0 < 65536
-part-placed starts offsets i ok = ok .placed i
-
-part-spent : (starts offsets : List ℕ) (i : ℕ) → Scripted starts offsets → getD offsets i 0 < 4294967295
-part-spent starts offsets i ok = omega (arith, ok .spent i)
 
 module _ (t : ℕ) where
   abbrev body-at : In 1 body-kinds.ps
