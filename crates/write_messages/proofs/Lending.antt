@@ -43,11 +43,8 @@ pub record Partly (xs ys : List ℕ) (m : ℕ) : Type 0 where
   pub within : m ≤ length xs
   pub kept : length ys ≡ length xs
 
-pub partly-behind : {xs ys : List ℕ} {m : ℕ} → Partly xs ys m → m ≤ length ys
+partly-behind : {xs ys : List ℕ} {m : ℕ} → Partly xs ys m → m ≤ length ys
 partly-behind b = omega (arith, b .within, b .kept)
-
-pub partly-bytes : {xs ys : List ℕ} {m : ℕ} → Partly xs ys m → Fits w64 (m * 4)
-partly-bytes b = omega (arith, b .within, b .long)
 
 pub partly-lent : {xs ys : List ℕ} {m : ℕ} → Partly xs ys m → length (lent m ys) + m ≡ length xs
 partly-lent {xs} {ys} {m} b = omega (arith, lent-length m ys, b .within, b .kept)
