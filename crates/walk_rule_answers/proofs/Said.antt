@@ -6,19 +6,20 @@ use lib.ListN.{getD}
 use borrow.Author.Tests.{lt-ltb, le-ltb}
 use Rattle.read_rule_words.specs.Rule.{Term}
 use Rattle.read_rule_words.specs.RuleWords.{termWord}
+use Rattle.read_rule_words.specs.declared.RuleTerm.{RuleTerm}
 use Rattle.read_rule_words.specs.declared.RuleTerm.the-variants as terms
 use Rattle.read_rule_words.proofs.Words.{constant-told, chosen-told}
 use Rattle.walk_stages.specs.Visits.{nameSaid}
 
 module _ (choices : List ℕ) (t : Term) where
-  pub said-constant : (n : ℕ) → terms.Constant n ≡ termWord t → n ≡ nameSaid choices t
+  pub said-constant : (n : ℕ) (y : RuleTerm) → y ≡ terms.Constant n → y ≡ termWord t → n ≡ nameSaid choices t
   unfolding nameSaid
-  said-constant n e = sym (ap (nameSaid choices) (constant-told t n e))
+  said-constant n y f e = sym (ap (nameSaid choices) (constant-told t n (sym f ∙ e)))
 
-  pub said-chosen : (i : ℕ) → terms.Chosen i ≡ termWord t → i < 256 → getD choices i 0 ≡ nameSaid choices t
+  pub said-chosen : (i : ℕ) (y : RuleTerm) → y ≡ terms.Chosen i → y ≡ termWord t → i < 256 → getD choices i 0 ≡ nameSaid choices t
   unfolding nameSaid
-  said-chosen i e h = sym (ap (nameSaid choices) (chosen-told t i e) ∙ rw (lt-ltb i 256 h))
+  said-chosen i y f e h = sym (ap (nameSaid choices) (chosen-told t i (sym f ∙ e)) ∙ rw (lt-ltb i 256 h))
 
-  pub said-none : (i : ℕ) → terms.Chosen i ≡ termWord t → 256 ≤ i → 0 ≡ nameSaid choices t
+  pub said-none : (i : ℕ) (y : RuleTerm) → y ≡ terms.Chosen i → y ≡ termWord t → 256 ≤ i → 0 ≡ nameSaid choices t
   unfolding nameSaid
-  said-none i e h = sym (ap (nameSaid choices) (chosen-told t i e) ∙ rw (le-ltb i 256 h))
+  said-none i y f e h = sym (ap (nameSaid choices) (chosen-told t i (sym f ∙ e)) ∙ rw (le-ltb i 256 h))

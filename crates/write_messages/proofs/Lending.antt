@@ -43,11 +43,8 @@ pub record Partly (xs ys : List ℕ) (m : ℕ) : Type 0 where
   pub within : m ≤ length xs
   pub kept : length ys ≡ length xs
 
-pub partly-behind : {xs ys : List ℕ} {m : ℕ} → Partly xs ys m → m ≤ length ys
+partly-behind : {xs ys : List ℕ} {m : ℕ} → Partly xs ys m → m ≤ length ys
 partly-behind b = omega (arith, b .within, b .kept)
-
-pub partly-bytes : {xs ys : List ℕ} {m : ℕ} → Partly xs ys m → Fits w64 (m * 4)
-partly-bytes b = omega (arith, b .within, b .long)
 
 pub partly-lent : {xs ys : List ℕ} {m : ℕ} → Partly xs ys m → length (lent m ys) + m ≡ length xs
 partly-lent {xs} {ys} {m} b = omega (arith, lent-length m ys, b .within, b .kept)
@@ -57,6 +54,9 @@ partly-within b h = omega (arith, partly-lent b)
 
 pub partly-sum : {xs ys : List ℕ} {m r : ℕ} → Partly xs ys m → r ≤ length (lent m ys) → Fits w64 (r + m)
 partly-sum b h = omega (arith, partly-within b h, b .long)
+
+pub lent-sum : (m r : ℕ) (xs ys : List ℕ) → length xs * 4 < 2 ^ 63 → length ys ≡ length xs → m ≤ length xs → r ≤ length (lent m ys) → Fits w64 (r + m)
+lent-sum m r xs ys long kept h i = let b : Partly xs ys m = record { long = long; within = h; kept = kept } in partly-sum b i
 
 -- the lent tail comes back with its length
 pub partly-kept : {xs ys : List ℕ} {m : ℕ} → Partly xs ys m → (zs : List ℕ) → length zs ≡ length (lent m ys) → length (joined m ys zs) ≡ length xs

@@ -6,14 +6,20 @@ use Rattle.checker.proofs.with_terms.Tie as tie
 
 -- ---- the ways from a point of the code to one before it
 
-abbrev first-start : tie.After-first-state → tie.Start
-first-start c = c .before .before .before .before .before .before .before .before .before .before
+abbrev arrays-first : tie.After-to-arrays → tie.After-first-state
+arrays-first c = c .before
+
+abbrev arrays-start : tie.After-to-arrays → tie.Start
+arrays-start c = c .before .before .before .before .before .before .before .before .before .before .before
 
 abbrev lent : tie.After-numbers2 → tie.After-to-arrays
 lent c = c .before .before .before .before
 
+abbrev list-lent : tie.After-run-list → tie.After-to-arrays
+list-lent c = lent (c .before)
+
 abbrev list-start : tie.After-run-list → tie.Start
-list-start c = first-start (lent (c .before) .before)
+list-start c = arrays-start (list-lent c)
 
 abbrev halted : tie.After-refused → tie.After-ended
 halted c = c .before .before
@@ -30,31 +36,34 @@ borrowed-list c = made c .before .before
 abbrev walked : tie.After-slice-known2 → tie.After-with-moves
 walked c = c .before .before
 
-abbrev walked-borrowed : tie.After-with-moves → tie.After-from-arrays
-walked-borrowed c = c .before .before
+abbrev asked-borrowed : tie.After-with-moves-arg → tie.After-from-arrays
+asked-borrowed c = c .before
 
-began : (c : tie.After-to-arrays) → let a = first-start (c .before) .args in Began (a .script .now) (a .parts) (c .before .first-state .result) (c .to-arrays .result .sets) (c .to-arrays .result .numbers)
+abbrev walked-borrowed : tie.After-with-moves → tie.After-from-arrays
+walked-borrowed c = asked-borrowed (c .before)
+
+began : (c : tie.After-to-arrays) → let a = arrays-start c .args in Began (a .script .now) (a .parts) (arrays-first c .first-state .result) (c .to-arrays .result .sets) (c .to-arrays .result .numbers)
 began c = search needs
 
 -- ---- the needs
 
 run-list-requires : tie.Need-run-list-requires
-run-list-requires c κs = runnable (first-start (lent c .before) .pre) (began (lent c)) (search needs) (search needs)
+run-list-requires c κs = runnable (arrays-start (lent c) .pre) (began (lent c)) (search needs) (search needs)
 
 returns : tie.Need-returns
 returns c =
     let l = ended-list (halted c) in
-    list-refused (list-start l .pre) (began (lent (l .before))) (l .run-list .ensures) _ _ (halted c .ended .given .1) (c .refused .ensures)
+    list-refused (list-start l .pre) (began (list-lent l)) (l .run-list .ensures) _ _ (halted c .ended .given .1) (c .refused .ensures)
 
 returns-2 : tie.Need-returns-2
 returns-2 c =
     let b = walked-borrowed (walked c) in let l = borrowed-list b in
-    list-answered (list-start l .pre) (began (lent (l .before))) (l .run-list .ensures) (made b .enum-told .given .1) (b .from-arrays .ensures) _ _ _ (walked c .with-moves .ensures)
+    list-answered (list-start l .pre) (began (list-lent l)) (l .run-list .ensures) (made b .enum-told .given .1) (b .from-arrays .ensures) _ _ _ (walked c .with-moves .ensures)
 
 with-moves-requires : tie.Need-with-moves-requires
 with-moves-requires c κs =
-    let b = c .before in let l = borrowed-list b in
-    list-walkable (list-start l .pre) (began (lent (l .before))) (l .run-list .ensures) (made b .enum-told .given .1) (b .from-arrays .ensures)
+    let b = asked-borrowed c in let l = borrowed-list b in
+    list-walkable (list-start l .pre) (began (list-lent l)) (l .run-list .ensures) (made b .enum-told .given .1) (b .from-arrays .ensures)
 
 pub with-terms-spec : {M : Type 1} → statement M
 with-terms-spec =

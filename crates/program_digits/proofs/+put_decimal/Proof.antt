@@ -1,6 +1,5 @@
 -- `put_decimal` meets its contract. The measure is the number. Assumes nothing.
 use Prim.Native.Nat.{ℕ, _<_}
-use native.Mathlib.Omega.{arith}
 use borrow.Author.Needs.{needs}
 use borrow.Fn.Kinds.{In}
 use borrow.Fn.PlainCycle.{Measures, is, falls, and}
@@ -34,5 +33,5 @@ pub +put-decimal-spec : {M : Type 1} → statement M
     λ t. put-decimal-lts.spec
     (claims t) (put-decimal-at t) put-decimal.Post
     (λ c. search needs) (λ c. search needs) (λ c κs. search needs) (λ c. search needs) (λ c k h. search (puts-digit, needs))
-    (λ c κs. (omega (arith, c .before .if1 .left), tt))
+    (λ c κs. search needs)
     (λ c. search needs) (λ c. search needs) (λ c κs. search needs) (λ c. search needs) (returns-2 t)

@@ -1,6 +1,5 @@
 -- `put_digits` meets its contract. The measure is how many digits are left. Assumes nothing.
 use Prim.Native.Nat.{ℕ, _<_}
-use native.Mathlib.Omega.{arith}
 use borrow.Author.Needs.{needs}
 use borrow.Fn.Kinds.{In}
 use borrow.Fn.PlainCycle.{Measures, is, falls, and}
@@ -35,5 +34,5 @@ pub +put-digits-spec : {M : Type 1} → statement M
     μ-put-digits
     λ t. put-digits-lts.spec
     (claims t) (put-digits-at t) put-digits.Post
-    (λ c. puts-as (hex-none _ _ (c .if1 .taken)) puts-none) (λ c. search needs) (λ c κs. (omega (arith, c .before .if1 .left), tt))
+    (λ c. puts-as (hex-none _ _ (c .if1 .taken)) puts-none) (λ c. search needs) (λ c κs. search needs)
     (λ c κs. search needs) (λ c κs. search needs) (λ c. search needs) (returns-2 t)

@@ -5,10 +5,10 @@ use Rattle.program_digits.proofs.glyph.Statement.{statement}
 use Rattle.program_digits.proofs.glyph.Tie as tie
 
 returns : tie.Need-returns
-returns c = digit-low (c .before .args .d) (c .if1 .taken)
+returns c = digit-low _ (c .if1 .taken)
 
 returns-2 : tie.Need-returns-2
-returns-2 c = digit-high (c .before .args .d) (c .if1 .left)
+returns-2 c = digit-high _ (c .if1 .left)
 
 pub glyph-spec : {M : Type 1} → statement M
 glyph-spec =

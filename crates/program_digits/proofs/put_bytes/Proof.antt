@@ -24,4 +24,4 @@ put-bytes-spec =
     Inv-loop μ-loop
     (λ c. (search needs, puts-none)) (λ c. search needs) (λ c κs. search needs) (λ c. search needs) (λ c. search needs)
     loop-again
-    (λ c. c .before .loop .inv .1 .kept) (λ c. puts-as (take-all _ _ (c .loop-test .left)) (c .before .loop .inv .1)))
+    (λ c. search needs) (λ c. puts-as (take-all _ _ (c .loop-test .left)) (search needs)))

@@ -30,4 +30,4 @@ put-words-spec =
     Inv-loop μ-loop
     loop-holds (λ c. search needs) (λ c. search needs) (λ c κs. search needs) (λ c. search needs) (λ c. search needs)
     loop-again
-    (λ c. c .before .loop .inv .1 .kept) (λ c. puts-as (ap lines (take-all _ _ (c .loop-test .left))) (c .before .loop .inv .1)))
+    (λ c. search needs) (λ c. puts-as (ap lines (take-all _ _ (c .loop-test .left))) (search needs)))

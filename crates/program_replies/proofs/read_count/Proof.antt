@@ -8,7 +8,7 @@ use Rattle.program_replies.proofs.read_count.Tie as tie
 
 returns : tie.Need-returns
 unfolding countedBy
-returns c = counted-none (c .before .args .s .now) (c .if1 .taken)
+returns c = counted-none _ (c .if1 .taken)
 
 cast-n : tie.Need-cast-n
 cast-n c = omega (arith, c .shared-slice-known .given 0)

@@ -24,5 +24,5 @@ unpack-spec =
     (λ c. (search needs, search unpacked-none))
     (λ c. omega arith) (λ c κs. omega arith) (λ c. omega arith) (λ c. omega arith) (λ c. search needs) (λ c. search needs)
     loop-again
-    (λ c. c .before .loop .inv .1 .0)
-    (λ c. unpacked-all _ (c .before .loop .words) _ _ _ (c .loop-test .left) (c .before .loop .inv .0) (c .before .loop .inv .1)))
+    (λ c. search needs)
+    (λ c. search (unpacked-all, needs)))

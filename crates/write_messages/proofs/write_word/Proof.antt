@@ -9,7 +9,7 @@ returns : tie.Need-returns
 returns c = wrote-full (omega (arith, c .if1 .taken))
 
 returns-2 : tie.Need-returns-2
-returns-2 c = let a = c .before .args in wrote-one (a .w) (a .out .now) (omega (arith, c .if1 .left))
+returns-2 c = wrote-one _ _ (omega (arith, c .if1 .left))
 
 pub write-word-spec : {M : Type 1} → statement M
 write-word-spec = tie.close (tie.spec returns (λ c. search needs) (λ c. search needs) returns-2)

@@ -1,14 +1,25 @@
 -- `write_body` and `write_part` meet their contracts: the first part, then those beside it; a part's head, then its body.
 -- The measure is twice the fuel, and one more for a part. Assumes nothing.
-use Prim.Native.Nat.{ℕ, suc, _*_, _<_}
-use mathlib.Core.List.{List, _∷_, tail}
+use Prim.Native.Nat.{ℕ, suc, _+_, _-_, _*_, _^_, _≤_, _<_}
+use mathlib.Core.Bool.{Bool, true, false}
+use mathlib.Core.List.{List, [], _∷_, tail}
 use mathlib.Core.Path.{_≡_, sym, ap, _∙_}
 use native.Mathlib.Omega.{arith}
 use borrow.Author.Needs.{needs}
+use lib.ListN.{length, getD}
 use Rattle.read_messages.specs.Words.{word}
-use Rattle.base_sets.specs.Sets.{members}
-use Rattle.base_sets.proofs.Members.{first-is, first-below, not-none, members-empty}
-use Rattle.write_messages.proofs.Lending.{Partly, partly-behind, partly-bytes, partly-lent, partly-sum, partly-kept}
+use Rattle.base_sets.specs.Sets.{members, headOr}
+use Rattle.base_sets.proofs.Members.{first-is, not-none, members-empty}
+use Rattle.theory_closures.specs.Closure.{ClosureHead, Bindings, unfoldHead}
+use Rattle.engine_states.specs.Represents.{headOf}
+use Rattle.theory_written_trees.specs.Write.{Indices, writeHead, within}
+use Rattle.write_messages.specs.Buffer.{Wrote}
+use Rattle.write_messages.proofs.Lending.{lent, joined, Partly, partly-lent, lent-sum, partly-kept}
+use Rattle.write_trees.specs.Asked.{AroundAsked, PartAsked, BodyAsked}
+use Rattle.write_trees.specs.Around.{BodyAround}
+use Rattle.write_trees.specs.Bodies.{hasBody, Writes, WritesPart}
+use Rattle.write_trees.specs.declared.Around.{Around}
+use Rattle.write_trees.proofs.Parts.{first-low, part-placed, part-small}
 use Rattle.write_trees.proofs.Writing.{writes-full, writes-none, writes-end, writes-more, writes-inside, writes-only}
 use borrow.Fn.Kinds.{In, Out}
 use borrow.Fn.PlainCycle.{Measures, is, falls, and}
@@ -33,6 +44,44 @@ abbrev μ-body : Measures 2 body-kinds.ps ℕ
 abbrev μ-part : Measures 2 part-kinds.ps ℕ
 μ-part κs a = suc (2 * a .1 .1 .1 .1 .1 .1 .1 .1 .1 .1 .1 .0)
 
+-- ---- what is asked and written, by what is known
+
+-- a buffer that the indices of its words fit
+partly-small : (index m : ℕ) (xs ys : List ℕ) → index + length xs ≤ 268435456 → m ≤ length xs → length ys ≡ length xs → Partly xs ys m
+partly-small index m xs ys small h kept = record { long = omega arith; within = h; kept = kept }
+
+none-writes : (ix : Indices) (σ : Bindings) (k : ℕ → List ℕ) (w : ℕ → ClosureHead) (left i fuel r : ℕ) (xs ys : List ℕ) → left ≡ 0 → Wrote (word 0 0 ∷ []) xs ys r → Writes ix σ k w (members left) i fuel xs ys r
+none-writes ix σ k w left i fuel r xs ys e = writes-none (ap members e ∙ members-empty)
+
+-- the first part, and then those beside it
+more-writes : (ix : Indices) (σ : Bindings) (k : ℕ → List ℕ) (w : ℕ → ClosureHead) (left i fuel j l m r : ℕ) (xs ys zs : List ℕ) → WritesPart ix σ k w (k j) (w j) i (fuel - 1) xs ys m
+    → Writes ix σ k w (members l) (i + m) (fuel - 1) (lent m ys) zs r → i + length xs ≤ 268435456 → length ys ≡ length xs → left < 2 ^ 64 → (left ≡ 0 → ⊥) → j ≡ headOr 64 (members left) → members l ≡ tail (members left)
+    → Writes ix σ k w (members left) i fuel xs (joined m ys zs) (r + m)
+more-writes ix σ k w left i fuel j l m r xs ys zs one′ beside small kept h n f e =
+    writes-more j (members l) (first-is left j h n f ∙ ap (λ (ms : List ℕ). j ∷ ms) (sym e)) (partly-small i m xs ys small (one′ .within) kept) one′ beside
+
+beside-asked : (script starts offsets vs ps cs xs ys : List ℕ) (a : Around) (i fuel m : ℕ) → BodyAsked script starts offsets vs ps cs a i fuel xs → m ≤ length xs → length ys ≡ length xs
+    → BodyAsked script starts offsets vs ps cs a (i + m) (fuel - 1) (lent m ys)
+beside-asked script starts offsets vs ps cs xs ys a i fuel m b h kept =
+    record { counted = b .counted; scripted = b .scripted; right = b .right; deep = omega (arith, b .deep); small = omega (arith, b .small, partly-lent (partly-small i m xs ys (b .small) h kept)) }
+
+-- a part's head, and then its body, if it has one
+around-asked : (script starts offsets vs ps cs xs : List ℕ) (a : Around) (j i fuel : ℕ) → PartAsked script starts offsets vs ps cs a j i fuel xs → AroundAsked a (getD starts j 0) i
+around-asked script starts offsets vs ps cs xs a j i fuel b = record { right = b .right; room = omega (arith, b .deep); small = omega (arith, b .some, b .small); placed = b .scripted .placed j }
+
+inside-asked : (script starts offsets vs ps cs xs ys : List ℕ) (a r : Around) (j i fuel kind start m : ℕ) → PartAsked script starts offsets vs ps cs a j i fuel xs → BodyAround a kind start i r → m ≤ length xs → length ys ≡ length xs
+    → BodyAsked script starts offsets vs ps cs r (i + m) fuel (lent m ys)
+inside-asked script starts offsets vs ps cs xs ys a r j i fuel kind start m b e h kept =
+    record { counted = b .counted; scripted = b .scripted; right = e .right; deep = omega (arith, b .deep, e .room); small = omega (arith, b .small, partly-lent (partly-small i m xs ys (b .small) h kept)) }
+
+module _ (ix : Indices) (σ : Bindings) (k : ℕ → List ℕ) (w : ℕ → ClosureHead) (left script xs ys : List ℕ) (kind start offset i fuel m : ℕ) (head : Wrote (writeHead ix (unfoldHead σ (headOf script kind start offset))) xs ys m) where
+  only-writes : (b : Bool) → ((script : List ℕ) (start offset : ℕ) → b ≡ hasBody (headOf script kind start offset)) → b ≡ false → WritesPart ix σ k w left (headOf script kind start offset) i fuel xs ys m
+  only-writes b has t = writes-only head (sym (has script start offset) ∙ t)
+
+  inside-writes : (jx : Indices) (zs : List ℕ) (r : ℕ) (b : Bool) → Writes jx σ k w left (i + m) fuel (lent m ys) zs r → ((script : List ℕ) (σ : Bindings) (offset : ℕ) → jx ≡ within (unfoldHead σ (headOf script kind start offset)) i ix)
+      → ((script : List ℕ) (start offset : ℕ) → b ≡ hasBody (headOf script kind start offset)) → b ≡ true → i + length xs ≤ 268435456 → length ys ≡ length xs → WritesPart ix σ k w left (headOf script kind start offset) i fuel xs (joined m ys zs) (r + m)
+  inside-writes jx zs r b body around has t small kept = writes-inside head (sym (has script start offset) ∙ t) (around script σ offset) (partly-small i m xs ys small (head .within) kept) body
+
 module _ (t : ℕ) where
   abbrev body-at : In 2 body-kinds.ps
   body-at = and 2 body-kinds.ps (is 2 body-kinds.ps μ-body t) write-body.Pre
@@ -49,195 +98,78 @@ module _ (t : ℕ) where
   abbrev part-claims : part-lts.Claims
   part-claims = (write-head.Asked, write-head.Learnt, has-body.Asked, has-body.Learnt, around-body.Asked, around-body.Learnt, body-below, write-body.Post)
 
-  -- ---- write_body: the points of the code, and the way from each to those before it
+  -- ---- write_body
 
   abbrev AtBody : (body-lts.Claims → In 2 body-kinds.ps → Out 2 body-kinds.ps body-kinds.r → Type 0) → Type 0
   AtBody place = place body-claims body-at write-body.Post
 
-  -- no part is left, or no fuel: one CLOSE
-  abbrev end-none : AtBody body-lts.After-slice-known2 → AtBody body-lts.After-write-word
-  end-none c = c .before .before
+  -- the ways back to the start: from where those beside the first part are handed on, and from the end
+  abbrev beside-start : AtBody body-lts.After-write-body-arg → AtBody body-lts.Start
+  beside-start c = c .before .before .before .before .before .before .before .before .before .before .before .before .before .before .before
 
-  abbrev none-then : AtBody body-lts.After-write-word → AtBody body-lts.Then2
-  none-then c = c .before .before
-
-  abbrev end-fuel : AtBody body-lts.After-slice-known3 → AtBody body-lts.After-write-word2
-  end-fuel c = c .before .before
-
-  abbrev fuel-then : AtBody body-lts.After-write-word2 → AtBody body-lts.Then3
-  fuel-then c = c .before .before
-
-  -- the first part is found
-  abbrev first-some : AtBody body-lts.After-first → AtBody body-lts.Else2
-  first-some c = c .before .before
-
-  abbrev first-start : AtBody body-lts.After-first → AtBody body-lts.Start
-  first-start c = first-some c .before .before .before .before .before .before .before
-
-  -- it is written, and those beside it are left
-  abbrev part-first : AtBody body-lts.After-write-part → AtBody body-lts.After-first
-  part-first c = c .before .before
-
-  abbrev body-start : AtBody body-lts.After-write-part → AtBody body-lts.Start
-  body-start c = first-start (part-first c)
-
-  abbrev known-part : AtBody body-lts.After-slice-known4 → AtBody body-lts.After-write-part
-  known-part c = c .before .before
-
-  abbrev rest-part : AtBody body-lts.After-rest → AtBody body-lts.After-write-part
-  rest-part c = known-part (c .before)
-
-  -- they are written
-  abbrev end-more : AtBody body-lts.After-slice-known5 → AtBody body-lts.After-write-body
-  end-more c = c .before .before
-
-  abbrev more-rest : AtBody body-lts.After-write-body → AtBody body-lts.After-rest
-  more-rest c = c .before .before
-
-  -- ---- write_body: what is known at each
-
-  fuel-left : (c : AtBody body-lts.After-first) → 0 < first-start c .args .fuel
-  fuel-left c = omega (arith, c .before .if3 .left)
-
-  first-then : (c : AtBody body-lts.After-first) → let m = members (first-start c .args .left) in m ≡ c .first .result ∷ tail m
-  first-then c = let s = first-start c in first-is (s .args .left) (c .first .result) (s .fits .left .fits) (first-some c .if2 .left) (c .first .ensures)
-
-  partly-part : (c : AtBody body-lts.After-write-part) → Partly (body-start c .args .out .now) (c .write-part .last .1 .1 .1 .1 .1 .1 .1 .1 .1 .1 .1 .1 .0) (c .write-part .result)
-  partly-part c = record { long = omega (arith, body-start c .good); within = c .write-part .ensures .within; kept = c .write-part .kept .1 .1 .1 .1 .1 .1 .1 .1 .1 .1 .1 .1 .0 }
-
-  -- ---- write_body: the needs
+  abbrev beside-end : AtBody body-lts.After-slice-known5 → AtBody body-lts.Start
+  beside-end c = beside-start (c .before .before .before)
 
   full-returns : AtBody body-lts.Need-returns
   full-returns c = writes-full (c .if1 .taken)
 
   none-returns : AtBody body-lts.Need-returns-2
   unfolding word
-  none-returns c = let w = end-none c in writes-none (ap members (none-then w .if2 .taken) ∙ members-empty) (w .write-word .ensures)
+  none-returns c = search (none-writes, needs)
 
   fuel-returns : AtBody body-lts.Need-returns-3
   unfolding word
-  fuel-returns c = let w = end-fuel c in writes-end (fuel-then w .if3 .taken) (w .write-word2 .ensures)
+  fuel-returns c = search (writes-end, needs)
 
   part-requires : AtBody body-lts.Need-write-part-requires
-  part-requires c κs =
-      let f = c .before in
-      let s = first-start f in
-      let low = first-below (s .args .left) (f .first .result) (tail (members (s .args .left))) (first-then f) in (
-        omega (arith, s .pre .0, fuel-left f),
-        record { counted = s .pre .1 .counted; scripted = s .pre .1 .scripted; right = s .pre .1 .right; deep = omega (arith, s .pre .1 .deep, fuel-left f); part = low; some = omega (arith, first-some f .before .if1 .left); small = s .pre .1 .small },
-      )
-
-  rest-requires : AtBody body-lts.Need-rest-requires
-  rest-requires c κs = let f = part-first (known-part c) in let s = first-start f in not-none (s .args .left) (s .fits .left .fits) (first-some f .if2 .left)
+  part-requires c κs = (search needs, search (first-low, needs))
 
   beside-requires : AtBody body-lts.Need-write-body-requires
-  beside-requires c κs =
-      let p = rest-part (c .before) in
-      let s = body-start p in
-      (omega (arith, s .pre .0, fuel-left (part-first p)), record { counted = s .pre .1 .counted; scripted = s .pre .1 .scripted; right = s .pre .1 .right; deep = omega (arith, s .pre .1 .deep); small = omega (arith, s .pre .1 .small, partly-lent (partly-part p)) })
-
-  beside-length : AtBody body-lts.Need-same-length-3
-  beside-length c = let m = end-more c in partly-kept (partly-part (rest-part (more-rest m))) (m .write-body .last .1 .1 .1 .1 .1 .1 .1 .1 .1 .1 .1 .1 .0) (m .write-body .kept .1 .1 .1 .1 .1 .1 .1 .1 .1 .1 .1 .1 .0)
+  beside-requires c κs = (search (beside-start c .pre .0, needs), search (beside-asked, beside-start c .pre .1, needs))
 
   beside-returns : AtBody body-lts.Need-returns-4
-  beside-returns c =
-      let m = end-more c in
-      let r = more-rest m in
-      let p = rest-part r in
-      let f = part-first p in
-      writes-more (f .first .result) (members (r .rest .result)) (first-then f ∙ ap (λ (l : List ℕ). f .first .result ∷ l) (sym (r .rest .ensures))) (partly-part p) (p .write-part .ensures) (m .write-body .ensures)
+  beside-returns c = search (more-writes, beside-end c .pre .1, needs)
 
   body-met : {M : Type 1} → body-lts.Closed body-claims body-at write-body.Post M
   body-met = body-lts.spec body-claims body-at write-body.Post full-returns (λ c κs. search needs) (λ c. search needs) none-returns
-      (λ c κs. search needs) (λ c. search needs) fuel-returns (λ c κs. search needs) (λ c. omega (arith, fuel-left c)) part-requires rest-requires
-      (λ c. omega (arith, body-start (rest-part c) .pre .1 .small, partly-part (rest-part c) .within)) (λ c. omega (arith, fuel-left (part-first (rest-part c))))
-      (λ c. partly-bytes (partly-part (rest-part c))) (λ c. partly-behind (partly-part (rest-part c))) (λ c. partly-behind (partly-part (rest-part c))) (λ c. omega arith)
-      beside-requires (λ c. partly-sum (partly-part (rest-part (more-rest (end-more c)))) (end-more c .write-body .ensures .within)) beside-length beside-returns
+      (λ c κs. search needs) (λ c. search needs) fuel-returns (λ c κs. search needs) (λ c. search needs) part-requires (λ c κs. search (not-none, needs))
+      (λ c. search needs) (λ c. search needs) (λ c. search needs) (λ c. search needs) (λ c. search needs) (λ c. omega arith)
+      beside-requires (λ c. search (lent-sum, beside-end c .good .1 .1 .1 .1 .1 .1 .1 .1 .1 .1 .1 .1 .0, needs)) (λ c. search (partly-kept, needs)) beside-returns
 
-  -- ---- write_part: the points of the code, and the way from each to those before it
+  -- ---- write_part
 
   abbrev AtPart : (part-lts.Claims → In 2 part-kinds.ps → Out 2 part-kinds.ps part-kinds.r → Type 0) → Type 0
   AtPart place = place part-claims part-at write-part.Post
 
-  abbrev known-start : AtPart part-lts.After-slice-known → AtPart part-lts.Start
-  known-start c = c .before .before .before .before .before
+  -- the ways back: from where the body is handed on to the start, and from the end to the start and to what is written
+  abbrev inside-start : AtPart part-lts.After-write-body-arg → AtPart part-lts.Start
+  inside-start c = c .before .before .before .before .before .before .before .before .before .before .before .before .before .before .before .before .before
 
-  abbrev read-start : AtPart part-lts.After-start → AtPart part-lts.Start
-  read-start c = known-start (c .before .before)
+  abbrev inside-end : AtPart part-lts.After-slice-known3 → AtPart part-lts.Start
+  inside-end c = inside-start (c .before .before .before)
 
-  abbrev asked-start : AtPart part-lts.After-write-head-arg → AtPart part-lts.Start
-  asked-start c = read-start (c .before .before)
+  abbrev inside-body : AtPart part-lts.After-slice-known3 → AtPart part-lts.After-write-body
+  inside-body c = c .before .before
 
-  -- the head is written
-  abbrev head-start : AtPart part-lts.After-write-head → AtPart part-lts.Start
-  head-start c = asked-start (c .before)
-
-  abbrev has-head : AtPart part-lts.After-has-body → AtPart part-lts.After-write-head
-  has-head c = c .before .before .before
-
-  -- the part has a body
-  abbrev then-head : AtPart part-lts.Then1 → AtPart part-lts.After-write-head
-  then-head c = has-head (c .before)
-
-  abbrev around-then : AtPart part-lts.After-around-body → AtPart part-lts.Then1
-  around-then c = c .before .before
-
-  abbrev around-head : AtPart part-lts.After-around-body → AtPart part-lts.After-write-head
-  around-head c = then-head (around-then c)
-
-  abbrev end-body : AtPart part-lts.After-slice-known3 → AtPart part-lts.After-write-body
-  end-body c = c .before .before
-
-  abbrev body-around : AtPart part-lts.After-write-body → AtPart part-lts.After-around-body
-  body-around c = c .before .before
-
-  -- ---- write_part: what is known at each
-
-  small : (s : AtPart part-lts.Start) → s .args .index < 268435456
-  small s = omega (arith, s .pre .1 .some, s .pre .1 .small)
-
-  partly-head : (c : AtPart part-lts.After-write-head) → Partly (head-start c .args .out .now) (c .write-head .last .1 .1 .1 .1 .1 .1 .1 .1 .0) (c .write-head .result)
-  partly-head c = record { long = omega (arith, head-start c .good); within = c .write-head .ensures .within; kept = c .write-head .kept .1 .1 .1 .1 .1 .1 .1 .1 .0 }
-
-  -- ---- write_part: the needs
-
-  head-requires : AtPart part-lts.Need-write-head-requires
-  head-requires c κs = let s = asked-start c in record { counted = s .pre .1 .counted; right = s .pre .1 .right; placed = s .pre .1 .scripted .placed (s .args .i); small = omega (arith, s .pre .1 .scripted .spent (s .args .i), s .pre .1 .small) }
-
-  around-requires : AtPart part-lts.Need-around-body-requires
-  around-requires c κs = let s = head-start (then-head (c .before)) in record { right = s .pre .1 .right; room = omega (arith, s .pre .1 .deep); small = small s; placed = s .pre .1 .scripted .placed (s .args .i) }
+  abbrev inside-head : AtPart part-lts.After-slice-known3 → AtPart part-lts.After-write-head
+  inside-head c = c .before .before .before .before .before .before .before .before .before .before
 
   body-requires : AtPart part-lts.Need-write-body-requires
-  body-requires c κs =
-      let e = c .before .around-body .ensures in
-      let h = around-head (c .before) in
-      let s = head-start h in
-      (omega (arith, s .pre .0), record { counted = s .pre .1 .counted; scripted = s .pre .1 .scripted; right = e .right; deep = omega (arith, s .pre .1 .deep, e .room); small = omega (arith, s .pre .1 .small, partly-lent (partly-head h)) })
-
-  body-length : AtPart part-lts.Need-same-length
-  body-length c = let m = end-body c in partly-kept (partly-head (around-head (body-around m))) (m .write-body .last .1 .1 .1 .1 .1 .1 .1 .1 .1 .1 .1 .1 .0) (m .write-body .kept .1 .1 .1 .1 .1 .1 .1 .1 .1 .1 .1 .1 .0)
+  body-requires c κs = (search (inside-start c .pre .0, needs), search (inside-asked, inside-start c .pre .1, needs))
 
   body-returns : AtPart part-lts.Need-returns
-  body-returns c =
-      let m = end-body c in
-      let x = body-around m in
-      let h = around-head x in
-      let e = around-then x in
-      writes-inside (h .write-head .ensures) (sym (e .before .has-body .ensures _ _ _) ∙ e .if1 .taken) (x .around-body .ensures .indices _ _ _) (partly-head h) (m .write-body .ensures)
+  body-returns c = search (inside-writes, inside-body c .write-body .ensures, inside-head c .write-head .ensures, inside-end c .pre .1 .small, needs)
 
   only-returns : AtPart part-lts.Need-returns-2
-  only-returns c = writes-only (has-head (c .before) .write-head .ensures) (sym (c .before .has-body .ensures _ _ _) ∙ c .if1 .left)
+  only-returns c = search (only-writes, needs)
 
   part-met : {M : Type 1} → part-lts.Closed part-claims part-at write-part.Post M
-  part-met = part-lts.spec part-claims part-at write-part.Post (λ c. known-start c .pre .1 .part)
-      (λ c. omega (arith, known-start (c .before) .pre .1 .part)) (λ c. known-start (c .before) .pre .1 .part)
-      (λ c. omega (arith, read-start c .pre .1 .part)) (λ c. read-start c .pre .1 .part) head-requires (λ c κs. search needs)
-      (λ c. omega (arith, head-start (then-head c) .pre .1 .part)) (λ c. omega (arith, head-start (then-head c) .pre .1 .part))
-      (λ c. omega (arith, small (head-start (then-head (c .before))))) around-requires
-      (λ c. omega (arith, head-start (around-head c) .pre .1 .small, partly-head (around-head c) .within)) (λ c. partly-bytes (partly-head (around-head c)))
-      (λ c. partly-behind (partly-head (around-head c))) (λ c. partly-behind (partly-head (around-head c))) (λ c. omega arith)
-      body-requires (λ c. partly-sum (partly-head (around-head (body-around (end-body c)))) (end-body c .write-body .ensures .within)) body-length body-returns
-      (λ c. partly-head (has-head (c .before)) .kept) only-returns
+  part-met = part-lts.spec part-claims part-at write-part.Post (λ c. search needs) (λ c. search needs) (λ c. search needs)
+      (λ c. search needs) (λ c. search needs) (λ c κs. search (part-placed, part-small, needs)) (λ c κs. search needs)
+      (λ c. search needs) (λ c. search needs) (λ c. search needs) (λ c κs. search (around-asked, needs))
+      (λ c. search needs) (λ c. search needs) (λ c. search needs) (λ c. search needs) (λ c. omega arith)
+      body-requires (λ c. search (lent-sum, inside-end c .good .1 .1 .1 .1 .1 .1 .1 .1 .1 .1 .1 .1 .0, needs)) (λ c. search (partly-kept, needs)) body-returns
+      (λ c. search needs) only-returns
 
 pub +write-body+write-part-spec : {M : Type 1} → statement M
 +write-body+write-part-spec = close μ-body μ-part (λ t. body-met t) (λ t. part-met t)

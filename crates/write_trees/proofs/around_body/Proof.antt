@@ -1,40 +1,38 @@
 -- `around_body` meets its contract: a receipt is put in front, with the index of its word. Assumes nothing.
-use Prim.Native.Nat.{_≤_}
+use Prim.Native.Nat.{ℕ, _-_, _≤_}
 use mathlib.Core.Path.{_≡_, _∙_}
 use native.Mathlib.Omega.{arith}
-use lib.ListN.{length}
-use Rattle.write_trees.specs.Around.{indicesOf}
+use lib.ListN.{length, set}
+use Rattle.write_trees.specs.Around.{indicesOf, BodyAround}
+use Rattle.write_trees.specs.Asked.{AroundAsked}
+use Rattle.write_trees.specs.declared.Around.{Around}
 use Rattle.write_messages.proofs.Receipts.{indexed-front, indices-front}
 use Rattle.write_trees.proofs.Parts.{within-other, within-receipt}
 use borrow.Author.Needs.{needs}
 use Rattle.write_trees.proofs.around_body.Statement.{statement}
 use Rattle.write_trees.proofs.around_body.Tie as tie
 
--- the arrays have room for one receipt more
-long-variables : (s : tie.Start) → s .args .around .first ≤ length (s .args .around .variables)
-long-variables s = let l : length (s .args .around .variables) ≡ 64 = search needs in omega (arith, l, s .pre .right .within)
+-- a receipt more, where the arrays have room for it
+around-more : (x : Around) (kind start index : ℕ) → AroundAsked x start index → length (x .variables) ≡ 64 → length (x .indices) ≡ 64 → kind ≡ 3
+    → BodyAround x kind start index (record { variables = set (x .variables) (x .first - 1) start; indices = set (x .indices) (x .first - 1) index; first = x .first - 1 })
+unfolding indicesOf
+around-more x kind start index a lv li e =
+    let v : x .first ≤ length (x .variables) = omega (arith, a .right .within) in
+    let i : x .first ≤ length (x .indices) = omega (arith, a .right .within) in
+    record {
+      right = record { within = omega (arith, a .right .within); indexed = indexed-front (x .variables) (x .indices) (x .first) start index (a .room) v i (a .right .indexed) (a .small) };
+      room = omega (arith, a .room);
+      indices = λ w σ o. indices-front (x .variables) (x .indices) (x .first) start index (a .room) v i ∙ within-receipt w kind start o (indicesOf x) σ index e;
+    }
 
-long-indices : (s : tie.Start) → s .args .around .first ≤ length (s .args .around .indices)
-long-indices s = let l : length (s .args .around .indices) ≡ 64 = search needs in omega (arith, l, s .pre .right .within)
+around-same : (x : Around) (kind start index : ℕ) → AroundAsked x start index → (kind ≡ 3 → ⊥) → BodyAround x kind start index x
+around-same x kind start index a n = record { right = a .right; room = omega arith; indices = λ w σ o. within-other w kind start o (indicesOf x) σ index n }
 
 returns : tie.Need-returns
-returns c =
-    let s = c .before in
-    record { right = s .pre .right; room = omega arith; indices = λ w σ o. within-other w (s .args .kind) (s .args .start) o (indicesOf (s .args .around)) σ (s .args .index) (c .if1 .taken) }
+returns c = search (around-same, needs)
 
 returns-2 : tie.Need-returns-2
-unfolding indicesOf
-returns-2 c =
-    let e = c .before in
-    let s = e .before in
-    let x = s .args .around in
-    let v = long-variables s in
-    let i = long-indices s in
-    record {
-      right = record { within = omega (arith, s .pre .right .within); indexed = indexed-front (x .variables) (x .indices) (x .first) (s .args .start) _ (s .pre .room) v i (s .pre .right .indexed) (s .pre .small) };
-      room = omega (arith, s .pre .room);
-      indices = λ w σ o. indices-front (x .variables) (x .indices) (x .first) (s .args .start) _ (s .pre .room) v i ∙ within-receipt w (s .args .kind) (s .args .start) o (indicesOf x) σ (s .args .index) (e .if1 .left);
-    }
+returns-2 c = search (around-more, needs)
 
 pub around-body-spec : {M : Type 1} → statement M
 around-body-spec =

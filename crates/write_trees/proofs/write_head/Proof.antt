@@ -1,54 +1,44 @@
 -- `write_head` meets its contract: the part's word, and its message behind it. Assumes nothing.
+use Prim.Native.Nat.{ℕ, _+_, _≤_, _<_}
+use mathlib.Core.List.{List, [], _∷_}
+use mathlib.Core.Path.{_≡_}
 use native.Mathlib.Omega.{arith}
-use Rattle.write_messages.proofs.Lending.{Partly, partly-behind, partly-bytes, partly-lent, partly-sum, partly-kept, wrote-as, wrote-more}
+use lib.ListN.{length, drop}
+use Rattle.read_messages.specs.Words.{word}
+use Rattle.read_scripts.specs.Tree.{kindNumber}
+use Rattle.theory_closures.specs.Closure.{Bindings, unfoldHead}
+use Rattle.engine_states.specs.Represents.{headOf}
+use Rattle.theory_written_trees.specs.Write.{writeHead}
+use Rattle.write_messages.specs.Buffer.{Wrote}
+use Rattle.write_messages.specs.Indices.{indicesIn}
+use Rattle.write_trees.specs.Asked.{LabelAsked, HeadAsked}
+use Rattle.write_trees.specs.Around.{indicesOf}
+use Rattle.write_trees.specs.Bodies.{writeLabel}
+use Rattle.write_trees.specs.declared.Around.{Around}
+use Rattle.write_messages.proofs.Lending.{lent, joined, Partly, partly-lent, partly-sum, partly-kept, wrote-as, wrote-more}
 use Rattle.write_trees.proofs.Parts.{head-label, tails-indexed, tails-indices}
 use borrow.Author.Needs.{needs}
 use Rattle.write_trees.proofs.write_head.Statement.{statement}
 use Rattle.write_trees.proofs.write_head.Tie as tie
 
--- ---- the points of the code, and the way from each to those before it
+-- the part's word is written, and its message behind it
+module _ (script xs ys rs is : List ℕ) (kind start offset m : ℕ) (a : Around) (e : rs ≡ drop (a .first) (a .variables)) (f : is ≡ drop (a .first) (a .indices)) (kept : length ys ≡ length xs) where
+  label-asked : (vs ps cs : List ℕ) → HeadAsked script start offset vs ps cs a xs → m ≤ length xs → LabelAsked script start offset vs ps cs rs is (lent m ys)
+  label-asked vs ps cs h l =
+      let p : Partly xs ys m = record { long = omega (arith, h .small); within = l; kept = kept } in
+      record { asked = record { counted = h .counted; indexed = tails-indexed a e f (h .right); small = omega (arith, h .small, partly-lent p) }; placed = h .placed }
 
-abbrev word-head : tie.After-write-word → tie.After-head-word
-word-head c = c .before .before
-
-abbrev word-start : tie.After-write-word → tie.Start
-word-start c = word-head c .before .before .before .before .before .before .before .before
-
-abbrev tails-first : tie.After-tail2 → tie.After-tail
-tails-first c = c .before .before
-
-abbrev tails-word : tie.After-tail2 → tie.After-write-word
-tails-word c = tails-first c .before .before .before .before
-
-abbrev end-label : tie.After-slice-known3 → tie.After-write-label
-end-label c = c .before .before
-
-abbrev label-tails : tie.After-write-label → tie.After-tail2
-label-tails c = c .before .before
-
--- ---- the needs
-
-partly : (c : tie.After-write-word) → Partly (word-start c .args .out .now) (c .write-word .last .1 .0) (c .write-word .result)
-partly c = record { long = omega (arith, word-start c .good); within = c .write-word .ensures .within; kept = c .write-word .kept .1 .0 }
-
-write-label-requires : tie.Need-write-label-requires
-write-label-requires c κs =
-    let l = c .before in
-    let s = word-start (tails-word l) in
-    record { asked = record { counted = s .pre .counted; indexed = tails-indexed (s .args .around) (tails-first l .tail .ensures) (l .tail2 .ensures) (s .pre .right); small = omega (arith, s .pre .small, partly-lent (partly (tails-word l))) }; placed = s .pre .placed }
-
-same-length : tie.Need-same-length
-same-length c = let m = end-label c in partly-kept (partly (tails-word (label-tails m))) (m .write-label .last .1 .1 .1 .1 .1 .1 .1 .1 .1 .0) (m .write-label .kept .1 .1 .1 .1 .1 .1 .1 .1 .1 .0)
+  head-wrote : (σ : Bindings) (u r : ℕ) (zs : List ℕ) → Wrote (u ∷ []) xs ys m → Wrote (writeLabel (indicesIn rs is) (unfoldHead σ (headOf script kind start offset))) (lent m ys) zs r
+      → ((script : List ℕ) (start offset : ℕ) → u ≡ word (kindNumber (headOf script kind start offset)) 0) → offset + length xs < 4294967295
+      → Wrote (writeHead (indicesOf a) (unfoldHead σ (headOf script kind start offset))) xs (joined m ys zs) (r + m)
+  head-wrote σ u r zs w v g small =
+      let p : Partly xs ys m = record { long = omega arith; within = w .within; kept = kept } in
+      wrote-as (head-label (indicesOf a) σ (headOf script kind start offset) (g script start offset) (tails-indices a e f)) (wrote-more p w v)
 
 returns : tie.Need-returns
-returns c =
-    let m = end-label c in
-    let l = label-tails m in
-    let w = tails-word l in
-    wrote-as (head-label _ _ _ (word-head w .head-word .ensures _ _ _) (tails-indices (word-start w .args .around) (tails-first l .tail .ensures) (l .tail2 .ensures)))
-    (wrote-more (partly w) (w .write-word .ensures) (m .write-label .ensures))
+returns c = search (head-wrote, needs)
 
 pub write-head-spec : {M : Type 1} → statement M
 write-head-spec = tie.close (tie.spec (λ c κs. search needs) (λ c κs. search needs) (λ c. search needs) (λ c κs. search needs) (λ c. search needs) (λ c κs. search needs)
-    (λ c. partly-bytes (partly (tails-word c))) (λ c. partly-behind (partly (tails-word c))) (λ c. partly-behind (partly (tails-word c))) (λ c. omega arith)
-    write-label-requires (λ c. partly-sum (partly (tails-word (label-tails (end-label c)))) (end-label c .write-label .ensures .within)) same-length returns)
+    (λ c. search needs) (λ c. search needs) (λ c. search needs) (λ c. omega arith)
+    (λ c κs. search (label-asked, needs)) (λ c. search (partly-sum, needs)) (λ c. search (partly-kept, needs)) returns)
