@@ -46,3 +46,7 @@ drop-set (x ∷ s) (suc zero) v z h = refl
 drop-set (x ∷ s) (suc (suc i)) v z h =
     let e : suc (suc i) - 1 ≡ suc (suc i - 1) = omega arith in
     rw e (drop-set s (suc i) v (omega arith) (omega arith))
+
+-- one of a length that is known
+pub front-set : (n : ℕ) (s : List ℕ) (i v : ℕ) → length s ≡ n → 0 < i → i ≤ n → drop (i - 1) (set s (i - 1) v) ≡ v ∷ drop i s
+front-set n s i v l z h = drop-set s i v z (rw l h)

@@ -130,6 +130,13 @@ pub item-only : (x : List Message) (m : Message) → x ≡ m ∷ [] → firstIte
 unfolding firstItem
 item-only x m e = rw e
 
+-- what is said of the number of a word's own items
+abbrev pub OwnCount : (c : ℕ) (vs cs words : List ℕ) → Type 0
+OwnCount c vs cs words = (script ps : List ℕ) → Kept itemCount script vs ps cs → c ≡ capped (length (ownItems (bindingsIn script vs ps) words))
+
+pub own-within : (c o : ℕ) (script vs ps cs words : List ℕ) → OwnCount c vs cs words → Kept itemCount script vs ps cs → o < c → o < length (ownItems (bindingsIn script vs ps) words)
+own-within c o script vs ps cs words count ok h = below-count _ _ _ (count script ps ok) h
+
 -- A measure: first the bindings, then what is left of the pass. It is shut, so that its factor stands in no other sum.
 
 pub rank : ℕ → ℕ → ℕ
@@ -142,3 +149,10 @@ rank-less v n n′ t e h = omega arith
 pub rank-older : (v v′ n n′ t : ℕ) → rank v n ≡ t → v′ < v → n′ < 2 ^ 67 → rank v′ n′ < t
 unfolding rank
 rank-older v v′ n n′ t e h p = omega arith
+
+-- what is left is less: the items that the first word has of its own, or what stands behind them
+pub rank-own : (v n t : ℕ) → rank v (suc n) ≡ t → rank v 0 < t
+rank-own v n t e = rank-less _ _ _ _ e (omega arith)
+
+pub rank-behind : (words : List ℕ) (p : ℕ) (b : Behind) → Passed words p b → (ws : List ℕ) → ws ≡ drop (b .used) words → (v t : ℕ) → rank v (suc (3 * length words + p)) ≡ t → rank v (suc (3 * length ws + b .left)) < t
+rank-behind words p b done ws e v t f = rank-less _ _ _ _ f (omega (arith, ap length e, done .less))

@@ -21,8 +21,8 @@ use Rattle.engine_bindings.specs.declared.Behind.{Behind}
 use Rattle.theory_closures.proofs.Resolving.{resolve-name, resolve-enter, resolve-exit, resolve-opens, resolve-empty, resolve-path}
 use Rattle.engine_message_words.proofs.FirstWords.{bound, bound-variable}
 use Rattle.engine_bindings.proofs.Passing.{firsts-first, less-behind, one-message, part-room, first-bound, Free, unbound-free, single, given-newest, given-items, given-own}
-use Rattle.base_slices.proofs.Capping.{capped-sum, below-count}
-use Rattle.engine_bindings.proofs.Counting.{kept-none, kept-drop, kept-given, kept-more, drop-past, drop-within, rank, rank-less, rank-older}
+use Rattle.base_slices.proofs.Capping.{capped-sum}
+use Rattle.engine_bindings.proofs.Counting.{kept-none, kept-drop, kept-given, kept-more, drop-past, drop-within, OwnCount, rank, rank-older}
 use Rattle.engine_held_bindings.specs.Sizes.{messageSize, itemsSize, bulk, cappedItems, itemBulk, Cached, allSizes, ownSize}
 use Rattle.engine_held_bindings.specs.Held.{Measures}
 use Rattle.engine_held_bindings.specs.declared.Measured.{Measured}
@@ -144,10 +144,7 @@ unfolding bulk capped
 bulk-only x m e p q = rw e (omega arith)
 
 -- the bulk of the items of messages from an offset on: those that the first word has of its own stand before the offset, or do not
-module _ (script words vs ps cs : List ℕ) (ok : Kept itemCount script vs ps cs) (p o c : ℕ) (own : (script ps : List ℕ) → Kept itemCount script vs ps cs → c ≡ capped (length (ownItems (bindingsIn script vs ps) words))) where
-  pub own-within : o < c → o < length (ownItems (bindingsIn script vs ps) words)
-  own-within h = below-count _ _ _ (own script ps ok) h
-
+module _ (script words vs ps cs : List ℕ) (ok : Kept itemCount script vs ps cs) (p o c : ℕ) (own : OwnCount c vs cs words) where
   module _ (b : Behind) (done : Passed words p b) (ws : List ℕ) (e : ws ≡ drop (b .used) words) where
     split : allItems (bindingsIn script vs ps) (firsts p (spelled words)) ≡ ownItems (bindingsIn script vs ps) words ++ allItems (bindingsIn script vs ps) (firsts (b .left) (spelled ws))
     split = rw e (done .split (bindingsIn script vs ps))
@@ -158,13 +155,6 @@ module _ (script words vs ps cs : List ℕ) (ok : Kept itemCount script vs ps cs
     pub bulk-within : o < c → (h r t : ℕ) → h ≡ capped (bulk (drop o (ownItems (bindingsIn script vs ps) words))) → r ≡ capped (bulk (allItems (bindingsIn script vs ps) (firsts (b .left) (spelled ws)))) → t ≡ capped (h + r)
         → t ≡ capped (bulk (drop o (allItems (bindingsIn script vs ps) (firsts p (spelled words)))))
     bulk-within q h r t = bulk-sum (drop o (ownItems (bindingsIn script vs ps) words)) _ _ (drop-within _ (ownItems (bindingsIn script vs ps) words) _ o c split (own script ps ok) q)
-
--- what is left is less: the items that the first word has of its own, or what stands behind them
-pub rank-own : (v n t : ℕ) → rank v (suc n) ≡ t → rank v 0 < t
-rank-own v n t e = rank-less _ _ _ _ e (omega arith)
-
-pub rank-behind : (words : List ℕ) (p : ℕ) (b : Behind) → Passed words p b → (ws : List ℕ) → ws ≡ drop (b .used) words → (v t : ℕ) → rank v (suc (3 * length words + p)) ≡ t → rank v (suc (3 * length ws + b .left)) < t
-rank-behind words p b done ws e v t f = rank-less _ _ _ _ f (omega (arith, ap length e, done .less))
 
 -- the bulk of those that a word has of its own: the word is looked up among the bindings
 module _ (script words vs ps cs ss bs : List ℕ) (o k t : ℕ) (m : MessageWord) (ok : Cached script vs ps cs ss bs) (e : m ≡ firstWord words) (f : k ≡ boundAt m vs) where

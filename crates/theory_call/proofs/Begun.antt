@@ -9,12 +9,10 @@ use lib.Dec.{eqb}
 use borrow.Author.Tests.{eqb-false, ne-eqb}
 use Rattle.read_messages.specs.Reading.{Cursor, got}
 use Rattle.read_messages.specs.Message.{Message}
-use Rattle.read_messages.proofs.Cases as message
 use Rattle.read_scripts.specs.Tree.{Head, close, part, oneIf, totalOver, parts, timesIn, mapHeads, bare, settle}
 use Rattle.read_scripts.specs.Script.{Written, Script, readScript, headWithItems, withItems, started}
 use Rattle.read_scripts.proofs.Numbers.{Range, numbered-range}
 use Rattle.read_scripts.proofs.Scopes.{receives, uses, receiptsOf, looseIn, script-bound}
-use Rattle.read_scripts.proofs.Cases as body
 use Rattle.read_scripts.proofs.Tabled.{script-tabled, script-number}
 use Rattle.base_slices.proofs.Tests.{byTest}
 use Rattle.theory_machine.proofs.Sums.{map-total, settle-total}

@@ -7,10 +7,8 @@ use native.Mathlib.Omega.{arith}
 use lib.Dec.{eqb}
 use Rattle.read_messages.specs.Reading.{Cursor, got}
 use Rattle.read_messages.specs.Message.{Message}
-use Rattle.read_messages.proofs.Cases as message
 use Rattle.read_scripts.specs.Tree.{Head, ambient, action, receipt, output, close, part, oneIf, totalOver, timesIn, mapHeads, settle}
 use Rattle.read_scripts.specs.Script.{Written, Script, readScript, headWithItems, withItems, started}
-use Rattle.read_scripts.proofs.Cases as body
 use Rattle.read_scripts.proofs.Numbers.{numbered-range}
 use Rattle.read_scripts.proofs.Scopes.{receives, uses, receiptsOf, looseIn, script-bound}
 use Rattle.read_scripts.proofs.Tabled.{script-tabled}

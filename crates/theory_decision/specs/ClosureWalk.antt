@@ -7,7 +7,7 @@ use Rattle.read_messages.specs.Message.{name}
 use Rattle.read_messages.specs.declared.Named.the-variants.{Called}
 use Rattle.read_scripts.specs.Tree.{ambient, close, part}
 use Rattle.theory_machine.specs.Moves.{MoveMade, headName, isNamed, sameName}
-use Rattle.theory_closures.specs.Closure.{Action, ClosureHead, Closure, Bindings, viewUnder, closureMove, ClosureMachine}
+use Rattle.theory_closures.specs.Closure.{Action, Closure, Bindings, viewUnder, closureMove, ClosureMachine}
 use Rattle.theory_decision.specs.Divisions.{isVoid, divisions}
 use Rattle.theory_decision.specs.Walk.{Space, inOrder}
 

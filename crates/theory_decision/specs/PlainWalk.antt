@@ -5,7 +5,7 @@ use mathlib.Core.List.{List, [], _∷_}
 use mathlib.Core.Option.{Option, none, some}
 use Rattle.read_messages.specs.Message.{Message}
 use Rattle.read_messages.specs.declared.Named.the-variants.{Called}
-use Rattle.read_scripts.specs.Tree.{close, part, PlainHead, Plain}
+use Rattle.read_scripts.specs.Tree.{close, part, Plain}
 use Rattle.theory_machine.specs.Moves.{MoveMade, headName, isNamed, sameName}
 use Rattle.theory_machine.specs.PlainMachine.{plain, move}
 use Rattle.theory_calculus.specs.Satisfaction.{wrapped}

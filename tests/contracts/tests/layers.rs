@@ -74,7 +74,7 @@ fn the_theory_has_no_code() {
     }
 }
 
-/// Whether a line is the text of a way, the line above being its type.
+/// Whether a line is the text of a way between points of the code, the line above being its type.
 fn is_way(above: &str, line: &str) -> bool {
     let name = above.trim_start().strip_prefix("abbrev ").and_then(|rest| rest.split_whitespace().find(|word| *word != "pub"));
     name.is_some_and(|name| line.trim_start().starts_with(&format!("{name} ")))
@@ -87,7 +87,7 @@ fn earlier_points_of_the_code_are_named() {
         for file in files(&root().join("crates").join(&name).join("proofs"), ".antt") {
             let text = read(&file);
             let lines: Vec<&str> = text.lines().collect();
-            for (i, line) in lines.iter().enumerate().filter(|(_, line)| line.contains(".before .before")) {
+            for (i, line) in lines.iter().enumerate().filter(|(_, line)| line.contains(".before")) {
                 assert!(i > 0 && is_way(lines[i - 1], line), "{}:{}: {line}", file.display(), i + 1);
                 ways += 1;
             }

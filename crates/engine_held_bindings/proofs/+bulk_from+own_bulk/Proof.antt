@@ -4,8 +4,8 @@ use Prim.Native.Nat.{ℕ, suc, _+_, _*_, _<_}
 use borrow.Author.Needs.{needs}
 use lib.ListN.{length}
 use Rattle.engine_bindings.proofs.Passing.{none-pending, behind-room, part-room}
-use Rattle.engine_bindings.proofs.Counting.{kept-length, rank}
-use Rattle.engine_held_bindings.proofs.Sizing.{bulk-none, bulk-past, bulk-within, bulk-kept, bulk-older, bulk-single, cached-older, own-within, rank-own, rank-behind, rank-given}
+use Rattle.engine_bindings.proofs.Counting.{kept-length, own-within, rank, rank-own, rank-behind}
+use Rattle.engine_held_bindings.proofs.Sizing.{bulk-none, bulk-past, bulk-within, bulk-kept, bulk-older, bulk-single, cached-older, rank-given}
 use borrow.Fn.Kinds.{In, Out}
 use borrow.Fn.PlainCycle.{Measures, is, falls, and}
 use Rattle.engine_held_bindings.proofs.bulk_from.Reads as bulk-from

@@ -7,7 +7,6 @@ use Rattle.walk_stages.proofs.Trials.{Seeks, seeks-all, seeks-others, seeks-her
 use borrow.Author.Needs.{needs}
 use Rattle.walk_states.proofs.next_turn.Statement.{statement}
 use Rattle.walk_states.proofs.next_turn.Tie as tie
-use Rattle.base_sets.proofs.rest.Reads as rest-reads
 
 abbrev Inv-loop : tie.InvT-loop
 Inv-loop inner start left limit from₀ rest₀ from rest = Seeks inner limit from rest (pairsBehind inner limit start left)

@@ -15,9 +15,7 @@ use Rattle.engine_bindings.specs.declared.Behind.{Behind}
 use Rattle.engine_bindings.specs.Passes.{Passed, firsts, allItems, ownItems}
 use Rattle.engine_message_words.specs.Words.{firstWord, boundAt}
 use Rattle.engine_bindings.proofs.Passing.{none-pending, first-bound, unbound-free, single, given-own}
-use Rattle.engine_bindings.proofs.Counting.{kept-length, drop-past, rank, rank-less, rank-older}
-use Rattle.base_slices.specs.Sums.{capped}
-use Rattle.base_slices.proofs.Capping.{below-count}
+use Rattle.engine_bindings.proofs.Counting.{kept-length, drop-past, OwnCount, own-within, rank, rank-own, rank-behind, rank-older}
 use Rattle.theory_written_trees.specs.Write.{Indices}
 use Rattle.write_messages.specs.Asked.{PendingItemsAsked}
 use Rattle.write_messages.specs.Buffer.{Wrote}
@@ -75,17 +73,7 @@ single-wrote ix l o k n r script vs ps ws xs ys zs m w v small kept h e f i =
 none-wrote : (ix : Indices) (l o p : ℕ) (σ : List (ℕ × Message)) (s : List Message) (xs : List ℕ) → p ≡ 0 → Wrote (strung ix l (drop o (allItems σ (firsts p s)))) xs xs 0
 none-wrote ix l o p σ s xs e = wrote-none (strung-none ix l o _ (none-pending σ p s e))
 
--- the word's own items are passed: what is behind them is less, and it may be asked for from the offset on that is left
-behind-less : (ws ts : List ℕ) (p : ℕ) (b : Behind) → Passed ws p b → ts ≡ drop (b .used) ws → suc (3 * length ts + b .left) < suc (3 * length ws + p)
-behind-less ws ts p b passed e = omega (arith, ap length e, passed .less)
-
--- what is said of the number of the word's own items
-abbrev Counts : (c : ℕ) (vs cs ws : List ℕ) → Type 0
-Counts c vs cs ws = (script ps : List ℕ) → Kept itemCount script vs ps cs → c ≡ capped (length (ownItems (bindingsIn script vs ps) ws))
-
-own-within : (c o : ℕ) (script vs ps cs ws : List ℕ) → Counts c vs cs ws → Kept itemCount script vs ps cs → o < c → o < length (ownItems (bindingsIn script vs ps) ws)
-own-within c o script vs ps cs ws count ok h = below-count _ _ _ (count script ps ok) h
-
+-- the word's own items are passed: what is behind them may be asked for from the offset on that is left
 past-asked : (script vs ps cs rs is ws ts xs : List ℕ) (p o c : ℕ) (b : Behind) → PendingItemsAsked script ws p o vs ps cs rs is xs → Passed ws p b → ts ≡ drop (b .used) ws
     → PendingItemsAsked script ts (b .left) (o - c) vs ps cs rs is xs
 past-asked script vs ps cs rs is ws ts xs p o c b a passed e =
@@ -97,7 +85,7 @@ behind-asked script vs ps cs rs is ws ts xs ys p o m b a passed e h kept =
     record { room = omega (arith, ap length e, passed .room, a .room); asked = record { counted = a .asked .counted; indexed = a .asked .indexed; small = omega (arith, a .asked .small, partly-lent (partly-small o m xs ys (a .asked .small) h kept)) } }
 
 -- what is pending is the word's own items and those behind them
-module _ (script vs ps cs ws ts : List ℕ) (p c o : ℕ) (b : Behind) (passed : Passed ws p b) (e : ts ≡ drop (b .used) ws) (count : Counts c vs cs ws) (ok : Kept itemCount script vs ps cs) where
+module _ (script vs ps cs ws ts : List ℕ) (p c o : ℕ) (b : Behind) (passed : Passed ws p b) (e : ts ≡ drop (b .used) ws) (count : OwnCount c vs cs ws) (ok : Kept itemCount script vs ps cs) where
   abbrev σ : List (ℕ × Message)
   σ = bindingsIn script vs ps
 
@@ -189,16 +177,16 @@ module _ (t : ℕ) where
   none-returns c = search (none-wrote, needs)
 
   past-requires : AtRest rest-lts.Need-write-rest-requires
-  past-requires c κs = (rank-less _ _ _ _ (past-start c .pre .0) (search (behind-less, needs)), search (past-asked, past-start c .pre .1, needs))
+  past-requires c κs = (search (rank-behind, past-start c .pre .0, needs), search (past-asked, past-start c .pre .1, needs))
 
   past-returns : AtRest rest-lts.Need-returns-2
   past-returns c = search (past-wrote, past-end c .pre .1, needs)
 
   own-requires : AtRest rest-lts.Need-write-own-requires
-  own-requires c κs = (rank-less _ _ _ _ (own-start c .pre .0) (search needs), record { asked = search needs; within = search (own-within, needs) })
+  own-requires c κs = (search (rank-own, own-start c .pre .0, needs), record { asked = search needs; within = search (own-within, needs) })
 
   behind-requires : AtRest rest-lts.Need-write-rest-requires-2
-  behind-requires c κs = (rank-less _ _ _ _ (behind-start c .pre .0) (search (behind-less, needs)), search (behind-asked, behind-start c .pre .1, needs))
+  behind-requires c κs = (search (rank-behind, behind-start c .pre .0, needs), search (behind-asked, behind-start c .pre .1, needs))
 
   behind-returns : AtRest rest-lts.Need-returns-3
   behind-returns c = search (behind-wrote, behind-end c .pre .1, needs)
