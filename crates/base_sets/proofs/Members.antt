@@ -52,9 +52,6 @@ elem-keep p i (x ∷ l) = go (eqb i x) refl (p x) refl (elem-keep p i l)
     at-x : eqb i x ≡ true → p i ≡ p x
     at-x e = ap p (eqb-true i x e)
 
-    swap : (t u : Bool) → u ≡ (t && u) → u ≡ (t && u)
-    swap t u e = e
-
     go : (e : Bool) → eqb i x ≡ e → (t : Bool) → p x ≡ t → elem i (keep p l) ≡ (p i && elem i l)
         → elem i (keepIf t x (keep p l)) ≡ (p i && (e || elem i l))
     go true ee true et ih = ap (λ (u : Bool). u || elem i (keep p l)) ee ∙ sym (ap (λ (u : Bool). u && true) (at-x ee ∙ et))
@@ -298,6 +295,9 @@ first-is m i h n p = first-and-rest m h n ∙ ap (λ (j : ℕ). j ∷ tail (memb
 
 pub first-below : (m i : ℕ) (l : List ℕ) → members m ≡ i ∷ l → i < 64
 first-below m i l e = subst (AllUnder 64) e (members-below m) .0
+
+pub first-low : (m i : ℕ) → m < 2 ^ 64 → (m ≡ 0 → ⊥) → i ≡ headOr 64 (members m) → i < 64
+first-low m i h n e = first-below m i (tail (members m)) (first-is m i h n e)
 
 pub not-none : (m : ℕ) → m < 2 ^ 64 → (m ≡ 0 → ⊥) → members m ≡ [] → ⊥
 unfolding mask

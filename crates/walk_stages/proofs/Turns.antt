@@ -11,7 +11,7 @@ use lib.Pow.{pow-pos}
 use Rattle.read_messages.specs.Words.{kind}
 use Rattle.base_sets.specs.Sets.{members, elem, headOr, inBoth, numbersFrom}
 use Rattle.base_sets.specs.Shares.{picked}
-use Rattle.base_sets.proofs.Members.{members-step, first-is, first-below}
+use Rattle.base_sets.proofs.Members.{members-step}
 use Rattle.base_sets.proofs.Divisions.{share-first}
 use Rattle.read_scripts.specs.Tree.{tops, timesIn}
 use Rattle.read_scripts.specs.Represents.{bodyIn}
@@ -47,10 +47,7 @@ use Rattle.walk_stages.proofs.Targeted.{after, after-made, after-is}
 use Rattle.walk_stages.proofs.Trials.{turns-first, turns-fewer, Tried, tried-holds, tried-makes, tried-again, tried-stops, tried-ends, nexts-made}
 use Rattle.walk_stages.proofs.Scenes.{scene-told, scene-piece, scene-inner, scene-chosen, scene-moved, Inside}
 
--- a loop over the members of a set: its first member, and that the others are fewer
-pub first-low : (m i : ℕ) → m < 2 ^ 64 → (m ≡ 0 → ⊥) → i ≡ headOr 64 (members m) → i < 64
-first-low m i small some-left first = first-below m i (tail (members m)) (first-is m i small some-left first)
-
+-- a loop over the members of a set: those behind its first are fewer
 pub rest-shorter : (m i others : ℕ) → m < 2 ^ 64 → (m ≡ 0 → ⊥) → i ≡ headOr 64 (members m) → members others ≡ tail (members m) → length (members others) < length (members m)
 rest-shorter m i others small some-left first rest =
     let e : length (members m) ≡ suc (length (members others)) = ap length (members-step m i others small some-left first rest) in

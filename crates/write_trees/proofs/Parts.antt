@@ -1,5 +1,5 @@
 -- What a part and a body are written with, by the kind of the part and by the first part of the body. Assumes nothing.
-use Prim.Native.Nat.{ℕ, suc, _+_, _-_, _^_, _≤_, _<_}
+use Prim.Native.Nat.{ℕ, suc, _+_, _-_, _≤_, _<_}
 use mathlib.Core.Bool.{true, false, true≢false}
 use mathlib.Core.List.{List, [], _∷_, _++_, append-nil, tail}
 use mathlib.Core.Path.{_≡_, refl, sym, ap, _∙_, subst}
@@ -9,8 +9,7 @@ use borrow.Author.Tests.{lt-ltb}
 use Rattle.read_messages.specs.Words.{word}
 use Rattle.read_messages.specs.Message.{Message, items}
 use Rattle.read_messages.specs.Spelling.{messageAt}
-use Rattle.base_sets.specs.Sets.{members, headOr}
-use Rattle.base_sets.proofs.Members.{first-is, first-below}
+use Rattle.base_sets.specs.Sets.{headOr}
 use Rattle.read_scripts.specs.Tree.{ambient, action, receipt, output, close, part, kindNumber, tops, totalOver, parts, mapHeads, Plain}
 use Rattle.read_scripts.specs.Represents.{Held}
 use Rattle.theory_closures.specs.Resolve.{resolve}
@@ -31,10 +30,6 @@ use Rattle.write_trees.specs.declared.Around.{Around}
 use Rattle.write_trees.specs.Bodies.{hasBody, writeLabel, Scripted, CountsPart, CountsBody}
 
 -- ---- a part of the tree
-
--- the first of those that are left
-pub first-low : (m i : ℕ) → m < 2 ^ 64 → (m ≡ 0 → ⊥) → i ≡ headOr 64 (members m) → i < 64
-first-low m i h n e = first-below m i (tail (members m)) (first-is m i h n e)
 
 module _ (starts offsets : List ℕ) (i : ℕ) (ok : Scripted starts offsets) where
   pub part-placed : getD starts i 0 < 65536

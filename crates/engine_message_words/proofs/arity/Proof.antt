@@ -4,10 +4,8 @@ use Rattle.engine_message_words.proofs.FirstWords.{shape-fits}
 use Rattle.engine_message_words.proofs.arity.Statement.{statement}
 use Rattle.engine_message_words.proofs.arity.Tie as tie
 
+returns : tie.Need-returns
+returns c = cc
+
 pub arity-spec : {M : Type 1} → statement M
-arity-spec =
-    tie.close
-    (tie.spec
-    (λ c κs. search needs)
-    (λ c. search (shape-fits, needs))
-    (λ c. cc))
+arity-spec = tie.close (tie.spec (λ c κs. search needs) (λ c. search (shape-fits, needs)) returns)

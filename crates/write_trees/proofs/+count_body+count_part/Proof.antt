@@ -8,12 +8,12 @@ use borrow.Author.Needs.{needs}
 use lib.ListN.{length, getD}
 use Rattle.base_slices.specs.Sums.{capped}
 use Rattle.base_sets.specs.Sets.{members, headOr}
-use Rattle.base_sets.proofs.Members.{first-is, not-none, members-empty}
+use Rattle.base_sets.proofs.Members.{first-is, first-low, not-none, members-empty}
 use Rattle.theory_closures.specs.Closure.{ClosureHead, Bindings, unfoldHead}
 use Rattle.engine_states.specs.Represents.{headOf, heads}
 use Rattle.theory_written_trees.specs.Write.{Indices, writeHead}
 use Rattle.write_trees.specs.Bodies.{hasBody, CountsPart, CountsBody}
-use Rattle.write_trees.proofs.Parts.{first-low, part-placed, part-spent, counts-none, counts-end, counts-inside, counts-only, counts-more}
+use Rattle.write_trees.proofs.Parts.{part-placed, part-spent, counts-none, counts-end, counts-inside, counts-only, counts-more}
 use borrow.Fn.Kinds.{In, Out}
 use borrow.Fn.PlainCycle.{Measures, is, falls, and}
 use Rattle.write_trees.proofs.count_body.Reads as count-body

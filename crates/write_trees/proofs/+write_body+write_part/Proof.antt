@@ -9,7 +9,7 @@ use borrow.Author.Needs.{needs}
 use lib.ListN.{length, getD}
 use Rattle.read_messages.specs.Words.{word}
 use Rattle.base_sets.specs.Sets.{members, headOr}
-use Rattle.base_sets.proofs.Members.{first-is, not-none, members-empty}
+use Rattle.base_sets.proofs.Members.{first-is, first-low, not-none, members-empty}
 use Rattle.theory_closures.specs.Closure.{ClosureHead, Bindings, unfoldHead}
 use Rattle.engine_states.specs.Represents.{headOf}
 use Rattle.theory_written_trees.specs.Write.{Indices, writeHead, within}
@@ -19,7 +19,7 @@ use Rattle.write_trees.specs.Asked.{AroundAsked, PartAsked, BodyAsked}
 use Rattle.write_trees.specs.Around.{BodyAround}
 use Rattle.write_trees.specs.Bodies.{hasBody, Writes, WritesPart}
 use Rattle.write_trees.specs.declared.Around.{Around}
-use Rattle.write_trees.proofs.Parts.{first-low, part-placed, part-small}
+use Rattle.write_trees.proofs.Parts.{part-placed, part-small}
 use Rattle.write_trees.proofs.Writing.{writes-full, writes-none, writes-end, writes-more, writes-inside, writes-only}
 use borrow.Fn.Kinds.{In, Out}
 use borrow.Fn.PlainCycle.{Measures, is, falls, and}

@@ -4,10 +4,11 @@ use mathlib.Core.Path.{_≡_, refl}
 use native.Mathlib.Omega.{arith}
 use borrow.Author.Needs.{needs}
 use lib.ListN.{length}
+use Rattle.base_sets.proofs.Members.{first-low}
 use Rattle.walk_stages.specs.Order.{pairsLeft, TurnWithin}
 use Rattle.walk_stages.proofs.Scenes.{visitable-state}
 use Rattle.walk_stages.proofs.Trials.{within-none}
-use Rattle.walk_stages.proofs.Turns.{first-low, sometime-first, sometime-then, Trying, trying-less, trying-holds, trying-again, trying-stops, trying-ends}
+use Rattle.walk_stages.proofs.Turns.{sometime-first, sometime-then, Trying, trying-less, trying-holds, trying-again, trying-stops, trying-ends}
 use Rattle.walk_states.proofs.Lendings.{step-moves, step-apart}
 use Rattle.walk_visits.proofs.+at_name+beside+either+negation+placed_in+some_name+sometime+somewhere+split+visit.Lts-sometime as lts
 use Rattle.walk_visits.proofs.sometime.Reads as reads

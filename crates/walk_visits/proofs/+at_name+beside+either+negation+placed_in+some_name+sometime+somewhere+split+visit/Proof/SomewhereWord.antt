@@ -4,9 +4,9 @@ use native.Mathlib.Omega.{arith}
 use borrow.Author.Needs.{needs}
 use lib.ListN.{length}
 use Rattle.base_sets.specs.Sets.{members}
-use Rattle.base_sets.proofs.Members.{not-none}
+use Rattle.base_sets.proofs.Members.{first-low, not-none}
 use Rattle.walk_stages.proofs.Scenes.{visitable-top}
-use Rattle.walk_stages.proofs.Turns.{first-low, rest-shorter, somewhere-first, somewhere-then, Seeking, seeking-holds, seeking-again, seeking-stops, seeking-ends}
+use Rattle.walk_stages.proofs.Turns.{rest-shorter, somewhere-first, somewhere-then, Seeking, seeking-holds, seeking-again, seeking-stops, seeking-ends}
 use Rattle.walk_visits.proofs.+at_name+beside+either+negation+placed_in+some_name+sometime+somewhere+split+visit.Lts-somewhere as lts
 use Rattle.walk_visits.proofs.somewhere.Reads as reads
 use Rattle.walk_visits.proofs.+at_name+beside+either+negation+placed_in+some_name+sometime+somewhere+split+visit.Proof.Measures.{somewhere-at, somewhere-claims}
