@@ -23,12 +23,13 @@ use Rattle.capi.specs.Told.{returned, answered, bufferAfter, Decided, We
 -- what is kept to where the call returns r, given words for its answer, and leaves these and those in the output buffer
 abbrev pub Keeps : Call → (r : ℕ) → (given words out : List ℕ) → Type 0
 Keeps c r given words out =
-    (r ≡ 0 → (words ≡ given) × (out ≡ c .buffer))
+    (r ≡ 0 → words ≡ given)
+    × ((r ≡ 0 → out ≡ c .buffer)
     × ((r ≡ 1 → Decided c (getD words 0 0))
     × ((r ≡ 1 → MovesBounded (c .script) (getD words 3 0))
     × (WeighedBy c r (getD words 6 0)
     × ((r ≡ 1 → ReducedBy c (getD words 0 0) (getD words 3 0))
-    × ((r ≡ 1 → ReturnedBy c (getD words 0 0) (treeWords words out)) × (r ≡ 1 → ReadmittedBy (getD words 0 0) (treeWords words out)))))))
+    × ((r ≡ 1 → ReturnedBy c (getD words 0 0) (treeWords words out)) × (r ≡ 1 → ReadmittedBy (getD words 0 0) (treeWords words out))))))))
 
 one≢none : {B : Type 0} → _≡_ {A = ℕ} 0 1 → B
 one≢none e = absurd (let z : ⊥ = omega arith in z)
@@ -36,7 +37,7 @@ one≢none e = absurd (let z : ⊥ = omega arith in z)
 -- no room: nothing is done
 pub short : (c : Call) (words : List ℕ) → length words < 8 → (0 ≡ returned words) × ((words ≡ answered c words) × ((c .buffer ≡ bufferAfter c words) × Keeps c 0 words words (c .buffer)))
 short c words l =
-    let none : Keeps c 0 words words (c .buffer) = (λ e. (refl, refl), (one≢none, (one≢none, (record { each = weight-holds c; told = one≢none }, (one≢none, (one≢none, one≢none)))))) in
+    let none : Keeps c 0 words words (c .buffer) = (λ e. refl, (λ e. refl, (one≢none, (one≢none, (record { each = weight-holds c; told = one≢none }, (one≢none, (one≢none, one≢none))))))) in
     rw (lt-leb 8 (length words) l) (refl, (refl, (refl, none)))
 
 -- what the first word says of a verdict
@@ -60,31 +61,41 @@ said-none (refused q i) e = (q, i, refl)
 
 module _ (c : Call) where
   -- what holds of every verdict that the call's is, holds by the first word
-  by-word : (P : Verdict → Type 0) → ((v : Verdict) → answer c .verdict ≡ v → P v) → (saidOf (answer c .verdict) ≡ 2 → P (accepted true)) × (saidOf (answer c .verdict) ≡ 1 → P (accepted false))
-  by-word P f = (λ e. f (accepted true) (said-yes (answer c .verdict) e), λ e. f (accepted false) (said-no (answer c .verdict) e))
+  by-yes : (P : Verdict → Type 0) → ((v : Verdict) → answer c .verdict ≡ v → P v) → saidOf (answer c .verdict) ≡ 2 → P (accepted true)
+  by-yes P f e = f (accepted true) (said-yes (answer c .verdict) e)
+
+  by-no : (P : Verdict → Type 0) → ((v : Verdict) → answer c .verdict ≡ v → P v) → saidOf (answer c .verdict) ≡ 1 → P (accepted false)
+  by-no P f e = f (accepted false) (said-no (answer c .verdict) e)
 
   decided : Decided c (saidOf (answer c .verdict))
   unfolding Decides
-  decided = by-word (Decides c) (decides c)
+  decided = record { yes = by-yes (Decides c) (decides c); no = by-no (Decides c) (decides c) }
 
   reduced : ReducedBy c (saidOf (answer c .verdict)) (answer c .moves)
   unfolding Reduces
   reduced =
-      let b = by-word (λ v. Reduces c v (answer c .moves)) (λ v e. reduces c v (answer c .moves) e refl) in
-      (b .0, b .1, λ e q i. let (k, j, x) = said-none (answer c .verdict) e in reduces c (refused k j) (answer c .moves) x refl)
+      let P : Verdict → Type 0 = λ v. Reduces c v (answer c .moves) in
+      let all : (v : Verdict) → answer c .verdict ≡ v → P v = λ v e. reduces c v (answer c .moves) e refl in
+      record { yes = by-yes P all; no = by-no P all; unanswered = λ e q i. let (k, j, x) = said-none (answer c .verdict) e in all (refused k j) x }
 
   returning : ReturnedBy c (saidOf (answer c .verdict)) (leftBy (answer c))
-  returning = by-word (λ v. Returned c v (leftBy (answer c))) (λ v e. leaving.returned c v (leftBy (answer c)) e refl)
+  returning =
+      let P : Verdict → Type 0 = λ v. Returned c v (leftBy (answer c)) in
+      let all : (v : Verdict) → answer c .verdict ≡ v → P v = λ v e. leaving.returned c v (leftBy (answer c)) e refl in
+      record { yes = by-yes P all; no = by-no P all }
 
   readmitted : ReadmittedBy (saidOf (answer c .verdict)) (leftBy (answer c))
-  readmitted = by-word (λ v. Readmitted v (leftBy (answer c))) (λ v e. leaving.readmitted c v (leftBy (answer c)) e refl)
+  readmitted =
+      let P : Verdict → Type 0 = λ v. Readmitted v (leftBy (answer c)) in
+      let all : (v : Verdict) → answer c .verdict ≡ v → P v = λ v e. leaving.readmitted c v (leftBy (answer c)) e refl in
+      record { yes = by-yes P all; no = by-no P all }
 
 -- the words of an answer and of the tree keep to it
 told-keeps : (c : Call) (given rest : List ℕ) → Keeps c 1 given (told (answer c) ++ rest) (answer c .buffer)
 unfolding told
 told-keeps c given rest = (
   λ e. one≢none (sym e),
-  (λ e. decided c, (λ e. moves-bounded c, (record { each = weight-holds c; told = λ e. weight-bounded c }, (λ e. reduced c, (λ e. returning c, λ e. readmitted c))))),
+  (λ e. one≢none (sym e), (λ e. decided c, (λ e. moves-bounded c, (record { each = weight-holds c; told = λ e. weight-bounded c }, (λ e. reduced c, (λ e. returning c, λ e. readmitted c)))))),
 )
 
 -- room: the call's answer is told

@@ -25,14 +25,17 @@ answered c words = cond (hasRoom words) (told (answer c) ++ drop 8 words) words
 
 -- demand 2, of the first word of an answer that is told: 2 only where the process that stands satisfies the rule, 1 only
 -- where it does not
-abbrev pub Decided : Call → ℕ → Type 0
-Decided c w = (w ≡ 2 → (s : Standing c) × Holds c s) × (w ≡ 1 → (s : Standing c) × ¬ Holds c s)
+pub record Decided (c : Call) (said : ℕ) : Type 0 where
+  pub yes : said ≡ 2 → (s : Standing c) × Holds c s
+  pub no : said ≡ 1 → (s : Standing c) × ¬ Holds c s
 
 -- the moves in the paper's terms, of the first word and the fourth: 2 only where the whole list leads from the script as
 -- written to a process that satisfies the rule, 1 only where it leads to one that does not; and by 0 too the moves made are a
 -- chain of reductions
-abbrev pub ReducedBy : Call → (said moves : ℕ) → Type 0
-ReducedBy c w k = (w ≡ 2 → Reduces c (accepted true) k) × (w ≡ 1 → Reduces c (accepted false) k) × (w ≡ 0 → (q i : ℕ) → Reduces c (refused q i) k)
+pub record ReducedBy (c : Call) (said moves : ℕ) : Type 0 where
+  pub yes : said ≡ 2 → Reduces c (accepted true) moves
+  pub no : said ≡ 1 → Reduces c (accepted false) moves
+  pub unanswered : said ≡ 0 → (q i : ℕ) → Reduces c (refused q i) moves
 
 -- the weight, before the first move and after each; and, where the call returns 1, of the seventh word
 pub record WeighedBy (c : Call) (r weight : ℕ) : Type 0 where
@@ -44,12 +47,14 @@ abbrev pub treeWords : (words out : List ℕ) → List ℕ
 treeWords words out = take (getD words 7 0) out
 
 -- where the first word is 2 or 1, the tree that is left there is read again as the process that stands
-abbrev pub ReturnedBy : Call → (said : ℕ) → (tree : List ℕ) → Type 0
-ReturnedBy c w ws = (w ≡ 2 → Returned c (accepted true) ws) × (w ≡ 1 → Returned c (accepted false) ws)
+pub record ReturnedBy (c : Call) (said : ℕ) (tree : List ℕ) : Type 0 where
+  pub yes : said ≡ 2 → Returned c (accepted true) tree
+  pub no : said ≡ 1 → Returned c (accepted false) tree
 
 -- and only questions 1 and 4 can refuse it
-abbrev pub ReadmittedBy : (said : ℕ) → (tree : List ℕ) → Type 0
-ReadmittedBy w ws = (w ≡ 2 → Readmitted (accepted true) ws) × (w ≡ 1 → Readmitted (accepted false) ws)
+pub record ReadmittedBy (said : ℕ) (tree : List ℕ) : Type 0 where
+  pub yes : said ≡ 2 → Readmitted (accepted true) tree
+  pub no : said ≡ 1 → Readmitted (accepted false) tree
 
 -- the words of the output buffer after the call
 abbrev pub bufferAfter : Call → List ℕ → List ℕ

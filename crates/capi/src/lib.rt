@@ -20,7 +20,8 @@ pub extern "C" fn skycorbel_call<'a, 'b, 'c>(
     ensures returned { λ r. ⌜ r ≡ returned (now (answer .entry)) ⌝ }
     ensures answered { λ _. ⌜ now (answer .exit) ≡ answered (callOf (now (script .entry)) (now (moves .entry)) (now (rule .entry)) patience (now (out .entry))) (now (answer .entry)) ⌝ }
     ensures written { λ _. ⌜ now (out .exit) ≡ bufferAfter (callOf (now (script .entry)) (now (moves .entry)) (now (rule .entry)) patience (now (out .entry))) (now (answer .entry)) ⌝ }
-    ensures untouched { λ r. ⌜ (r ≡ 0 → (now (answer .exit) ≡ now (answer .entry)) × (now (out .exit) ≡ now (out .entry))) ⌝ }
+    ensures untold { λ r. ⌜ (r ≡ 0 → now (answer .exit) ≡ now (answer .entry)) ⌝ }
+    ensures unwritten { λ r. ⌜ (r ≡ 0 → now (out .exit) ≡ now (out .entry)) ⌝ }
     ensures decided { λ r. ⌜ (r ≡ 1 → Decided (callOf (now (script .entry)) (now (moves .entry)) (now (rule .entry)) patience (now (out .entry))) (getD (now (answer .exit)) 0 0)) ⌝ }
     ensures bounded { λ r. ⌜ (r ≡ 1 → MovesBounded (now (script .entry)) (getD (now (answer .exit)) 3 0)) ⌝ }
     ensures weighed { λ r. ⌜ WeighedBy (callOf (now (script .entry)) (now (moves .entry)) (now (rule .entry)) patience (now (out .entry))) r (getD (now (answer .exit)) 6 0) ⌝ }

@@ -14,7 +14,8 @@ ghost use Rattle.skycorbel.specs.Right.{Right};
 
 // A byte as a word.
 fn wide(x: u8) -> u32
-    ensures { λ r. ⌜ (r ≡ x) × (r < 256) ⌝ }
+    ensures same { λ r. ⌜ r ≡ x ⌝ }
+    ensures small { λ r. ⌜ r < 256 ⌝ }
 {
     x as u32
 }
@@ -31,7 +32,8 @@ fn word_at(input: &[u8], at: usize) -> u32
 
 // The input's words.
 fn unpack(input: &[u8], count: usize, words: &mut [u32])
-    requires { ⌜ (4 * count ≤ length (now input)) × (count ≤ length (now words)) ⌝ }
+    requires whole { ⌜ 4 * count ≤ length (now input) ⌝ }
+    requires room { ⌜ count ≤ length (now words) ⌝ }
     ensures { λ _. ⌜ take count (now (words .exit)) ≡ wordsOf count (now (input .entry)) ⌝ }
 {
     let mut i: usize = 0;
@@ -43,7 +45,8 @@ fn unpack(input: &[u8], count: usize, words: &mut [u32])
 
 // The reply to an input of so many whole words.
 fn reply_to_bytes(input: &[u8], count: usize, text: &mut [u8]) -> usize
-    requires { ⌜ (4 * count ≤ length (now input)) × (count ≤ 6144) ⌝ }
+    requires whole { ⌜ 4 * count ≤ length (now input) ⌝ }
+    requires few { ⌜ count ≤ 6144 ⌝ }
     ensures { λ r. ⌜ Puts (now (text .entry)) (now (text .exit)) 0 r (wordsReply (wordsOf count (now (input .entry)))) ⌝ }
 {
     let mut words = [0u32; 6144];

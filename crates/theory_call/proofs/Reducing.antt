@@ -24,7 +24,7 @@ use Rattle.theory_calculus.proofs.Reductions.{move-reduces}
 use Rattle.theory_calculus.proofs.Kept.{Good, good-move}
 use Rattle.theory_calculus.proofs.Agreement.{congruent-satisfies}
 use Rattle.theory_call.specs.Call.{Call, Verdict, accepted, refused, Ran, halted, completed, actor, target, moveFits, afterMove, ifMade, run, begun, refusal, Start, partsOf, starting, answer}
-use Rattle.theory_call.specs.Standing.{Standing, After, Reduced, Reduces}
+use Rattle.theory_call.specs.Standing.{Standing, After, Reduced, ReducedWhole, Reduces}
 use Rattle.theory_call.proofs.Runs.{run-none, run-step}
 use Rattle.theory_call.proofs.Begun.{script-written, script-good}
 use Rattle.theory_call.proofs.Entering.{starting-got, start-reads}
@@ -146,20 +146,26 @@ module _ (c : Call) where
       let made = ap (λ (x : Start). run (partsOf (s .start)) 0 (c .moves) (x .machine)) (sym own) ∙ s .moves-made in
       first-reduced c (s .start .read) r k (s .machine) (omega arith) (ap (λ (l : List ℕ). run (partsOf (s .start)) 0 l (begun (s .start .read .0))) all ∙ made)
 
+  whole-reduced : (a : Bool) (k : ℕ) → answer c .verdict ≡ accepted a → answer c .moves ≡ k → ReducedWhole c k
+  whole-reduced a k e d =
+      let s = answer-stands c a e in
+      let n : k ≡ length (c .moves) = sym d ∙ accepted-moves a e in
+      record { standing = s; chain = standing-reduced s k n; whole = n }
+
   -- THEOREM: for every call, the moves that it answers are a chain of the paper's reductions from the script as written, and
   -- its yes or no is about the process that they lead to.
   pub reduces : (v : Verdict) (k : ℕ) → answer c .verdict ≡ v → answer c .moves ≡ k → Reduces c v k
   unfolding Reduces
   reduces (accepted true) k e d =
-      let s = answer-stands c true e in
-      let n : k ≡ length (c .moves) = sym d ∙ accepted-moves true e in
-      let x = standing-reduced s k n in
-      (s, x, n, congruent-satisfies (s .rule .0) [] (process (s .machine .tree)) (x .last) (StructSymm (x .congruent)) (verdict-yes c s e))
+      let w = whole-reduced true k e d in
+      let s = w .standing in
+      let x = w .chain in
+      (w, congruent-satisfies (s .rule .0) [] (process (s .machine .tree)) (x .last) (StructSymm (x .congruent)) (verdict-yes c s e))
   reduces (accepted false) k e d =
-      let s = answer-stands c false e in
-      let n : k ≡ length (c .moves) = sym d ∙ accepted-moves false e in
-      let x = standing-reduced s k n in
-      (s, x, n, λ h. verdict-no c s e (congruent-satisfies (s .rule .0) [] (x .last) (process (s .machine .tree)) (x .congruent) h))
+      let w = whole-reduced false k e d in
+      let s = w .standing in
+      let x = w .chain in
+      (w, λ h. verdict-no c s e (congruent-satisfies (s .rule .0) [] (x .last) (process (s .machine .tree)) (x .congruent) h))
   reduces (refused q i) k e d = λ p r.
       let (l, m, a) = answer-begins p r in
       (m, first-reduced c p r k m (omega (arith, d)) (subst (λ (j : ℕ). After c p j m) d a))

@@ -57,12 +57,18 @@ pub record Reduced (c : Call) (p : Script × Cursor) (k : ℕ) (m : Machine) : T
   pub steps : Steps k (written (p .0)) last
   pub congruent : last ≅ process (m .tree)
 
+-- so of the whole list, k moves, which leads to what stands when the walk begins
+pub record ReducedWhole (c : Call) (k : ℕ) : Type 0 where
+  pub standing : Standing c
+  pub chain : Reduced c (standing .start .read) k (standing .machine)
+  pub whole : k ≡ length (c .moves)
+
 -- An answer's verdict and moves, in the paper's terms. Yes: the whole list leads from the script as written to a process that
 -- satisfies the rule; no: to one that does not; refused: what was made of the list, "the moves made are those before it", is a
 -- chain of reductions too.
 unfoldable pub Reduces : (c : Call) → Verdict → (moves : ℕ) → Type 0
-Reduces c (accepted true) k = (s : Standing c) × (x : Reduced c (s .start .read) k (s .machine)) × (k ≡ length (c .moves)) × Satisfies [] (x .last) (s .rule .0)
-Reduces c (accepted false) k = (s : Standing c) × (x : Reduced c (s .start .read) k (s .machine)) × (k ≡ length (c .moves)) × ¬ Satisfies [] (x .last) (s .rule .0)
+Reduces c (accepted true) k = (x : ReducedWhole c k) × Satisfies [] (x .chain .last) (x .standing .rule .0)
+Reduces c (accepted false) k = (x : ReducedWhole c k) × ¬ Satisfies [] (x .chain .last) (x .standing .rule .0)
 Reduces c (refused q i) k = (p : Script × Cursor) → readScript (c .script) ≡ got p → (m : Machine) × Reduced c p k m
 
 -- words that are read again, where questions 1 to 6 let them in, as a script that says, as it is written, the process of a

@@ -10,9 +10,6 @@ use Rattle.capi.proofs.skycorbel_call.Tie as tie
 abbrev told : tie.After-slice-known4 → tie.After-tell
 told c = c .before .before
 
-abbrev told-call : tie.After-tell → tie.After-call
-told-call c = c .before .before .before .before
-
 returns : tie.Need-returns
 returns c = short _ _ (search needs)
 
