@@ -1,13 +1,14 @@
 -- Laws of the first word of a message: what it begins, and where it is bound. Assumes nothing.
 use Prim.Native.Nat.{ℕ, _+_, _^_, _≤_, _<_}
 use mathlib.Core.List.{List, [], _∷_}
-use mathlib.Core.Path.{_≡_, refl}
+use mathlib.Core.Path.{_≡_, refl, sym, ap, _∙_}
 use native.Mathlib.Omega.{arith}
-use lib.ListN.{length, getD}
+use lib.ListN.{length, drop, getD}
 use Rattle.read_messages.specs.ReadMessage.{messageWord}
 use Rattle.read_messages.specs.declared.MessageWord.{MessageWord}
 use Rattle.read_messages.specs.declared.MessageWord.the-variants.{Name, Variable, Enter, Exit, Open, Empty, Path, Unfit}
-use Rattle.engine_message_words.specs.Words.{newestBinding, firstWord, shapeOf, arityOf, boundAt}
+use Rattle.read_messages.specs.declared.Named.the-variants.{Called}
+use Rattle.engine_message_words.specs.Words.{newestBinding, firstWord, shapeOf, arityOf, boundAt, plainName}
 use Rattle.engine_message_words.specs.declared.Shape.{Shape}
 use Rattle.engine_message_words.proofs.Variables.{newest-within}
 
@@ -20,6 +21,27 @@ pub first-some : (l : List ℕ) → (length l ≡ 0 → ⊥) → messageWord (ge
 unfolding firstWord
 first-some [] h = absurd (h refl)
 first-some (w ∷ l) h = refl
+
+-- ---- what is answered of a word that is equal to one whose answer is known
+
+pub shape-same : {m : MessageWord} (n : MessageWord) {s : Shape} → m ≡ n → s ≡ shapeOf n → s ≡ shapeOf m
+shape-same n e h = h ∙ ap shapeOf (sym e)
+
+pub name-same : {m : MessageWord} (n : ℕ) → m ≡ Name n → Called n ≡ plainName m
+unfolding plainName
+name-same n e = ap plainName (sym e)
+
+pub bound-same : {m : MessageWord} (v k : ℕ) (vs : List ℕ) → m ≡ Variable v → k ≡ newestBinding vs v → k ≡ boundAt m vs
+unfolding boundAt
+bound-same v k vs e h = h ∙ ap (λ (x : MessageWord). boundAt x vs) (sym e)
+
+pub given-same : {l : List ℕ} (script : List ℕ) (at source : ℕ) → at ≡ source → l ≡ drop at script → l ≡ drop source script
+given-same script at source e h = h ∙ ap (λ (n : ℕ). drop n script) e
+
+-- ---- how many messages stand in a message, and how many items a word is
+
+pub arity-is : (m : MessageWord) (s : Shape) → s ≡ shapeOf m → s .closed + s .opened ≡ arityOf m
+arity-is m s e = ap (λ (x : Shape). x .closed + x .opened) e
 
 pub arity-small : (m : MessageWord) → arityOf m ≤ 2
 unfolding shapeOf

@@ -51,6 +51,10 @@ module _ (n : ℕ) where
     pub most : length s ≤ 256
     pub rule : a ≡ scanned vacant (ruleAt s 0 0 [] 0)
 
+  -- the table t that it was read into was the empty one
+  pub rule-asked : {s : List ℕ} {a : RuleScan} (t : RuleTable) → t ≡ vacant → 0 < length s → length s ≤ 256 → a ≡ scanned t (ruleAt s 0 0 [] (t .count)) → RuleAsked s a
+  rule-asked {s} t e some most r = record { some = some; most = most; rule = r ∙ ap (λ (u : RuleTable). scanned u (ruleAt s 0 0 [] (u .count))) e }
+
   module _ (s : List ℕ) (some : 0 < length s) (most : length s ≤ 256) where
     goes : readWholeRule n s ≡ (ruleAt s 0 0 [] 0 >>= checked)
     goes = unroll s ∙ bind-got _ _ tt (ask-yes 7 0 _ (rw (le-leb 1 (length s) some, le-leb (length s) 256 most)))

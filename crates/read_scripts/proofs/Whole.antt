@@ -56,6 +56,10 @@ pub record BodyAsked (s : List ℕ) (a : Scan) : Type 0 where
   pub most : length s ≤ 1024
   pub body : a ≡ scanned 64 vacant (bodyAt s 0 0 [] 0)
 
+-- the table t that it was read into was the empty one
+pub body-asked : {s : List ℕ} {a : Scan} (t : Table) → t ≡ vacant → 0 < length s → length s ≤ 1024 → a ≡ scanned 64 t (bodyAt s 0 0 [] (t .count)) → BodyAsked s a
+body-asked {s} t e some most r = record { some = some; most = most; body = r ∙ ap (λ (u : Table). scanned 64 u (bodyAt s 0 0 [] (u .count))) e }
+
 module _ (s : List ℕ) (some : 0 < length s) (most : length s ≤ 1024) where
   goes : readScript s ≡ (bodyAt s 0 0 [] 0 >>= checked)
   goes = unroll s ∙ bind-got _ _ tt (ask-yes 1 0 _ (rw (le-leb 1 (length s) some, le-leb (length s) 1024 most)))

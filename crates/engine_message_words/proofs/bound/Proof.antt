@@ -1,12 +1,12 @@
 -- `engine_message_words::bound` meets its contract: in each arm the word is the arm's variant. Assumes nothing.
 use borrow.Author.Needs.{needs}
 use Rattle.engine_message_words.specs.Words.{boundAt}
+use Rattle.engine_message_words.proofs.FirstWords.{bound-same}
 use Rattle.engine_message_words.proofs.bound.Statement.{statement}
 use Rattle.engine_message_words.proofs.bound.Tie as tie
 
 returns-2 : tie.Need-returns-2
-unfolding boundAt
-returns-2 c = cc
+returns-2 c = search (needs, bound-same)
 
 pub bound-spec : {M : Type 1} → statement M
 unfolding boundAt

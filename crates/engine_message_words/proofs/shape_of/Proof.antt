@@ -1,6 +1,7 @@
 -- `engine_message_words::shape_of` meets its contract: in each arm the word is the arm's variant. Assumes nothing.
 use borrow.Author.Needs.{needs}
 use Rattle.engine_message_words.specs.Words.{shapeOf}
+use Rattle.engine_message_words.proofs.FirstWords.{shape-same}
 use Rattle.engine_message_words.proofs.shape_of.Statement.{statement}
 use Rattle.engine_message_words.proofs.shape_of.Tie as tie
 
@@ -13,4 +14,5 @@ shape-of-spec =
     (λ c κs. search needs) (λ c. search needs) (λ c κs. search needs) (λ c. search needs) (λ c κs. search needs)
     (λ c. search needs) (λ c κs. search needs) (λ c. search needs) (λ c κs. search needs) (λ c. search needs)
     (λ c κs. search needs)
-    (λ c. cc) (λ c. cc) (λ c. cc) (λ c. cc) (λ c. cc) (λ c. cc) (λ c. cc) (λ c. cc))
+    (λ c. search (needs, shape-same)) (λ c. search (needs, shape-same)) (λ c. search (needs, shape-same)) (λ c. search (needs, shape-same))
+    (λ c. search (needs, shape-same)) (λ c. search (needs, shape-same)) (λ c. search (needs, shape-same)) (λ c. search (needs, shape-same)))

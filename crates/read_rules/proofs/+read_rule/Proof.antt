@@ -145,13 +145,13 @@ module _ (t : ℕ) where
   returns-6 : lts.Need-returns-6 (claims t) (read-rule-at t) read-rule.Post
   returns-6 c =
       let n = second-read c in
-      two-read (left-first (read-left n)) _ (read-left n .read-rule2 .ensures) _ (n .o .given .1) _ _ (cc) (c .read-rule3 .ensures) refl
+      two-read (left-first (read-left n)) _ (read-left n .read-rule2 .ensures) _ (n .o .given .1) _ _ (search needs) (c .read-rule3 .ensures) refl
 
   returns-7 : lts.Need-returns-7 (claims t) (read-rule-at t) read-rule.Post
-  returns-7 c = choice-read (choice (read-choice c)) _ _ (cc) (c .read-rule4 .ensures) refl
+  returns-7 c = choice-read (choice (read-choice c)) _ _ (search needs) (c .read-rule4 .ensures) refl
 
   returns-8 : lts.Need-returns-8 (claims t) (read-rule-at t) read-rule.Post
-  returns-8 c = place-read (place (read-place c)) _ _ (cc) (c .read-rule5 .ensures) refl
+  returns-8 c = place-read (place (read-place c)) _ _ (search needs) (c .read-rule5 .ensures) refl
 
 pub +read-rule-spec : {M : Type 1} → statement M
 +read-rule-spec =

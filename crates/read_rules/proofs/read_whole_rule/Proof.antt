@@ -3,7 +3,7 @@ use mathlib.Core.Path.{ap, _∙_}
 use native.Mathlib.Omega.{arith}
 use native.Mathlib.Nat.{lt-of-lt-of-le, le-add-right}
 use Rattle.read_rules.specs.declared.RuleTable.{RuleTable}
-use Rattle.read_rules.proofs.Whole.{RuleAsked, rule-none, rule-long, rule-refused, rule-fewer, rule-behind, rule-many, rule-whole}
+use Rattle.read_rules.proofs.Whole.{RuleAsked, rule-asked, rule-none, rule-long, rule-refused, rule-fewer, rule-behind, rule-many, rule-whole}
 use Rattle.read_rules.proofs.Tabled.{answers}
 use borrow.Author.Needs.{needs}
 use Rattle.read_rules.proofs.read_whole_rule.Statement.{statement}
@@ -13,6 +13,9 @@ use Rattle.read_rules.proofs.read_whole_rule.Tie as tie
 abbrev read-start : tie.After-read-rule → tie.Start
 read-start c = c .before .before .before .before .before
 
+abbrev read-vacant : tie.After-read-rule → tie.After-vacant
+read-vacant c = c .before
+
 abbrev told-read : tie.After-o → tie.After-read-rule
 told-read c = c .before .before
 
@@ -21,7 +24,7 @@ count-told c = c .before .before .before
 
 -- question 7 and the rule's reading
 read : (c : tie.After-read-rule) → RuleAsked (read-start c .args .parts) (read-start c .args .rule .now) (c .read-rule .result)
-read c = record { some = omega arith; most = omega arith; rule = cc }
+read c = rule-asked _ _ (read-vacant c .vacant .ensures) (omega arith) (omega arith) (c .read-rule .ensures)
 
 returns-4 : tie.Need-returns-4
 returns-4 c = answers _ _ _ (c .refused3 .ensures ∙ search (needs, rule-behind, read))

@@ -2,19 +2,22 @@
 use mathlib.Core.Path.{ap, _∙_}
 use native.Mathlib.Omega.{arith}
 use Rattle.read_scripts.specs.declared.Table.{Table}
-use Rattle.read_scripts.proofs.Whole.{BodyAsked, script-none, script-long, script-refused, script-behind, script-many, script-read}
+use Rattle.read_scripts.proofs.Whole.{BodyAsked, body-asked, script-none, script-long, script-refused, script-behind, script-many, script-read}
 use Rattle.read_scripts.proofs.Tabled.{answers}
 use borrow.Author.Needs.{needs}
 use Rattle.read_scripts.proofs.read_script.Statement.{statement}
 use Rattle.read_scripts.proofs.read_script.Tie as tie
 
--- the way from the point behind the reader to the start
+-- the ways from the point behind the reader to those before it
 abbrev read-start : tie.After-read-body → tie.Start
 read-start c = c .before .before .before .before .before
 
+abbrev read-vacant : tie.After-read-body → tie.After-vacant
+read-vacant c = c .before
+
 -- question 1 and the body's reading
 read : (c : tie.After-read-body) → BodyAsked (read-start c .args .s .now) (c .read-body .result)
-read c = record { some = omega arith; most = omega arith; body = cc }
+read c = body-asked _ (read-vacant c .vacant .ensures) (omega arith) (omega arith) (c .read-body .ensures)
 
 returns-4 : tie.Need-returns-4
 returns-4 c = answers _ _ (c .refused3 .ensures ∙ search (needs, script-behind, read))
