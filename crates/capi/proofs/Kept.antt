@@ -8,8 +8,8 @@ use native.Mathlib.Omega.{arith}
 use lib.ListN.{length, drop, getD}
 use borrow.Author.Tests.{le-leb, lt-leb}
 use Rattle.theory_call.specs.Call.{Call, Verdict, accepted, refused, Answer, leftBy, answer}
-use Rattle.checker.specs.Answering.{verdictOf, answerOf}
-use Rattle.checker.specs.declared.Answer as engine
+use Rattle.call_answers.specs.Answering.{verdictOf, answerOf}
+use Rattle.call_answers.specs.declared.Answer as engine
 use Rattle.theory_call.specs.Standing.{Decides, Reduces, Returned, Readmitted, MovesBounded}
 use Rattle.checker.proofs.Concluding.{decides}
 use Rattle.theory_call.proofs.ClosureRuns.{moves-bounded}

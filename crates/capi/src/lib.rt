@@ -3,7 +3,7 @@ use checker::call;
 use host_answer_words::tell;
 ghost use mathlib.Core.Path.{_≡_};
 ghost use lib.ListN.{getD};
-ghost use Rattle.checker.specs.Answering.{callOf};
+ghost use Rattle.call_answers.specs.Answering.{callOf};
 ghost use Rattle.theory_call.specs.Standing.{MovesBounded};
 ghost use Rattle.capi.specs.Told.{returned, answered, bufferAfter, Decided, WeighedBy, ReducedBy, ReturnedBy, ReadmittedBy, treeWords};
 

@@ -1,28 +1,23 @@
 -- The call up to the moves: what the readers' answers say, and how the list ends, told by the closure machine's run.
 -- Assumes nothing.
-use Prim.Native.Nat.{ℕ, _+_, _≤_, _<_}
-use mathlib.Core.Bool.{true, false, _&&_, _||_}
-use mathlib.Core.List.{List, [], _∷_, _++_}
-use mathlib.Core.Path.{_≡_, refl, sym, ap, ap₂, _∙_, subst, transport}
+use Prim.Native.Nat.{ℕ, _+_, _≤_}
+use mathlib.Core.List.{List, []}
+use mathlib.Core.Path.{_≡_, refl, sym, ap, _∙_, subst, transport}
 use native.Mathlib.Omega.{arith}
-use lib.Dec.{leb, ltb, eqb}
 use lib.ListN.{length, take}
 use lib.Seq.{take-all}
-use borrow.Author.Tests.{le-leb, lt-leb}
-use Rattle.read_messages.specs.Words.{kind, operand}
 use Rattle.read_messages.specs.Reading.{Cursor, Reading, refuse, got, outcome}
 use Rattle.read_messages.specs.declared.Outcome.{Outcome}
 use Rattle.read_messages.specs.declared.Outcome.the-variants.{Read, Refused}
+use Rattle.read_messages.proofs.Readings.{outcome-read, outcome-refuses}
 use Rattle.read_scripts.specs.Tree.{parts}
 use Rattle.read_scripts.specs.Script.{Script, readScript}
-use Rattle.read_scripts.specs.Measures.{greatestName}
 use Rattle.read_scripts.specs.Represents.{Tabled}
 use Rattle.read_scripts.specs.Table as table
 use Rattle.read_scripts.specs.declared.Table.{Table}
 use Rattle.read_scripts.specs.declared.Scan.{Scan}
 use Rattle.read_scripts.proofs.Tabled.{script-number}
-use Rattle.base_slices.proofs.Tests.{byTest}
-use Rattle.read_rule_words.specs.Rule.{Rule, ruleName, greatestRuleName}
+use Rattle.read_rule_words.specs.Rule.{Rule}
 use Rattle.read_rule_words.specs.ReadRule.{readWholeRule}
 use Rattle.read_rules.specs.Ruled as ruled
 use Rattle.read_rules.specs.RuleTable as rules
@@ -32,112 +27,17 @@ use Rattle.theory_closures.specs.Closure.{ClosureMachine, settleUnder, closureO
 use Rattle.engine_states.specs.Represents.{boundIn, Ready, Represents}
 use Rattle.engine_states.specs.declared.State.{State}
 use Rattle.engine_state_arrays.specs.Lent.{kindsIn, startsIn, ownState, Small}
-use Rattle.theory_call.specs.Call.{Call, refusal, startOf, Question, question, asking, terms, door, answer}
+use Rattle.theory_call.specs.Call.{Call, refusal, startOf, asking, terms, door, answer}
 use Rattle.theory_call.specs.ClosureCall.{ClosureRan, halted, completed, closureRun, begun}
 use Rattle.call_lists.specs.Running.{endedOf, madeOf, Left, Runs, Runnable, ListRan}
-use Rattle.checker.specs.Answering.{answerOf, askedOf, callOf}
-use Rattle.checker.specs.declared.Answer.{Answer}
-use Rattle.checker.specs.Calling.{ScriptHeld, RuleHeld, Entered, StateHeld, Walkable, Greatest}
+use Rattle.call_answers.specs.Answering.{answerOf, callOf}
+use Rattle.call_answers.specs.declared.Answer.{Answer}
+use Rattle.call_answers.proofs.Terms.{Asked, asked-refused}
+use Rattle.checker.specs.Calling.{ScriptHeld, RuleHeld, Entered, StateHeld, Walkable}
 use Rattle.call_lists.specs.declared.Ended.{Ended}
 use Rattle.call_lists.specs.declared.Ended.the-variants.{Made, Halted}
-use Rattle.theory_call.proofs.Asking.{AllYes, asking-yes, asking-no}
 use Rattle.theory_call.proofs.Entering.{terms-few, door-unread, own-unasked, own-got}
 use Rattle.theory_call.proofs.Called.{answers-door, answers-halted}
-
--- ---- names have 28 bits
-
-operand-small : (w : ℕ) → operand w < 268435456
-unfolding operand
-operand-small w = omega arith
-
-script-names : (ws : List ℕ) → greatestName ws < 268435456
-unfolding greatestName
-script-names [] = omega arith
-script-names (w ∷ ws) = byTest (eqb (kind w) 8) (λ t. rw t (omega (arith, operand-small w, script-names ws))) (λ t. rw t (script-names ws))
-
-rule-name : (w : ℕ) → ruleName w < 268435456
-unfolding ruleName
-rule-name w = byTest ((eqb (kind w) 4 || eqb (kind w) 9) && ltb (operand w) 134217728) (λ t. rw t (operand-small w)) (λ t. rw t (omega arith))
-
-rule-names : (ws : List ℕ) → greatestRuleName ws < 268435456
-unfolding greatestRuleName
-rule-names [] = omega arith
-rule-names (w ∷ ws) = omega (arith, rule-name w, rule-names ws)
-
--- the greater of both
-pub greatest-rule : (script words : List ℕ) (s r : ℕ) → s ≡ greatestName script → r ≡ greatestRuleName words → s < r → Greatest script words r
-greatest-rule script words s r e f l = record { most = omega arith; small = omega (arith, rule-names words) }
-
-pub greatest-script : (script words : List ℕ) (s r : ℕ) → s ≡ greatestName script → r ≡ greatestRuleName words → r ≤ s → Greatest script words s
-greatest-script script words s r e f l = record { most = omega arith; small = omega (arith, script-names script) }
-
--- ---- questions 13 and 14
-
-abbrev Asked : ℕ → ℕ → Outcome
-Asked p k = askedOf (asking (terms p k))
-
--- what is answered where all before it are answered by yes and this one by no; where all are answered by yes
-refused-by : (ps : List Question) (q : Question) (qs : List Question) → AllYes ps → q .yes ≡ false → Refused (q .number) (q .place) ≡ askedOf (asking (ps ++ q ∷ qs))
-unfolding askedOf
-refused-by ps q qs h e = sym (ap askedOf (asking-no ps q qs h e))
-
-read-by : (qs : List Question) → AllYes qs → Read 0 ≡ askedOf (asking qs)
-unfolding askedOf
-read-by qs h = sym (ap askedOf (asking-yes qs h))
-
-module _ (p k : ℕ) where
-  calm : (p ≡ 0 → ⊥) → p ≤ 16777216 → (leb 1 p && leb p 16777216) ≡ true
-  calm l h = let m : 1 ≤ p = omega arith in rw (le-leb 1 p m, le-leb p 16777216 h)
-
-  pub no-patience : p ≡ 0 → Refused 13 0 ≡ Asked p k
-  no-patience e = let l : p < 1 = omega arith in refused-by [] (question 13 0 (leb 1 p && leb p 16777216)) _ tt (rw (lt-leb 1 p l) refl)
-
-  pub too-patient : (p ≡ 0 → ⊥) → 16777216 < p → Refused 13 0 ≡ Asked p k
-  too-patient l h = let m : 1 ≤ p = omega arith in refused-by [] (question 13 0 (leb 1 p && leb p 16777216)) _ tt (rw (le-leb 1 p m, lt-leb p 16777216 h) refl)
-
-  pub too-many : (p ≡ 0 → ⊥) → p ≤ 16777216 → 4096 < k → Refused 14 0 ≡ Asked p k
-  too-many l h m = refused-by (question 13 0 (leb 1 p && leb p 16777216) ∷ []) (question 14 0 (leb k 4096)) _ (calm l h, tt) (lt-leb k 4096 m)
-
-  pub entered : (p ≡ 0 → ⊥) → p ≤ 16777216 → k ≤ 4096 → Read 0 ≡ Asked p k
-  entered l h m = read-by (terms p k) (calm l h, (le-leb k 4096 m, tt))
-
--- ---- what a reader's outcome says
-
-pub Read≢Refused : {B : Type 0} {n q i : ℕ} → Read n ≡ Refused q i → B
-Read≢Refused e = let z : _≡_ {A = ℕ} 0 1 = cc in absurd (let w : ⊥ = omega arith in w)
-
--- an outcome is one refusal only
-pub one-refusal : (r : Answer) (x : Outcome) (p j q i : ℕ) (b : List ℕ) → ((out : List ℕ) → answerOf r out ≡ refusal p j 0 0 out) → x ≡ Refused p j → x ≡ Refused q i → answerOf r b ≡ refusal q i 0 0 b
-one-refusal r x p j q i b f d e = let y : p ≡ q = cc in let z : j ≡ i = cc in f b ∙ ap₂ (λ (m n : ℕ). refusal m n 0 0 b) y z
-
-refused-so : {A : Type 0} (x : Reading (A × Cursor)) (q i : ℕ) → outcome x ≡ Refused q i → x ≡ refuse q i
-unfolding outcome
-refused-so (refuse p j) q i e = let a : p ≡ q = cc in let b : j ≡ i = cc in λ k. refuse (a k) (b k)
-refused-so (got p) q i e = Read≢Refused e
-
-read-so : {A : Type 0} (x : Reading (A × Cursor)) (n : ℕ) → outcome x ≡ Read n → (p : A × Cursor) × (x ≡ got p)
-unfolding outcome
-read-so (refuse q i) n e = Read≢Refused (sym e)
-read-so (got p) n e = (p, refl)
-
-asked-refused : (x : Reading (Unit {0})) (q i : ℕ) → askedOf x ≡ Refused q i → x ≡ refuse q i
-unfolding askedOf
-asked-refused (refuse p j) q i e = let a : p ≡ q = cc in let b : j ≡ i = cc in λ k. refuse (a k) (b k)
-asked-refused (got u) q i e = Read≢Refused e
-
-asked-read : (x : Reading (Unit {0})) (n : ℕ) → askedOf x ≡ Read n → x ≡ got tt
-unfolding askedOf
-asked-read (refuse q i) n e = Read≢Refused (sym e)
-asked-read (got u) n e = refl
-
-pub asked-so : (p k n : ℕ) (x : Outcome) → x ≡ Asked p k → x ≡ Read n → asking (terms p k) ≡ got tt
-asked-so p k n x e d = asked-read (asking (terms p k)) n (sym e ∙ d)
-
--- a refusal that is handed up is the call's answer
-pub handed : (r : Answer) (x : Outcome) (script moves words : List ℕ) (patience : ℕ) (buffer : List ℕ) (q i : ℕ)
-    → ((question place : ℕ) (out : List ℕ) → x ≡ Refused question place → answerOf r out ≡ refusal question place 0 0 out) → x ≡ Refused q i → answer (callOf script moves words patience buffer) ≡ refusal q i 0 0 buffer
-    → answerOf r buffer ≡ answer (callOf script moves words patience buffer)
-handed r x script moves words patience buffer q i f e d = f q i buffer e ∙ sym d
 
 script-outcome : (x : Reading (Script × Cursor)) → table.scanned 64 table.vacant x .outcome ≡ outcome x
 unfolding table.scanned outcome
@@ -154,20 +54,20 @@ module _ (ws : List ℕ) (r : Scan) (e : r ≡ table.scanned 64 table.vacant (re
   outcome-is = sym (ap (λ (s : Scan). s .outcome) e ∙ script-outcome (readScript ws))
 
   pub script-refused : (q i : ℕ) → r .outcome ≡ Refused q i → readScript ws ≡ refuse q i
-  script-refused q i d = refused-so (readScript ws) q i (outcome-is ∙ d)
+  script-refused q i d = outcome-refuses (readScript ws) q i (outcome-is ∙ d)
 
   pub script-held : (n : ℕ) → r .outcome ≡ Read n → ((p : Script × Cursor) → readScript ws ≡ got p → Tabled ws (r .table) (p .0)) → ScriptHeld ws (r .table)
-  script-held n d h = let (p, x) = read-so (readScript ws) n (outcome-is ∙ d) in record { read = p; reads = x; tabled = h p x }
+  script-held n d h = let (p, x, _) = outcome-read (readScript ws) n (outcome-is ∙ d) in record { read = p; reads = x; tabled = h p x }
 
 module _ (k : ℕ) (ws : List ℕ) (r : RuleScan) (e : r ≡ rules.scanned rules.vacant (readWholeRule k ws)) where
   rule-outcome-is : outcome (readWholeRule k ws) ≡ r .outcome
   rule-outcome-is = sym (ap (λ (s : RuleScan). s .outcome) e ∙ rule-outcome (readWholeRule k ws))
 
   pub rule-refused : (q i : ℕ) → r .outcome ≡ Refused q i → readWholeRule k ws ≡ refuse q i
-  rule-refused q i d = refused-so (readWholeRule k ws) q i (rule-outcome-is ∙ d)
+  rule-refused q i d = outcome-refuses (readWholeRule k ws) q i (rule-outcome-is ∙ d)
 
   pub rule-held : (n : ℕ) → r .outcome ≡ Read n → ((p : Rule × Cursor) → readWholeRule k ws ≡ got p → ruled.Tabled k ws (r .table) p) → RuleHeld k ws (r .table)
-  rule-held n d h = let (p, x) = read-so (readWholeRule k ws) n (rule-outcome-is ∙ d) in record { read = p; reads = x; tabled = h p x }
+  rule-held n d h = let (p, x, _) = outcome-read (readWholeRule k ws) n (rule-outcome-is ∙ d) in record { read = p; reads = x; tabled = h p x }
 
 -- ---- how a list ends
 

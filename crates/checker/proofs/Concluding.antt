@@ -25,9 +25,9 @@ use Rattle.read_rule_words.proofs.Order.{rule-ordered}
 use Rattle.theory_call.specs.Call.{Call, Verdict, accepted, refused, leftBy, walked, startOf, setting, answer}
 use Rattle.theory_call.specs.Call as plain
 use Rattle.theory_call.specs.ClosureCall.{completed, closureRun, unfoldRan, begun}
-use Rattle.checker.specs.Answering.{verdictOf, answerOf, callOf}
-use Rattle.checker.specs.declared.Answer.{Answer}
-use Rattle.checker.specs.Calling.{StateHeld, Greatest, ComesTo}
+use Rattle.call_answers.specs.Answering.{verdictOf, answerOf, callOf, Greatest}
+use Rattle.call_answers.specs.declared.Answer.{Answer}
+use Rattle.checker.specs.Calling.{StateHeld, ComesTo}
 use Rattle.theory_call.specs.Standing.{Standing, Decides, Reduces, Returned, Readmitted, MovesBounded, WeightBounded, Weighed}
 use Rattle.theory_call.proofs.ClosureRuns.{started-unfolded, moves-bounded}
 use Rattle.theory_call.proofs.Runs.{weight-holds}

@@ -25,10 +25,10 @@ use Rattle.walk_stages.specs.declared.Walked.{Walked}
 use Rattle.walk_stages.specs.declared.Walked.the-variants.{Yes, No, Stopped}
 use Rattle.theory_call.specs.Call.{Call, accepted, refusal, standingWords, finish, roomy, accepting, walked}
 use Rattle.theory_call.specs.Call as plain
-use Rattle.checker.specs.Answering.{verdictOf, answerOf, callOf}
+use Rattle.call_answers.specs.Answering.{verdictOf, answerOf, callOf}
 use Rattle.checker.specs.Calling.{ComesTo}
-use Rattle.checker.specs.declared.Answer.{Answer}
-use Rattle.checker.specs.declared.Verdict.{Verdict}
+use Rattle.call_answers.specs.declared.Answer.{Answer}
+use Rattle.call_answers.specs.declared.Verdict.{Verdict}
 
 -- ---- the writer's answer taken apart
 

@@ -1,16 +1,15 @@
 -- What the call's functions hand on: a script and a rule that are read, with the tables that hold them, the state that
--- stands when the walk begins, that it can be walked and written, G, and what the call then comes to. Assumes nothing: these
+-- stands when the walk begins, that it can be walked and written, and what the call then comes to. Assumes nothing: these
 -- are definitions.
-use Prim.Native.Nat.{ℕ, _+_, _≤_, _<_, max}
+use Prim.Native.Nat.{ℕ, _+_, _≤_}
 use mathlib.Core.List.{List}
 use mathlib.Core.Path.{_≡_}
 use lib.ListN.{length}
 use Rattle.read_messages.specs.Reading.{Cursor, got}
 use Rattle.read_scripts.specs.Script.{Script, readScript}
 use Rattle.read_scripts.specs.Represents.{Tabled}
-use Rattle.read_scripts.specs.Measures.{greatestName}
 use Rattle.read_scripts.specs.declared.Table.{Table}
-use Rattle.read_rule_words.specs.Rule.{Rule, greatestRuleName}
+use Rattle.read_rule_words.specs.Rule.{Rule}
 use Rattle.read_rule_words.specs.ReadRule.{readWholeRule}
 use Rattle.read_rules.specs.Ruled as rules
 use Rattle.read_rules.specs.declared.RuleTable.{RuleTable}
@@ -21,8 +20,8 @@ use Rattle.write_trees.specs.Bodies.{Scripted}
 use Rattle.theory_decision.specs.Walk.{Walked}
 use Rattle.theory_call.specs.Call.{asking, terms, walked}
 use Rattle.theory_call.specs.ClosureCall.{completed, closureRun, begun}
-use Rattle.checker.specs.Answering.{answerOf, callOf}
-use Rattle.checker.specs.declared.Answer.{Answer}
+use Rattle.call_answers.specs.Answering.{answerOf, callOf}
+use Rattle.call_answers.specs.declared.Answer.{Answer}
 
 -- the script is read, and the table holds it
 pub record ScriptHeld (script : List ℕ) (t : Table) : Type 0 where
@@ -71,13 +70,6 @@ pub record Walkable (script : List ℕ) (parts : Table) (table : RuleTable) (s :
   pub writable : Writable script (parts .kinds) (parts .starts) s
   -- the parts that PLACED words make have numbers behind the script's
   pub room : parts .count + table .count ≤ 64
-
--- "G the greatest name in script and rule (0 if none)"
-pub record Greatest (script words : List ℕ) (g : ℕ) : Type 0 where
-  -- it is the greater of both
-  pub most : g ≡ max (greatestName script) (greatestRuleName words)
-  -- names have 28 bits
-  pub small : g < 268435456
 
 -- For every list of so many moves and every closure that the state represents: the answer, with the buffer as it is at exit,
 -- is what the call comes to where the walk, on the machine that stands, says v.

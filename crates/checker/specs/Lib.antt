@@ -1,3 +1,2 @@
 -- What the contracts of `checker` cite. Assumes nothing: these are definitions.
 pub mod Calling
-pub mod Answering

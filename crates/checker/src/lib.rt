@@ -1,5 +1,11 @@
 // The call.
 use base_slices::tail;
+use call_answers::Answer;
+use call_answers::ask_terms;
+use call_answers::greatest;
+use call_answers::handed_up;
+use call_answers::refused;
+use call_answers::said;
 use call_lists::Ended;
 use call_lists::run_list;
 use engine_settling::first_state;
@@ -8,80 +14,29 @@ use engine_state_arrays::to_arrays;
 use engine_states::State;
 use engine_states::weigh;
 use read_messages::Outcome;
-use read_rule_words::greatest_rule_name;
 use read_rules::RuleTable;
 use read_rules::read_whole_rule;
 use read_scripts::Table;
-use read_scripts::greatest_name;
 use read_scripts::read_script;
+use walk_rules::walk_rule;
 use walk_stages::Limits;
 use walk_stages::Walked;
-use walk_visits::walk_rule;
 use write_trees::Fitting;
 use write_trees::write_tree;
 ghost use mathlib.Core.Path.{_≡_};
 ghost use mathlib.Core.List.{List, []};
 ghost use Prim.Native.Nat.{ℕ};
 ghost use lib.ListN.{length, take};
-ghost use Rattle.read_messages.specs.declared.Outcome.the-variants.{Refused};
 ghost use Rattle.theory_closures.specs.Closure.{Closure, unfolded};
 ghost use Rattle.engine_states.specs.Represents.{boundIn, Represents};
 ghost use Rattle.walk_stages.specs.Visits.{walkedOf};
 ghost use Rattle.theory_written_trees.specs.Write.{write};
 ghost use Rattle.write_trees.specs.Room.{Fitted};
 ghost use Rattle.theory_decision.specs.Walk.{says};
-ghost use Rattle.theory_call.specs.Call.{accepted, refusal, asking, terms, answer};
-ghost use Rattle.checker.specs.Answering.{verdictOf, answerOf, askedOf, callOf};
+ghost use Rattle.theory_call.specs.Call.{answer};
+ghost use Rattle.call_answers.specs.Answering.{verdictOf, answerOf, callOf};
 ghost use Rattle.theory_call.specs.Standing.{Decides, Reduces, Returned, Readmitted, MovesBounded, Weighed};
-ghost use Rattle.checker.specs.Calling.{ScriptHeld, BothHeld, Entered, StateHeld, Writable, Walkable, ComesTo, Greatest};
-
-// The most visits that may be asked for, and the most moves of a list: questions 13 and 14.
-const MOST_PATIENCE: u32 = 16777216;
-
-const MOST_MOVES: usize = 4096;
-
-// Yes or no, or the question that refuses the call, and its place.
-pub enum Verdict {
-    Yes,
-    No,
-    Refused { question: u32, place: usize },
-}
-
-// What a call answers beside the buffer.
-pub struct Answer {
-    pub verdict: Verdict,
-    pub moves: usize,
-    pub visits: u32,
-    pub deepest: u32,
-    pub weight: usize,
-    pub words: u32,
-}
-
-// The answer to a call that is refused.
-fn refused(question: u32, place: usize, moves: usize, visits: u32) -> Answer
-    ensures { λ r. ⌜ ((buffer : List ℕ) → answerOf r buffer ≡ refusal question place moves visits buffer) ⌝ }
-{
-    let verdict = Verdict::Refused { question, place };
-    Answer {
-        verdict,
-        moves,
-        visits,
-        deepest: 0,
-        weight: 0,
-        words: 0,
-    }
-}
-
-// A reader's refusal, handed up as the call's: no move is made, and no visit.
-fn handed_up(outcome: Outcome) -> Answer
-    ensures { λ r. ⌜ ((question place : ℕ) (buffer : List ℕ) → outcome ≡ Refused question place → answerOf r buffer ≡ refusal question place 0 0 buffer) ⌝ }
-{
-    let Outcome::Refused { question, place } = outcome else {
-        // Nothing is promised here: what was read to its end is no refusal, and is not handed up.
-        return refused(0, 0, 0, 0);
-    };
-    refused(question, place, 0, 0)
-}
+ghost use Rattle.checker.specs.Calling.{ScriptHeld, BothHeld, Entered, StateHeld, Writable, Walkable, ComesTo};
 
 // The standing tree written into the buffer, where it fits.
 fn write_state<'a, 'b>(
@@ -147,16 +102,6 @@ fn finish<'a, 'b>(
     }
 }
 
-// Yes or no.
-fn said(yes: bool) -> Verdict
-    ensures { λ r. ⌜ verdictOf r ≡ accepted yes ⌝ }
-{
-    if yes {
-        return Verdict::Yes;
-    }
-    Verdict::No
-}
-
 // What follows the walk.
 fn after_walk<'a, 'b>(
     script: &'a [u32],
@@ -195,18 +140,6 @@ fn after_walk<'a, 'b>(
         ),
         Walked::Stopped(question, place, visits) => refused(question, place, moves, visits),
     }
-}
-
-// "G the greatest name in script and rule (0 if none)"
-fn greatest<'a>(script: &'a [u32], rule: &'a [u32]) -> u32
-    ensures { λ r. ⌜ Greatest (now (script .entry)) (now (rule .entry)) r ⌝ }
-{
-    let in_script = greatest_name(script);
-    let in_rule = greatest_rule_name(rule);
-    if in_script < in_rule {
-        return in_rule;
-    }
-    in_script
 }
 
 // The walk on the tree that stands after the moves, and what follows it.
@@ -271,31 +204,6 @@ fn with_terms<'a, 'b>(
         patience,
         out,
     )
-}
-
-// The questions that ask nothing but numbers, in their order: 13 and 14.
-fn ask_terms(patience: u32, moves: usize) -> Outcome
-    ensures { λ r. ⌜ r ≡ askedOf (asking (terms patience moves)) ⌝ }
-{
-    if patience == 0 {
-        return Outcome::Refused {
-            question: 13,
-            place: 0,
-        };
-    }
-    if MOST_PATIENCE < patience {
-        return Outcome::Refused {
-            question: 13,
-            place: 0,
-        };
-    }
-    if MOST_MOVES < moves {
-        return Outcome::Refused {
-            question: 14,
-            place: 0,
-        };
-    }
-    Outcome::Read { next: 0 }
 }
 
 // Questions 13 to 19, of a call whose script and rule are read.

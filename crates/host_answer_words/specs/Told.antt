@@ -4,8 +4,8 @@ use mathlib.Core.Bool.{true, false}
 use mathlib.Core.List.{List, [], _∷_}
 use lib.ListN.{length}
 use Rattle.theory_call.specs.Call.{Verdict, accepted, refused, Answer}
-use Rattle.checker.specs.Answering.{verdictOf}
-use Rattle.checker.specs.declared.Answer as engine
+use Rattle.call_answers.specs.Answering.{verdictOf}
+use Rattle.call_answers.specs.declared.Answer as engine
 
 -- what is said: 0 for a refusal, 1 for no, 2 for yes
 unfoldable pub saidOf : Verdict → ℕ

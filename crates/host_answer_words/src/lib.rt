@@ -1,11 +1,11 @@
 // An answer as eight words.
-use checker::Answer;
-use checker::Verdict;
+use call_answers::Answer;
+use call_answers::Verdict;
 ghost use mathlib.Core.Path.{_≡_};
 ghost use mathlib.Core.List.{List, _++_};
 ghost use Prim.Native.Nat.{ℕ};
 ghost use lib.ListN.{drop};
-ghost use Rattle.checker.specs.Answering.{verdictOf, answerOf};
+ghost use Rattle.call_answers.specs.Answering.{verdictOf, answerOf};
 ghost use Rattle.host_answer_words.specs.Told.{saidOf, questionOf, placeOf, told, Tellable};
 
 // Yes, no or refused, as the first word of an answer has it.

@@ -7,7 +7,7 @@ use mathlib.Core.Option.{Option, none, some}
 use lib.Dec.{leb}
 use lib.ListN.{length, take, drop, replicate}
 use Rattle.theory_call.specs.Call.{answer}
-use Rattle.checker.specs.Answering.{callOf}
+use Rattle.call_answers.specs.Answering.{callOf}
 use Rattle.program_text.specs.Text.{refusalText, answerText}
 use Rattle.program_replies.specs.declared.Counted.{Counted}
 use Rattle.program_replies.specs.declared.Counted.the-variants.{Words, Short}

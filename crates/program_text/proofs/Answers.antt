@@ -3,10 +3,10 @@ use Prim.Native.Nat.{ℕ}
 use mathlib.Core.List.{List, _++_}
 use mathlib.Core.Path.{_≡_, sym, ap}
 use lib.ListN.{take}
-use Rattle.checker.specs.Answering.{verdictOf, answerOf}
-use Rattle.checker.specs.declared.Answer.{Answer}
-use Rattle.checker.specs.declared.Verdict.{Verdict}
-use Rattle.checker.specs.declared.Verdict.the-variants.{Yes, No, Refused}
+use Rattle.call_answers.specs.Answering.{verdictOf, answerOf}
+use Rattle.call_answers.specs.declared.Answer.{Answer}
+use Rattle.call_answers.specs.declared.Verdict.{Verdict}
+use Rattle.call_answers.specs.declared.Verdict.the-variants.{Yes, No, Refused}
 use Rattle.program_digits.specs.Digits.{lines, Puts}
 use Rattle.program_digits.proofs.Putting.{puts-more, puts-as}
 use Rattle.program_text.specs.Text.{yesText, noText, refusalText, countsText, saidText, verdictText, answerText}

@@ -1,14 +1,14 @@
 // Answers as text, put into a lent buffer piece by piece, as the functions of program_digits put them.
 use base_slices::head;
-use checker::Answer;
-use checker::Verdict;
+use call_answers::Answer;
+use call_answers::Verdict;
 use program_digits::put_byte;
 use program_digits::put_bytes;
 use program_digits::put_decimal;
 use program_digits::put_words;
 ghost use mathlib.Core.List.{_++_};
 ghost use lib.ListN.{take};
-ghost use Rattle.checker.specs.Answering.{answerOf};
+ghost use Rattle.call_answers.specs.Answering.{answerOf};
 ghost use Rattle.program_digits.specs.Digits.{lines, decimal, Puts};
 ghost use Rattle.program_text.specs.Text.{refusalText, countsText, answerText};
 

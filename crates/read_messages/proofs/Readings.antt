@@ -149,3 +149,8 @@ pub outcome-read : {A : Type 0} (x : Reading (A × Cursor)) (n : ℕ) → outcom
 unfolding outcome
 outcome-read (refuse q i) n e = read≢refused (sym e)
 outcome-read (got p) n e = (p, refl, cc)
+
+pub outcome-refuses : {A : Type 0} (x : Reading (A × Cursor)) (q i : ℕ) → outcome x ≡ Refused q i → x ≡ refuse q i
+unfolding outcome
+outcome-refuses (refuse p j) q i e = let a : p ≡ q = cc in let b : j ≡ i = cc in λ k. refuse (a k) (b k)
+outcome-refuses (got p) q i e = read≢refused e

@@ -12,7 +12,7 @@ use Rattle.io.specs.Counts.{Counts}
 use Rattle.base_slices.proofs.Tests.{byTest}
 use Rattle.theory_call.specs.Call.{Call, Verdict, accepted, refused, Answer, answer, refusal, standingWords}
 use Rattle.theory_call.proofs.Answers.{answer-ends}
-use Rattle.checker.specs.Answering.{callOf}
+use Rattle.call_answers.specs.Answering.{callOf}
 use Rattle.program_digits.specs.Digits.{digit, hexadecimal, line, lines, decimalBy, decimal, Puts}
 use Rattle.program_text.specs.Text.{refusedText, atText, movesText, visitsText, deepestText, weightText, wordsText, refusalText, countsText, saidText, verdictText}
 use Rattle.program_replies.specs.Reply.{counted, replied, unfitText, callReply, ruleReply, movesReply, scriptReply, wordsReply}

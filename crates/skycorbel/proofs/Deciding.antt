@@ -14,7 +14,7 @@ use Rattle.theory_machine.proofs.Options.{some-is, none≢some}
 use Rattle.theory_call.specs.Call.{Call, Verdict, accepted, refused, Answer, answer}
 use Rattle.theory_call.specs.Standing.{Decides}
 use Rattle.theory_call.proofs.Answers.{refused≢accepted}
-use Rattle.checker.specs.Answering.{callOf}
+use Rattle.call_answers.specs.Answering.{callOf}
 use Rattle.checker.proofs.Concluding.{decides}
 use Rattle.program_text.specs.Text.{refusalText, saidText, verdictText}
 use Rattle.program_replies.specs.Reply.{counted, replied, unfitText, callReply, ruleReply, movesReply, scriptReply, wordsReply}

@@ -1,5 +1,5 @@
--- What the walk's small functions answer: whether a part is called so, the rule's words and table loaded into one array, and
--- states that are lent and borrowed again. Assumes nothing.
+-- What the walk's small functions answer: whether a part is called so, and states that are lent and borrowed again. Assumes
+-- nothing.
 use Prim.Native.Nat.{ℕ, _+_, _<_}
 use mathlib.Core.Bool.{true, false}
 use mathlib.Core.List.{List}
@@ -39,47 +39,6 @@ filled-more P l a v h old new b low =
 -- what holds of a state and its part table holds of equal ones
 pub carried : (P : List ℕ → List ℕ → State → Type 0) (k k₁ l l₁ : List ℕ) (s s₁ : State) → k₁ ≡ k → l₁ ≡ l → s₁ ≡ s → P k l s → P k₁ l₁ s₁
 carried P k k₁ l l₁ s s₁ ek el es p = subst (λ (x : State). P k₁ l₁ x) (sym es) (subst (λ (x : List ℕ). P k₁ x s) (sym el) (subst (λ (x : List ℕ). P x l s) (sym ek) p))
-
--- The rule's words and table, of which the first i are in one array.
-pub record Loading (words rights placings program : List ℕ) (i : ℕ) : Type 0 where
-  pub long : length program ≡ 768
-  pub word : (j : ℕ) → j < i → j < length words → getD program j 0 ≡ getD words j 0
-  pub right : (j : ℕ) → j < i → getD program (256 + j) 0 ≡ getD rights j 0
-  pub number : (j : ℕ) → j < i → getD program (512 + j) 0 ≡ getD placings j 0
-
-module _ (words rights placings program : List ℕ) (i w r n : ℕ) (L : Loading words rights placings program i) (low : i < 256) (ew : i < length words → w ≡ getD words i 0) (er : r ≡ getD rights i 0) (en : n ≡ getD placings i 0) where
-  abbrev once : List ℕ
-  once = set program i w
-
-  abbrev twice : List ℕ
-  twice = set once (256 + i) r
-
-  abbrev thrice : List ℕ
-  thrice = set twice (512 + i) n
-
-  twice-long : length twice ≡ 768
-  twice-long = length-set once (256 + i) r ∙ length-set program i w ∙ L .long
-
-  past : (k : ℕ) → (k ≡ i → ⊥) → (k ≡ 256 + i → ⊥) → (k ≡ 512 + i → ⊥) → getD thrice k 0 ≡ getD program k 0
-  past k a b c = getD-set-other twice (512 + i) k n 0 c ∙ getD-set-other once (256 + i) k r 0 b ∙ getD-set-other program i k w 0 a
-
-  -- an entry is the new one, or one of those before it
-  split-last : (P : ℕ → Type 0) → P i → ((j : ℕ) → j < i → P j) → (j : ℕ) → j < i + 1 → P j
-  split-last P new old j h = byTest (eqb j i) (λ t. subst P (sym (eqb-true j i t)) new) (λ t. let z : j ≡ i → ⊥ = eqb-false j i t in old j (omega arith))
-
-  pub loading-more : Loading words rights placings thrice (i + 1)
-  loading-more = record {
-    long = length-set twice (512 + i) n ∙ twice-long;
-    word = split-last (λ (j : ℕ). j < length words → getD thrice j 0 ≡ getD words j 0)
-        (λ h. getD-set-other twice (512 + i) i n 0 (λ z. omega arith) ∙ getD-set-other once (256 + i) i r 0 (λ z. omega arith) ∙ getD-set-same program i w 0 (let l = L .long in omega (arith, l)) ∙ ew h)
-        (λ j g h. past j (λ z. omega arith) (λ z. omega arith) (λ z. omega arith) ∙ L .word j g h);
-    right = split-last (λ (j : ℕ). getD thrice (256 + j) 0 ≡ getD rights j 0)
-        (getD-set-other twice (512 + i) (256 + i) n 0 (λ z. omega arith) ∙ getD-set-same once (256 + i) r 0 (let l : length once ≡ 768 = length-set program i w ∙ L .long in omega (arith, l)) ∙ er)
-        (λ j g. past (256 + j) (λ z. omega arith) (λ z. omega arith) (λ z. omega arith) ∙ L .right j g);
-    number = split-last (λ (j : ℕ). getD thrice (512 + j) 0 ≡ getD placings j 0)
-        (getD-set-same twice (512 + i) n 0 (omega (arith, twice-long)) ∙ en)
-        (λ j g. past (512 + j) (λ z. omega arith) (λ z. omega arith) (λ z. omega arith) ∙ L .number j g);
-  }
 
 -- a step is one of a kind, and has one actor and target, or one number and name
 pub step-moves : (P : ℕ → ℕ → Type 0) (a t b u : ℕ) → Move a t ≡ Move b u → P a t → P b u

@@ -202,31 +202,3 @@ pub fn next_state<'a, 'b>(
         Step::Place(i, name) => place_within(script, sets, numbers, top, i, name),
     }
 }
-
-// The word at that index, 0 where there is none.
-fn word_at(rule: &[u32], i: usize) -> u32
-    ensures { λ r. ⌜ (i < length (now (rule .entry)) → r ≡ getD (now (rule .entry)) i 0) ⌝ }
-{
-    if i < rule.len() {
-        return rule[i];
-    }
-    0
-}
-
-// The rule's words and its table as one array.
-pub fn loaded(rule: &[u32], rights: [u16; 256], placings: [u8; 256]) -> [u32; 768]
-    ensures words { λ r. ⌜ ((i : ℕ) → i < 256 → i < length (now (rule .entry)) → getD r i 0 ≡ getD (now (rule .entry)) i 0) ⌝ }
-    ensures table { λ r. ⌜ ((i : ℕ) → i < 256 → (getD r (256 + i) 0 ≡ getD rights i 0) × (getD r (512 + i) 0 ≡ getD placings i 0)) ⌝ }
-{
-    let mut program: [u32; 768] = [0; 768];
-    let mut i: usize = 0;
-    while i < 256 {
-        let right = rights[i];
-        let placing = placings[i];
-        program[i] = word_at(rule, i);
-        program[256 + i] = right as u32;
-        program[512 + i] = placing as u32;
-        i += 1;
-    }
-    program
-}

@@ -1,8 +1,6 @@
 // The walk of a rule over the process that a state represents (document 01, "The rule and its walk"): a visit at each
 // word met. A state is lent as two arrays, and made only where a move or PLACED changes it.
 use base_slices::wide;
-use engine_states::State;
-use read_rules::RuleTable;
 use walk_rule_answers::name_said;
 use walk_rule_answers::next_count;
 use walk_rule_answers::turned;
@@ -14,14 +12,11 @@ use walk_stages::Walked;
 use walk_states::Spot;
 use walk_states::Step;
 use walk_states::all_targets;
-use walk_states::as_arrays;
 use walk_states::is_called;
-use walk_states::loaded;
 use walk_states::next_state;
 use walk_states::next_turn;
 ghost use Prim.Native.Nat.{_+_, _-_, _≤_, _<_};
-ghost use Rattle.engine_states.specs.Represents.{Ready};
-ghost use Rattle.walk_stages.specs.Visits.{Visitable, Visits as Answers, Looks as Finds, Splits, Walks};
+ghost use Rattle.walk_stages.specs.Visits.{Visitable, Visits as Answers, Looks as Finds, Splits};
 
 // A visit at the word of the spot, whose depth is among the depths left.
 pub fn visit<'a>(
@@ -359,44 +354,4 @@ fn placed_in<'a>(
     inner.at = at + 1;
     inner.top = next_state(script, &mut s, &mut n, spot.top, &nowhere, step);
     visit(program, script, &s, &n, chosen, inner, limits, c)
-}
-
-// The whole walk of the rule over the process that the state represents.
-pub fn walk_rule<'a>(
-    rule: &'a [u32],
-    table: RuleTable,
-    script: &'a [u32],
-    kinds: [u8; 64],
-    starts: [u32; 64],
-    state: State,
-    limits: Limits,
-) -> Walked
-    requires { ⌜ (limits .limit ≤ 64) × (limits .parts ≤ 64) × (limits .greatest < 268435456) × Ready (now script) kinds starts state ⌝ }
-    ensures { λ r. ⌜ Walks (now (rule .entry)) table (now (script .entry)) kinds starts state limits r ⌝ }
-{
-    let rights = table.rights;
-    let placings = table.placings;
-    let program = loaded(rule, rights, placings);
-    let s = as_arrays(kinds, starts, state);
-    let chosen: [u32; 256] = [0; 256];
-    let none = Counts {
-        visits: 0,
-        deepest: 0,
-    };
-    let first = Spot {
-        at: 0,
-        top: s.top,
-        somes: 0,
-        left: 256,
-    };
-    visit(
-        &program,
-        script,
-        &s.sets,
-        &s.numbers,
-        &chosen,
-        first,
-        limits,
-        none,
-    )
 }

@@ -1,6 +1,7 @@
 -- `call` meets its contract: questions 1 to 6, and what is promised of the answer. Assumes nothing.
 use Rattle.theory_call.proofs.Called.{answers-script}
-use Rattle.checker.proofs.Calling.{handed, script-refused, script-held}
+use Rattle.call_answers.proofs.Refusals.{handed}
+use Rattle.checker.proofs.Calling.{script-refused, script-held}
 use Rattle.checker.proofs.Concluding.{call-kept}
 use borrow.Author.Needs.{needs}
 use Rattle.checker.proofs.call.Statement.{statement}

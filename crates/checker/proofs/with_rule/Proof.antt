@@ -1,5 +1,7 @@
 -- `with_rule` meets its contract: questions 13 and 14 let the call in, or refuse it. Assumes nothing.
-use Rattle.checker.proofs.Calling.{handed, asked-so, says-terms}
+use Rattle.call_answers.proofs.Terms.{asked-so}
+use Rattle.call_answers.proofs.Refusals.{handed}
+use Rattle.checker.proofs.Calling.{says-terms}
 use borrow.Author.Needs.{needs}
 use Rattle.checker.proofs.with_rule.Statement.{statement}
 use Rattle.checker.proofs.with_rule.Tie as tie

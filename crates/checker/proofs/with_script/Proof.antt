@@ -1,5 +1,6 @@
 -- `with_script` meets its contract: questions 7 to 12. Assumes nothing.
-use Rattle.checker.proofs.Calling.{handed, rule-refused, rule-held, says-rule}
+use Rattle.call_answers.proofs.Refusals.{handed}
+use Rattle.checker.proofs.Calling.{rule-refused, rule-held, says-rule}
 use borrow.Author.Needs.{needs}
 use Rattle.checker.proofs.with_script.Statement.{statement}
 use Rattle.checker.proofs.with_script.Tie as tie

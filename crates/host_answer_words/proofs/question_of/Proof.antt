@@ -1,5 +1,5 @@
 -- `question_of` meets its contract, by cases. Assumes nothing.
-use Rattle.checker.specs.Answering.{verdictOf}
+use Rattle.call_answers.specs.Answering.{verdictOf}
 use Rattle.host_answer_words.specs.Told.{questionOf}
 use borrow.Author.Needs.{needs}
 use Rattle.host_answer_words.proofs.question_of.Statement.{statement}

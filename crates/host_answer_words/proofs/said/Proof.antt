@@ -1,5 +1,5 @@
 -- `said` meets its contract, by cases. Assumes nothing.
-use Rattle.checker.specs.Answering.{verdictOf}
+use Rattle.call_answers.specs.Answering.{verdictOf}
 use Rattle.host_answer_words.specs.Told.{saidOf}
 use borrow.Author.Needs.{needs}
 use Rattle.host_answer_words.proofs.said.Statement.{statement}

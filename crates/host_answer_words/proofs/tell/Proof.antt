@@ -5,8 +5,8 @@ use mathlib.Core.Path.{_≡_}
 use lib.ListN.{length, set, drop, length-set}
 use lib.Seq.{sets-eq}
 use native.Mathlib.Omega.{arith}
-use Rattle.checker.specs.Answering.{verdictOf, answerOf}
-use Rattle.checker.specs.declared.Answer.{Answer}
+use Rattle.call_answers.specs.Answering.{verdictOf, answerOf}
+use Rattle.call_answers.specs.declared.Answer.{Answer}
 use Rattle.host_answer_words.specs.Told.{saidOf, questionOf, placeOf, told}
 use borrow.Author.Needs.{needs}
 use Rattle.host_answer_words.proofs.tell.Statement.{statement}

@@ -1,16 +1,19 @@
--- The engine's answers by document 01's numbers, and the call as a definition is fed it. Assumes nothing: these are
+-- The engine's answers by document 01's numbers, the call as a definition is fed it, and G. Assumes nothing: these are
 -- definitions.
-use Prim.Native.Nat.{ℕ}
+use Prim.Native.Nat.{ℕ, _<_, max}
 use mathlib.Core.Bool.{true, false}
 use mathlib.Core.List.{List}
+use mathlib.Core.Path.{_≡_}
 use Rattle.read_messages.specs.Reading.{Reading, refuse, got}
 use Rattle.read_messages.specs.declared.Outcome.{Outcome}
 use Rattle.read_messages.specs.declared.Outcome.the-variants as outcome
+use Rattle.read_scripts.specs.Measures.{greatestName}
+use Rattle.read_rule_words.specs.Rule.{greatestRuleName}
 use Rattle.theory_call.specs.Call.{Call}
 use Rattle.theory_call.specs.Call as plain
-use Rattle.checker.specs.declared.Verdict.{Verdict}
-use Rattle.checker.specs.declared.Verdict.the-variants.{Yes, No, Refused}
-use Rattle.checker.specs.declared.Answer.{Answer}
+use Rattle.call_answers.specs.declared.Verdict.{Verdict}
+use Rattle.call_answers.specs.declared.Verdict.the-variants.{Yes, No, Refused}
+use Rattle.call_answers.specs.declared.Answer.{Answer}
 
 unfoldable pub verdictOf : Verdict → plain.Verdict
 verdictOf Yes = plain.accepted true
@@ -37,3 +40,10 @@ askedOf (got u) = outcome.Read 0
 -- what a call is lent
 abbrev pub callOf : (script moves rule : List ℕ) (patience : ℕ) (buffer : List ℕ) → Call
 callOf script moves rule patience buffer = record { script = script; moves = moves; rule = rule; patience = patience; buffer = buffer }
+
+-- "G the greatest name in script and rule (0 if none)"
+pub record Greatest (script words : List ℕ) (g : ℕ) : Type 0 where
+  -- it is the greater of both
+  pub most : g ≡ max (greatestName script) (greatestRuleName words)
+  -- names have 28 bits
+  pub small : g < 268435456

@@ -1,8 +1,8 @@
 -- `greatest` meets its contract: names have 28 bits. Assumes nothing.
-use Rattle.checker.proofs.Calling.{greatest-rule, greatest-script}
+use Rattle.call_answers.proofs.Names.{greatest-rule, greatest-script}
 use borrow.Author.Needs.{needs}
-use Rattle.checker.proofs.greatest.Statement.{statement}
-use Rattle.checker.proofs.greatest.Tie as tie
+use Rattle.call_answers.proofs.greatest.Statement.{statement}
+use Rattle.call_answers.proofs.greatest.Tie as tie
 
 returns : tie.Need-returns
 returns c = search (greatest-rule, needs)

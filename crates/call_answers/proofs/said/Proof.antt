@@ -1,9 +1,9 @@
 -- `said` meets its contract. Assumes nothing.
 use mathlib.Core.Path.{sym, ap}
 use Rattle.theory_call.specs.Call.{accepted}
-use Rattle.checker.specs.Answering.{verdictOf}
-use Rattle.checker.proofs.said.Statement.{statement}
-use Rattle.checker.proofs.said.Tie as tie
+use Rattle.call_answers.specs.Answering.{verdictOf}
+use Rattle.call_answers.proofs.said.Statement.{statement}
+use Rattle.call_answers.proofs.said.Tie as tie
 
 returns : tie.Need-returns
 unfolding verdictOf

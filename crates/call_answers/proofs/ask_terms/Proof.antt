@@ -1,7 +1,7 @@
 -- `ask_terms` meets its contract: questions 13 and 14. Assumes nothing.
-use Rattle.checker.proofs.Calling.{no-patience, too-patient, too-many, entered}
-use Rattle.checker.proofs.ask_terms.Statement.{statement}
-use Rattle.checker.proofs.ask_terms.Tie as tie
+use Rattle.call_answers.proofs.Terms.{no-patience, too-patient, too-many, entered}
+use Rattle.call_answers.proofs.ask_terms.Statement.{statement}
+use Rattle.call_answers.proofs.ask_terms.Tie as tie
 
 returns : tie.Need-returns
 returns c = search no-patience

@@ -1,9 +1,9 @@
 -- `refused` meets its contract. Assumes nothing.
 use mathlib.Core.Path.{refl}
 use Rattle.theory_call.specs.Call.{refusal}
-use Rattle.checker.specs.Answering.{verdictOf, answerOf}
-use Rattle.checker.proofs.refused.Statement.{statement}
-use Rattle.checker.proofs.refused.Tie as tie
+use Rattle.call_answers.specs.Answering.{verdictOf, answerOf}
+use Rattle.call_answers.proofs.refused.Statement.{statement}
+use Rattle.call_answers.proofs.refused.Tie as tie
 
 returns : tie.Need-returns
 unfolding refusal verdictOf answerOf

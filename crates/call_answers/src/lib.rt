@@ -1,0 +1,105 @@
+// What a call answers, and what it asks of numbers and names alone: questions 13 and 14, and G.
+use read_messages::Outcome;
+use read_rule_words::greatest_rule_name;
+use read_scripts::greatest_name;
+ghost use mathlib.Core.Path.{_≡_};
+ghost use mathlib.Core.List.{List};
+ghost use Prim.Native.Nat.{ℕ};
+ghost use Rattle.read_messages.specs.declared.Outcome.the-variants.{Refused};
+ghost use Rattle.theory_call.specs.Call.{accepted, refusal, asking, terms};
+ghost use Rattle.call_answers.specs.Answering.{verdictOf, answerOf, askedOf, Greatest};
+
+// The most visits that may be asked for, and the most moves of a list: questions 13 and 14.
+const MOST_PATIENCE: u32 = 16777216;
+
+const MOST_MOVES: usize = 4096;
+
+// Yes or no, or the question that refuses the call, and its place.
+pub enum Verdict {
+    Yes,
+    No,
+    Refused { question: u32, place: usize },
+}
+
+// What a call answers beside the buffer.
+pub struct Answer {
+    pub verdict: Verdict,
+    pub moves: usize,
+    pub visits: u32,
+    pub deepest: u32,
+    pub weight: usize,
+    pub words: u32,
+}
+
+// The answer to a call that is refused.
+pub fn refused(question: u32, place: usize, moves: usize, visits: u32) -> Answer
+    ensures { λ r. ⌜ ((buffer : List ℕ) → answerOf r buffer ≡ refusal question place moves visits buffer) ⌝ }
+{
+    let verdict = Verdict::Refused { question, place };
+    Answer {
+        verdict,
+        moves,
+        visits,
+        deepest: 0,
+        weight: 0,
+        words: 0,
+    }
+}
+
+// A reader's refusal, handed up as the call's: no move is made, and no visit.
+pub fn handed_up(outcome: Outcome) -> Answer
+    ensures { λ r. ⌜ ((question place : ℕ) (buffer : List ℕ) → outcome ≡ Refused question place → answerOf r buffer ≡ refusal question place 0 0 buffer) ⌝ }
+{
+    let Outcome::Refused { question, place } = outcome else {
+        // Nothing is promised here: what was read to its end is no refusal, and is not handed up.
+        return refused(0, 0, 0, 0);
+    };
+    refused(question, place, 0, 0)
+}
+
+// Yes or no.
+pub fn said(yes: bool) -> Verdict
+    ensures { λ r. ⌜ verdictOf r ≡ accepted yes ⌝ }
+{
+    if yes {
+        return Verdict::Yes;
+    }
+    Verdict::No
+}
+
+// The questions that ask nothing but numbers, in their order: 13 and 14.
+pub fn ask_terms(patience: u32, moves: usize) -> Outcome
+    ensures { λ r. ⌜ r ≡ askedOf (asking (terms patience moves)) ⌝ }
+{
+    if patience == 0 {
+        return Outcome::Refused {
+            question: 13,
+            place: 0,
+        };
+    }
+    if MOST_PATIENCE < patience {
+        return Outcome::Refused {
+            question: 13,
+            place: 0,
+        };
+    }
+    if MOST_MOVES < moves {
+        return Outcome::Refused {
+            question: 14,
+            place: 0,
+        };
+    }
+    Outcome::Read { next: 0 }
+}
+
+// "G the greatest name in script and rule (0 if none)"
+pub fn greatest<'a>(script: &'a [u32], rule: &'a [u32]) -> u32
+    ensures { λ r. ⌜ Greatest (now (script .entry)) (now (rule .entry)) r ⌝ }
+{
+    let in_script = greatest_name(script);
+    let in_rule = greatest_rule_name(rule);
+    if in_script < in_rule {
+        return in_rule;
+    }
+    in_script
+}

@@ -1,2 +1,0 @@
--- The whole walk, from the first word on. Assumes nothing.
-pub mod Begun
