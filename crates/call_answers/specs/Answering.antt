@@ -37,6 +37,12 @@ unfoldable pub askedOf : Reading (Unit {0}) → Outcome
 askedOf (refuse q i) = outcome.Refused q i
 askedOf (got u) = outcome.Read 0
 
+-- "The first no ends the call with its number and place": a reader's refusal as the call's answer, before any move; what is
+-- read to its end is refused by no question, 0
+unfoldable pub refusedBy : Outcome → (buffer : List ℕ) → plain.Answer
+refusedBy (outcome.Refused q i) b = plain.refusal q i 0 0 b
+refusedBy (outcome.Read n) b = plain.refusal 0 0 0 0 b
+
 -- what a call is lent
 abbrev pub callOf : (script moves rule : List ℕ) (patience : ℕ) (buffer : List ℕ) → Call
 callOf script moves rule patience buffer = record { script = script; moves = moves; rule = rule; patience = patience; buffer = buffer }

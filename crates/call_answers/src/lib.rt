@@ -5,9 +5,8 @@ use read_scripts::greatest_name;
 ghost use mathlib.Core.Path.{_≡_};
 ghost use mathlib.Core.List.{List};
 ghost use Prim.Native.Nat.{ℕ};
-ghost use Rattle.read_messages.specs.declared.Outcome.the-variants.{Refused};
 ghost use Rattle.theory_call.specs.Call.{accepted, refusal, asking, terms};
-ghost use Rattle.call_answers.specs.Answering.{verdictOf, answerOf, askedOf, Greatest};
+ghost use Rattle.call_answers.specs.Answering.{verdictOf, answerOf, askedOf, refusedBy, Greatest};
 
 // The most visits that may be asked for, and the most moves of a list: questions 13 and 14.
 const MOST_PATIENCE: u32 = 16777216;
@@ -46,12 +45,12 @@ pub fn refused(question: u32, place: usize, moves: usize, visits: u32) -> Answer
     }
 }
 
-// A reader's refusal, handed up as the call's: no move is made, and no visit.
+// A reader's refusal, handed up as the call's: no move is made, and no visit. What was read to its end is no refusal, and
+// would be told as one by no question.
 pub fn handed_up(outcome: Outcome) -> Answer
-    ensures { λ r. ⌜ ((question place : ℕ) (buffer : List ℕ) → outcome ≡ Refused question place → answerOf r buffer ≡ refusal question place 0 0 buffer) ⌝ }
+    ensures { λ r. ⌜ ((buffer : List ℕ) → answerOf r buffer ≡ refusedBy outcome buffer) ⌝ }
 {
     let Outcome::Refused { question, place } = outcome else {
-        // Nothing is promised here: what was read to its end is no refusal, and is not handed up.
         return refused(0, 0, 0, 0);
     };
     refused(question, place, 0, 0)
