@@ -3,10 +3,9 @@
 ghost use mathlib.Core.Path.{_≡_};
 ghost use mathlib.Core.Bool.{cond};
 ghost use mathlib.Core.List.{[], _∷_, tail};
-ghost use Prim.Native.Nat.{ℕ, suc, _<_, _^_};
+ghost use Prim.Native.Nat.{_<_};
 ghost use lib.ListN.{length};
 ghost use Rattle.base_sets.specs.Sets.{members, elem, inserted, removed, joined, inBoth, but, headOr, isNone, isOne};
-ghost use Rattle.base_sets.specs.Shares.{picked};
 
 // The set with no member.
 pub fn empty() -> u64
@@ -112,13 +111,4 @@ pub fn rest(m: u64) -> u64
     ensures { λ r. ⌜ members r ≡ tail (members m) ⌝ }
 {
     m & (m - 1)
-}
-
-// The share of m that comes after the share s, in rising order of the numbers that hold them; the
-// last share is m itself, and the empty one comes after it.
-pub fn next_share(m: u64, s: u64) -> u64
-    ensures next { λ r. ⌜ ((k : ℕ) → suc k < 2 ^ length (members m) → members s ≡ picked (members m) k → members r ≡ picked (members m) (suc k)) ⌝ }
-    ensures around { λ r. ⌜ (members s ≡ members m → members r ≡ []) ⌝ }
-{
-    std::num::wrapping_sub_u64(s, m) & m
 }

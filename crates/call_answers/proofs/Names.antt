@@ -7,7 +7,7 @@ use native.Mathlib.Omega.{arith}
 use lib.Dec.{ltb, eqb}
 use Rattle.base_slices.proofs.Tests.{byTest}
 use Rattle.read_messages.specs.Words.{kind, operand}
-use Rattle.read_scripts.specs.Measures.{greatestName}
+use Rattle.read_script_words.specs.ScriptWords.{greatestName}
 use Rattle.read_rule_words.specs.Rule.{ruleName, greatestRuleName}
 use Rattle.call_answers.specs.Answering.{Greatest}
 

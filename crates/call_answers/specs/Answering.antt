@@ -7,7 +7,7 @@ use mathlib.Core.Path.{_≡_}
 use Rattle.read_messages.specs.Reading.{Reading, refuse, got}
 use Rattle.read_messages.specs.declared.Outcome.{Outcome}
 use Rattle.read_messages.specs.declared.Outcome.the-variants as outcome
-use Rattle.read_scripts.specs.Measures.{greatestName}
+use Rattle.read_script_words.specs.ScriptWords.{greatestName}
 use Rattle.read_rule_words.specs.Rule.{greatestRuleName}
 use Rattle.theory_call.specs.Call.{Call}
 use Rattle.theory_call.specs.Call as plain

@@ -1,7 +1,7 @@
 // What a call answers, and what it asks of numbers and names alone: questions 13 and 14, and G.
 use read_messages::Outcome;
 use read_rule_words::greatest_rule_name;
-use read_scripts::greatest_name;
+use read_script_words::greatest_name;
 ghost use mathlib.Core.Path.{_≡_};
 ghost use mathlib.Core.List.{List};
 ghost use Prim.Native.Nat.{ℕ};

@@ -9,8 +9,8 @@ use lib.ListN.{length, take, drop, getD}
 use Rattle.theory_call.specs.Call.{Answer}
 use Rattle.program_digits.specs.Digits.{Puts}
 use Rattle.program_digits.proofs.Putting.{puts-as}
-use Rattle.program_text.specs.Text.{answerText}
-use Rattle.program_replies.specs.Reply.{counted, countedBy, replied, unfitText, callReply, ruleReply}
+use Rattle.program_text.specs.Text.{unfitText, answerText}
+use Rattle.program_replies.specs.Reply.{counted, countedBy, replied, callReply, ruleReply}
 use Rattle.program_replies.specs.declared.Counted.{Counted}
 use Rattle.program_replies.specs.declared.Counted.the-variants.{Words, Short}
 

@@ -8,7 +8,7 @@ use lib.Dec.{leb}
 use lib.ListN.{length, take, drop, replicate}
 use Rattle.theory_call.specs.Call.{answer}
 use Rattle.call_answers.specs.Answering.{callOf}
-use Rattle.program_text.specs.Text.{refusalText, answerText}
+use Rattle.program_text.specs.Text.{unfitText, answerText}
 use Rattle.program_replies.specs.declared.Counted.{Counted}
 use Rattle.program_replies.specs.declared.Counted.the-variants.{Words, Short}
 
@@ -21,10 +21,6 @@ counted (n ∷ s) = cond (leb n (length s)) (some (take n s, drop n s)) none
 unfoldable pub countedBy : Counted → List ℕ → Option (List ℕ × List ℕ)
 countedBy (Words n) s = some (take n (drop 1 s), drop n (drop 1 s))
 countedBy Short s = none
-
--- "else, or above 24,576 bytes, it prints `refused 20 at 0`"
-abbrev pub unfitText : List ℕ
-unfitText = refusalText 20 0
 
 -- what is replied to a list with a count, or without
 unfoldable pub replied : Option (List ℕ × List ℕ) → (List ℕ → List ℕ → List ℕ) → List ℕ

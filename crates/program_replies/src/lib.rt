@@ -4,10 +4,10 @@ use base_slices::head;
 use base_slices::tail;
 use checker::call;
 use program_text::put_answer;
-use program_text::put_refusal;
+use program_text::put_unfit;
 ghost use mathlib.Core.Path.{_≡_};
 ghost use Rattle.program_digits.specs.Digits.{Puts};
-ghost use Rattle.program_replies.specs.Reply.{counted, countedBy, unfitText, callReply, ruleReply, movesReply, scriptReply, wordsReply};
+ghost use Rattle.program_replies.specs.Reply.{counted, countedBy, callReply, ruleReply, movesReply, scriptReply, wordsReply};
 
 // How many words a count at the start of a slice counts, or that there are not so many behind it.
 enum Counted {
@@ -26,13 +26,6 @@ fn read_count(s: &[u32]) -> Counted
         return Counted::Short;
     }
     Counted::Words(n)
-}
-
-// Question 20, where it is no.
-pub fn put_unfit(text: &mut [u8]) -> usize
-    ensures { λ r. ⌜ Puts (now (text .entry)) (now (text .exit)) 0 r unfitText ⌝ }
-{
-    put_refusal(text, 20, 0)
 }
 
 // "It lends 4,096 words."

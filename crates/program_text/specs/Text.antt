@@ -46,6 +46,10 @@ wordsText = 32 ∷ 119 ∷ 111 ∷ 114 ∷ 100 ∷ 115 ∷ 32 ∷ []
 unfoldable pub refusalText : (question place : ℕ) → List ℕ
 refusalText q i = refusedText ++ decimal q ++ atText ++ decimal i ++ (10 ∷ [])
 
+-- "else, or above 24,576 bytes, it prints `refused 20 at 0`"
+abbrev pub unfitText : List ℕ
+unfitText = refusalText 20 0
+
 -- the counts behind a yes or no
 unfoldable pub countsText : (moves visits deepest weight words : ℕ) → List ℕ
 countsText m v d w n =

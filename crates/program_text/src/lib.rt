@@ -10,10 +10,10 @@ ghost use mathlib.Core.List.{_++_};
 ghost use lib.ListN.{take};
 ghost use Rattle.call_answers.specs.Answering.{answerOf};
 ghost use Rattle.program_digits.specs.Digits.{lines, decimal, Puts};
-ghost use Rattle.program_text.specs.Text.{refusalText, countsText, answerText};
+ghost use Rattle.program_text.specs.Text.{refusalText, unfitText, countsText, answerText};
 
 // "a refusal as the one line `refused`, number, `at`, place"
-pub fn put_refusal(text: &mut [u8], question: u32, place: usize) -> usize
+fn put_refusal(text: &mut [u8], question: u32, place: usize) -> usize
     ensures { λ r. ⌜ Puts (now (text .entry)) (now (text .exit)) 0 r (refusalText question place) ⌝ }
 {
     let a = put_bytes(text, 0, b"refused ");
@@ -21,6 +21,13 @@ pub fn put_refusal(text: &mut [u8], question: u32, place: usize) -> usize
     let c = put_bytes(text, b, b" at ");
     let d = put_decimal(text, c, place as u64);
     put_byte(text, d, 10)
+}
+
+// Question 20, where it is no.
+pub fn put_unfit(text: &mut [u8]) -> usize
+    ensures { λ r. ⌜ Puts (now (text .entry)) (now (text .exit)) 0 r unfitText ⌝ }
+{
+    put_refusal(text, 20, 0)
 }
 
 // A count behind its name.

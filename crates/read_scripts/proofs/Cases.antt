@@ -10,9 +10,10 @@ use Rattle.read_messages.specs.Message.{Message}
 use Rattle.read_messages.specs.ReadMessage.{readMessage}
 use Rattle.read_messages.proofs.Readings.{refuse≢got, bind-all, got-all, Next, next}
 use Rattle.read_scripts.specs.Tree.{Head, ambient, action, receipt, output, close, part}
-use Rattle.read_scripts.specs.Script.{Written, Script, partWord, partFits, partFrom, readBody, readScript}
-use Rattle.read_scripts.specs.declared.PartWord.{PartWord}
-use Rattle.read_scripts.specs.declared.PartWord.the-variants.{Close, Ambient, Action, Receipt, Output, No}
+use Rattle.read_scripts.specs.Script.{Written, Script, partFrom, readBody, readScript}
+use Rattle.read_script_words.specs.ScriptWords.{partWord, partFits}
+use Rattle.read_script_words.specs.declared.PartWord.{PartWord}
+use Rattle.read_script_words.specs.declared.PartWord.the-variants.{Close, Ambient, Action, Receipt, Output, No}
 use Rattle.read_scripts.proofs.Laws.{or-close-all}
 
 -- a part as it is written at an index

@@ -16,11 +16,12 @@ use Rattle.read_messages.specs.Spelling.{messageAt}
 use Rattle.read_messages.proofs.Laws.{MessageRead, message-advances, message-fuel}
 use Rattle.read_messages.proofs.Spells.{read-message}
 use Rattle.read_scripts.specs.Tree.{Head, ambient, action, receipt, output, close, part, kindNumber, totalOver, parts}
-use Rattle.read_scripts.specs.Script.{Written, Script, partWord, partFits, guardedFrom, partFrom, orClose, readBody}
+use Rattle.read_scripts.specs.Script.{Written, Script, guardedFrom, partFrom, orClose, readBody}
+use Rattle.read_script_words.specs.ScriptWords.{partWord, partFits}
 use Rattle.read_scripts.specs.Table.{startBy, startOf}
 use Rattle.read_scripts.specs.Represents.{Numbered, PartsAt, Low, headAt}
-use Rattle.read_scripts.specs.declared.PartWord.{PartWord}
-use Rattle.read_scripts.specs.declared.PartWord.the-variants.{Close, Ambient, Action, Receipt, Output, No}
+use Rattle.read_script_words.specs.declared.PartWord.{PartWord}
+use Rattle.read_script_words.specs.declared.PartWord.the-variants.{Close, Ambient, Action, Receipt, Output, No}
 
 -- What holds where a body was read, and where a part was, the cursor behind its word: `numbers` counts the parts, `fewer`
 -- says that there are no more of them than words, `numbered` that they are numbered in word order, and `placed` and `says`

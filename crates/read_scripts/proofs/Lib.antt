@@ -1,5 +1,4 @@
 -- The laws of `read_scripts` that its own proofs and the crates above cite.
-pub mod Words
 pub mod Laws
 pub mod Steps
 pub mod Whole

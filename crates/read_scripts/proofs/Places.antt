@@ -12,9 +12,10 @@ use Rattle.read_messages.specs.ReadMessage.{readMessage}
 use Rattle.read_messages.proofs.Laws.{MessageRead, message-advances}
 use Rattle.read_messages.proofs.Places.{Within, bind-within, ask-within, Ends, ends-on, next-within, next-ends, message-within}
 use Rattle.read_scripts.specs.Tree.{Head, ambient, action}
-use Rattle.read_scripts.specs.Script.{Script, partWord, partFits, guardedFrom, partFrom, orClose, readBody, readScript}
-use Rattle.read_scripts.specs.declared.PartWord.{PartWord}
-use Rattle.read_scripts.specs.declared.PartWord.the-variants.{Close, Ambient, Action, Receipt, Output, No}
+use Rattle.read_scripts.specs.Script.{Script, guardedFrom, partFrom, orClose, readBody, readScript}
+use Rattle.read_script_words.specs.ScriptWords.{partWord, partFits}
+use Rattle.read_script_words.specs.declared.PartWord.{PartWord}
+use Rattle.read_script_words.specs.declared.PartWord.the-variants.{Close, Ambient, Action, Receipt, Output, No}
 use Rattle.read_scripts.proofs.Laws.{body-advances, part-read, short}
 
 -- a part, by its message and the body inside it

@@ -23,15 +23,16 @@ use Rattle.base_slices.proofs.Tails.{part-drop, length-part}
 use Rattle.base_slices.proofs.Tails as Tails
 use Rattle.read_messages.proofs.Laws.{MessageRead, message-advances, readOf, read-bounds}
 use Rattle.read_scripts.specs.Tree.{Head, ambient, action, receipt, close, part, totalOver, parts, kindNumber}
-use Rattle.read_scripts.specs.Script.{Written, Script, partWord, partFits, guardedHead, guardedFrom, partFrom, orClose, readBody, askedPart}
+use Rattle.read_scripts.specs.Script.{Written, Script, guardedHead, guardedFrom, partFrom, orClose, readBody}
+use Rattle.read_script_words.specs.ScriptWords.{partWord, partFits, askedPart}
 use Rattle.read_scripts.specs.Table.{entered, startBy, tabulate, refusedAt, vacant, scanned, scannedPart, Readable, PartReadable, GuardedReadable}
 use Rattle.read_scripts.specs.declared.Table.{Table}
 use Rattle.read_scripts.specs.declared.Scan.{Scan}
-use Rattle.read_scripts.specs.declared.PartWord.{PartWord}
-use Rattle.read_scripts.specs.declared.PartWord.the-variants.{Close, Ambient, Action, Receipt, Output, No}
+use Rattle.read_script_words.specs.declared.PartWord.{PartWord}
+use Rattle.read_script_words.specs.declared.PartWord.the-variants.{Close, Ambient, Action, Receipt, Output, No}
 use Rattle.read_messages.specs.declared.Outcome.{Outcome}
 use Rattle.read_messages.specs.declared.Outcome.the-variants.{Read, Refused}
-use Rattle.read_scripts.proofs.PartWord.{the-type}
+use Rattle.read_script_words.proofs.PartWord.{the-type}
 use Rattle.read_scripts.proofs.Laws.{PartRead, part-read, body-fuel}
 
 -- the only question that a part word answers by no is the second

@@ -9,11 +9,13 @@ use Rattle.read_messages.specs.Reading.{Reading, refuse, got, cursor}
 use Rattle.read_messages.specs.ReadMessage
 use Rattle.read_messages.specs.Message.{name, enter, emptyMessage}
 use Rattle.read_messages.specs.Message
+use Rattle.read_script_words.specs.ScriptWords.{greatestName}
+use Rattle.read_script_words.specs.ScriptWords
 use Rattle.read_scripts.specs.Tree.{Head, ambient, action, receipt, close, part}
 use Rattle.read_scripts.specs.Tree
 use Rattle.read_scripts.specs.Script.{Written, Script, readScript, started}
 use Rattle.read_scripts.specs.Script
-use Rattle.read_scripts.specs.Measures.{movesBound, greatestName}
+use Rattle.read_scripts.specs.Measures.{movesBound}
 use Rattle.read_scripts.specs.Measures
 
 abbrev W : List ℕ
@@ -28,7 +30,7 @@ W-script =
     (part 2 (written 7 (ambient (name 2))) close close)
 
 reads-W : readScript W ≡ got (W-script, cursor 11 3 [])
-unfolding Words.computing Reading.computing ReadMessage.computing Tree.computing Script.computing
+unfolding Words.computing Reading.computing ReadMessage.computing ScriptWords.computing Tree.computing Script.computing
 reads-W = refl
 
 -- the bound of W is 0 + 1 × 1 ^ 1, and its greatest name 2
@@ -37,7 +39,7 @@ unfolding Tree.computing Measures.computing Message.computing
 W-bound = refl
 
 W-greatest : greatestName W ≡ 2
-unfolding Measures.computing Words.computing
+unfolding ScriptWords.computing Words.computing
 W-greatest = refl
 
 -- so many receipts, one beside another, and the CLOSE
@@ -61,7 +63,7 @@ refusals =
     ∷ []
 
 refused-rightly : map (λ (e : List ℕ × Reading (Script × Reading.Cursor)). readScript (e .0)) refusals ≡ map (λ (e : List ℕ × Reading (Script × Reading.Cursor)). e .1) refusals
-unfolding Words.computing Reading.computing ReadMessage.computing Tree.computing Script.computing
+unfolding Words.computing Reading.computing ReadMessage.computing ScriptWords.computing Tree.computing Script.computing
 refused-rightly = refl
 
 -- an action whose message has no items is gone from the start, and under a receipt it stays

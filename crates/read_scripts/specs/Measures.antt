@@ -1,10 +1,6 @@
--- What document 01's bound and SOME count in a script. Assumes nothing: these are definitions.
-use Prim.Native.Nat.{ℕ, suc, _+_, _*_, _^_, max}
-use mathlib.Core.Bool.{cond}
-use mathlib.Core.List.{List, [], _∷_}
+-- What document 01's bound counts in a script. Assumes nothing: these are definitions.
+use Prim.Native.Nat.{ℕ, suc, _+_, _*_, _^_}
 use lib.ListN.{length}
-use lib.Dec.{eqb}
-use Rattle.read_messages.specs.Words.{kind, operand}
 use Rattle.read_messages.specs.Message.{Message, items}
 use Rattle.read_scripts.specs.Tree.{Head, ambient, action, receipt, output, totalOver, greatest}
 use Rattle.read_scripts.specs.Script.{Script}
@@ -42,12 +38,7 @@ mostItems b = greatest (λ i w. itemsOf (w .head)) b
 unfoldable pub movesBound : Script → ℕ
 movesBound b = receiptsIn b + actionsIn b * mostItems b ^ suc (receiptsIn b)
 
--- "the greatest name in script .. (0 if none)": over the script's NAME words
-unfoldable pub greatestName : List ℕ → ℕ
-greatestName [] = 0
-greatestName (w ∷ ws) = cond (eqb (kind w) 8) (max (operand w) (greatestName ws)) (greatestName ws)
-
 -- To unfold this is to unfold every definition of this module: for a proof by computation.
 unfoldable pub computing : Unit {0}
-unfolding receiptsIn actionsIn mostItems movesBound greatestName
+unfolding receiptsIn actionsIn mostItems movesBound
 computing = tt

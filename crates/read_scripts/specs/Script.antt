@@ -1,17 +1,17 @@
 -- How a script is read from words: questions 1 to 6 (document 01, "Questions at the door"); and the plain machine's tree that
 -- it begins as. Assumes nothing: these are definitions.
 use Prim.Native.Nat.{ℕ, zero, suc}
-use mathlib.Core.Bool.{Bool, true, false, _&&_, cond}
+use mathlib.Core.Bool.{_&&_, cond}
 use mathlib.Core.List.{List, [], _∷_}
 use lib.ListN.{length}
 use lib.Dec.{leb, eqb}
-use Rattle.read_messages.specs.Words.{kind, operand}
 use Rattle.read_messages.specs.Reading.{Cursor, cursor, Reading, refuse, got, _>>=_, ask, nextWord, nextPart, isEmpty}
 use Rattle.read_messages.specs.Message.{Message, items}
 use Rattle.read_messages.specs.ReadMessage.{readMessage}
 use Rattle.read_scripts.specs.Tree.{Head, ambient, action, receipt, output, Body, close, part, mapHeads, Plain, PlainHead, settle}
-use Rattle.read_scripts.specs.declared.PartWord.{PartWord}
-use Rattle.read_scripts.specs.declared.PartWord.the-variants.{Close, Ambient, Action, Receipt, Output, No}
+use Rattle.read_script_words.specs.ScriptWords.{partWord, partFits}
+use Rattle.read_script_words.specs.declared.PartWord.{PartWord}
+use Rattle.read_script_words.specs.declared.PartWord.the-variants.{Close, Ambient, Action, Receipt, Output, No}
 
 -- A part as it is written: the index of its word, and what it is, an action being its message.
 pub record Written : Type 0 where
@@ -20,28 +20,6 @@ pub record Written : Type 0 where
 
 abbrev pub Script : Type 0
 Script = Body Written
-
--- "0 CLOSE. 1 AMB .. 2 ACT .. 3 REC .. 4 OUT"
-abbrev pub partKind : ℕ → PartWord
-partKind k =
-    cond (eqb k 0) Close
-    (cond (eqb k 1) Ambient
-    (cond (eqb k 2) Action
-    (cond (eqb k 3) Receipt
-    (cond (eqb k 4) Output (No 2)))))
-
--- the word where a part or a CLOSE is expected; its operand is zero
-unfoldable pub partWord : ℕ → PartWord
-partWord w = cond (eqb (operand w) 0) (partKind (kind w)) (No 2)
-
--- question 2: "Does this word's kind and operand fit (VAR: any operand)?"
-unfoldable pub partFits : PartWord → Bool
-partFits Close = true
-partFits Ambient = true
-partFits Action = true
-partFits Receipt = true
-partFits Output = true
-partFits (No q) = false
 
 -- a message and then a body; `written` says what the part is by its message
 abbrev pub guardedFrom :
@@ -118,11 +96,7 @@ started b = settle (withItems b)
 abbrev pub guardedHead : ℕ → Message → Head Message
 guardedHead k m = cond (eqb k 1) (ambient m) (action m)
 
--- What `ask_part` of the code answers: questions 2 and 4.
-unfoldable pub askedPart : (nest : ℕ) → PartWord → PartWord
-askedPart nest p = cond (partFits p) (cond (leb nest 64) p (No 4)) p
-
 -- To unfold this is to unfold every definition of this module: for a proof by computation.
 unfoldable pub computing : Unit {0}
-unfolding partWord partFits partFrom orClose readBody readScript headWithItems withItems started askedPart
+unfolding partFrom orClose readBody readScript headWithItems withItems started
 computing = tt

@@ -11,8 +11,9 @@ use Rattle.read_messages.specs.Reading.{Cursor, Reading, refuse, got}
 use Rattle.read_messages.specs.Message.{Message}
 use Rattle.read_messages.specs.declared.Outcome.the-variants.{Read, Refused}
 use Rattle.read_scripts.specs.Tree.{Head, ambient, action, receipt, output, close, part, kindNumber}
-use Rattle.read_scripts.specs.Script.{Written, Script, partWord, askedPart}
-use Rattle.read_scripts.specs.declared.PartWord.{PartWord}
+use Rattle.read_scripts.specs.Script.{Written, Script}
+use Rattle.read_script_words.specs.ScriptWords.{partWord, askedPart}
+use Rattle.read_script_words.specs.declared.PartWord.{PartWord}
 use Rattle.read_scripts.specs.declared.Table.{Table}
 use Rattle.read_scripts.specs.declared.Scan.{Scan}
 

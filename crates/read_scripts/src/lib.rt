@@ -1,26 +1,16 @@
 // The script: body reader and part reader above the message reader, and the part table they fill. Questions 1 to 6 of
 // document 01.
 use read_messages::Outcome;
+use read_script_words::{ask_part, PartWord};
 ghost use mathlib.Core.Path.{_≡_};
 ghost use Prim.Native.Nat.{suc, _+_, _-_, _<_};
 ghost use lib.ListN.{length, drop};
 ghost use Rattle.base_slices.specs.Fronts.{Fronted};
 ghost use Rattle.read_messages.specs.Reading.{cursor};
 ghost use Rattle.read_messages.specs.ReadMessage.{readMessage};
-ghost use Rattle.read_scripts.specs.Script.{partWord, askedPart, guardedHead, guardedFrom, partFrom, readBody};
+ghost use Rattle.read_scripts.specs.Script.{guardedHead, guardedFrom, partFrom, readBody};
 ghost use Rattle.read_scripts.specs.Table.{vacant, refusedAt, entered, scanned, scannedPart, Readable, PartReadable, GuardedReadable, ReceiptAddable};
 ghost use Rattle.read_scripts.specs.Represents.{Answers};
-ghost use Rattle.read_scripts.specs.Measures.{greatestName};
-
-// What a word is where a part is expected, or the number of the first question that it answers by no.
-pub enum PartWord {
-    Close,
-    Ambient,
-    Action,
-    Receipt,
-    Output,
-    No { question: u32 },
-}
 
 // The parts by number: kind (1 ambient, 2 action, 3 receipt, 4 output), where the message starts (of a receipt, its own
 // index), and the set of the parts in the body; entry 64 of kids is the script's own body. count is the number of parts.
@@ -64,38 +54,6 @@ fn refused(question: u32, place: usize) -> Scan
         outcome: Outcome::Refused { question, place },
         table,
     }
-}
-
-// The word w by its kind and operand.
-fn part_word(w: u32) -> PartWord
-    ensures { λ r. ⌜ r ≡ partWord w ⌝ }
-{
-    let kind = w / 268435456;
-    if w % 268435456 != 0 {
-        return PartWord::No { question: 2 };
-    }
-    match kind {
-        0 => PartWord::Close,
-        1 => PartWord::Ambient,
-        2 => PartWord::Action,
-        3 => PartWord::Receipt,
-        4 => PartWord::Output,
-        _ => PartWord::No { question: 2 },
-    }
-}
-
-// Questions 2 and 4 for a word of that nesting.
-fn ask_part(w: u32, nest: usize) -> PartWord
-    ensures { λ r. ⌜ r ≡ askedPart nest (partWord w) ⌝ }
-{
-    let p = part_word(w);
-    if let PartWord::No { question } = p {
-        return PartWord::No { question };
-    }
-    if 64 < nest {
-        return PartWord::No { question: 4 };
-    }
-    p
 }
 
 // The table with one part more, in the body of owner.
@@ -266,23 +224,4 @@ pub fn read_script(s: &[u32]) -> Scan
         return refused(6, 0);
     }
     a
-}
-
-// The greatest name among the NAME words, 0 if there is none.
-pub fn greatest_name(s: &[u32]) -> u32
-    ensures { λ r. ⌜ r ≡ greatestName (now (s .entry)) ⌝ }
-{
-    let mut greatest: u32 = 0;
-    let mut i: usize = s.len();
-    while 0 < i {
-        i -= 1;
-        let w = s[i];
-        if w / 268435456 == 8 {
-            let name = w % 268435456;
-            if greatest < name {
-                greatest = name;
-            }
-        }
-    }
-    greatest
 }

@@ -16,8 +16,8 @@ use Rattle.theory_call.specs.Standing.{Decides}
 use Rattle.theory_call.proofs.Answers.{refused≢accepted}
 use Rattle.call_answers.specs.Answering.{callOf}
 use Rattle.checker.proofs.Concluding.{decides}
-use Rattle.program_text.specs.Text.{refusalText, saidText, verdictText}
-use Rattle.program_replies.specs.Reply.{counted, replied, unfitText, callReply, ruleReply, movesReply, scriptReply, wordsReply}
+use Rattle.program_text.specs.Text.{refusalText, unfitText, saidText, verdictText}
+use Rattle.program_replies.specs.Reply.{counted, replied, callReply, ruleReply, movesReply, scriptReply, wordsReply}
 use Rattle.skycorbel.specs.Input.{wordsOf, reply}
 use Rattle.skycorbel.specs.Right.{counting, inputWords, Asks, Begins, Right}
 use Rattle.skycorbel.proofs.Reading.{length-words}

@@ -6,7 +6,8 @@ use borrow.Author.Tests.{le-leb, lt-leb, eq-eqb, ne-eqb}
 use lib.ListN.{length}
 use Rattle.program_digits.specs.Digits.{Puts}
 use Rattle.program_digits.proofs.Putting.{puts-as}
-use Rattle.program_replies.specs.Reply.{unfitText, wordsReply}
+use Rattle.program_text.specs.Text.{unfitText}
+use Rattle.program_replies.specs.Reply.{wordsReply}
 use Rattle.skycorbel.specs.Input.{wordsOf, reply}
 
 module _ {old new : List ℕ} {at next : ℕ} where

@@ -4,7 +4,8 @@ use mathlib.Core.Bool.{cond, _&&_}
 use mathlib.Core.List.{List, [], _∷_}
 use lib.Dec.{leb, eqb}
 use lib.ListN.{length, drop, getD}
-use Rattle.program_replies.specs.Reply.{unfitText, wordsReply}
+use Rattle.program_text.specs.Text.{unfitText}
+use Rattle.program_replies.specs.Reply.{wordsReply}
 
 -- the little-endian word at the start of some bytes
 abbrev pub wordOf : List ℕ → ℕ

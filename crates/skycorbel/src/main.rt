@@ -1,8 +1,8 @@
 // The program: the words that standard input spells, and the reply to them as text. Everything between the bytes read
 // and the bytes written is `reply`.
 use base_slices::head;
-use program_replies::put_unfit;
 use program_replies::reply_to_words;
+use program_text::put_unfit;
 ghost use mathlib.Core.Path.{_≡_};
 ghost use Prim.Native.Nat.{_+_, _*_, _≤_, _<_};
 ghost use lib.ListN.{length, take, drop};

@@ -17,7 +17,7 @@ use Rattle.read_messages.proofs.Readings.{Next}
 use Rattle.read_messages.proofs.Cases as message
 use Rattle.read_scripts.specs.Tree.{Head, ambient, action, receipt, output, close, part, settle, bare}
 use Rattle.read_scripts.specs.Script.{Written, Script, readScript, headWithItems, withItems, started}
-use Rattle.read_scripts.specs.Measures.{greatestName}
+use Rattle.read_script_words.specs.ScriptWords.{greatestName}
 use Rattle.read_scripts.proofs.Cases as body
 use Rattle.base_slices.proofs.Tests.{byTest}
 use Rattle.theory_machine.proofs.Everywhere.{Everywhere, map-everywhere, more-everywhere, settle-everywhere}

@@ -10,9 +10,10 @@ use Rattle.read_messages.specs.Words.{kind, operand, word}
 use Rattle.read_messages.specs.Reading.{Cursor, Reading}
 use Rattle.read_messages.specs.Message.{Message, name, variable, enter, exit, opens, emptyMessage, path, items, mentions}
 use Rattle.read_scripts.specs.Tree.{Head, part, PlainHead, Plain}
-use Rattle.read_scripts.specs.Script.{Script, partWord, partFits, guardedFrom, partFrom}
-use Rattle.read_scripts.specs.declared.PartWord.{PartWord}
-use Rattle.read_scripts.specs.declared.PartWord.the-variants.{Close, Ambient, Action, Receipt, Output, No}
+use Rattle.read_scripts.specs.Script.{Script, guardedFrom, partFrom}
+use Rattle.read_script_words.specs.ScriptWords.{partWord, partFits}
+use Rattle.read_script_words.specs.declared.PartWord.{PartWord}
+use Rattle.read_script_words.specs.declared.PartWord.the-variants.{Close, Ambient, Action, Receipt, Output, No}
 use Rattle.theory_written_trees.specs.Write.{Indices, writeMessage, oneMessage, writeHead, within, writeInside, write, writePart}
 use Rattle.theory_written_trees.proofs.Trees.{write-part}
 use Rattle.theory_calculus.specs.Calculus.{Process}

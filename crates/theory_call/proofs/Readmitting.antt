@@ -19,10 +19,11 @@ use Rattle.read_messages.specs.declared.MessageWord.the-variants.{Name, Variabl
 use Rattle.read_messages.proofs.Readings.{refuse≢got, bind-all, bind-got, bind-refuse, got-all, ask-yes, ask-no}
 use Rattle.read_messages.proofs.Cases as message
 use Rattle.read_scripts.specs.Tree.{Head, close, part, parts, bare, settle, PlainHead, Plain}
-use Rattle.read_scripts.specs.Script.{Written, Script, partWord, partFrom, orClose, readBody, readScript, headWithItems, withItems, started}
-use Rattle.read_scripts.specs.Script as script
-use Rattle.read_scripts.specs.declared.PartWord.{PartWord}
-use Rattle.read_scripts.specs.declared.PartWord.the-variants.{Close, Receipt, Output}
+use Rattle.read_scripts.specs.Script.{Written, Script, partFrom, orClose, readBody, readScript, headWithItems, withItems, started}
+use Rattle.read_script_words.specs.ScriptWords.{partWord}
+use Rattle.read_script_words.specs.ScriptWords as script
+use Rattle.read_script_words.specs.declared.PartWord.{PartWord}
+use Rattle.read_script_words.specs.declared.PartWord.the-variants.{Close, Receipt, Output}
 use Rattle.read_scripts.proofs.Cases as body
 use Rattle.read_scripts.proofs.Laws.{body-advances}
 use Rattle.read_scripts.proofs.Tabled.{script-tabled}

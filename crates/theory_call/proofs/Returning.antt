@@ -14,10 +14,11 @@ use Rattle.read_messages.specs.Message.{Message}
 use Rattle.read_messages.specs.ReadMessage.{readMessage}
 use Rattle.read_messages.proofs.Readings.{refuse≢got, bind-all, got-all, next}
 use Rattle.read_scripts.specs.Tree.{Head, close, part, totalOver, parts, PlainHead, Plain}
-use Rattle.read_scripts.specs.Script.{Written, Script, partWord, partFits, partFrom, orClose, readBody, readScript}
-use Rattle.read_scripts.specs.declared.PartWord.{PartWord}
-use Rattle.read_scripts.specs.declared.PartWord.the-variants.{Close, Ambient, Action, Receipt, Output, No}
-use Rattle.read_scripts.specs.Measures.{greatestName}
+use Rattle.read_scripts.specs.Script.{Written, Script, partFrom, orClose, readBody, readScript}
+use Rattle.read_script_words.specs.ScriptWords.{partWord, partFits}
+use Rattle.read_script_words.specs.declared.PartWord.{PartWord}
+use Rattle.read_script_words.specs.declared.PartWord.the-variants.{Close, Ambient, Action, Receipt, Output, No}
+use Rattle.read_script_words.specs.ScriptWords.{greatestName}
 use Rattle.read_scripts.proofs.Laws.{short}
 use Rattle.base_slices.proofs.Tests.{byTest, eqb-same}
 use Rattle.theory_written_trees.specs.Write.{Indices, newIndex, writeMessage, write}

@@ -7,7 +7,7 @@ use mathlib.Core.Path.{_≡_, subst}
 use mathlib.Core.Logic.{_↔_}
 use native.Mathlib.Omega.{arith}
 use Rattle.read_messages.specs.Reading.{got}
-use Rattle.read_scripts.specs.Measures.{greatestName}
+use Rattle.read_script_words.specs.ScriptWords.{greatestName}
 use Rattle.theory_machine.specs.PlainMachine.{Machine}
 use Rattle.read_rule_words.specs.ReadRule.{readWholeRule}
 use Rattle.read_rule_words.proofs.Order.{rule-ordered}

@@ -10,7 +10,7 @@ use Rattle.read_messages.specs.Words.{kind, operand}
 use Rattle.read_messages.specs.Reading.{Cursor, Reading, refuse, got, _>>=_, ask}
 use Rattle.read_messages.specs.Message.{Message}
 use Rattle.read_scripts.specs.Script.{Script, readScript, started}
-use Rattle.read_scripts.specs.Measures.{greatestName}
+use Rattle.read_script_words.specs.ScriptWords.{greatestName}
 use Rattle.theory_machine.specs.Moves.{MoveMade}
 use Rattle.theory_machine.specs.PlainMachine.{move, Machine, weightOf}
 use Rattle.theory_written_trees.specs.Write.{write}

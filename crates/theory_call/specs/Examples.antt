@@ -10,6 +10,7 @@ use Rattle.read_messages.specs.Reading
 use Rattle.read_messages.specs.Reading.{Cursor, Reading, refuse, got}
 use Rattle.read_messages.specs.Message
 use Rattle.read_messages.specs.ReadMessage
+use Rattle.read_script_words.specs.ScriptWords
 use Rattle.read_scripts.specs.Tree
 use Rattle.read_scripts.specs.Script
 use Rattle.read_scripts.specs.Script.{Script, readScript}
@@ -85,5 +86,5 @@ told e = (e .1, e .2)
 
 -- THEOREM: every row of the table is what the definitions answer.
 pub examples : map answered table ≡ map told table
-unfolding Words.computing Reading.computing Message.computing ReadMessage.computing Tree.computing Script.computing Measures.computing Bodies.computing Moves.computing PlainMachine.computing Write.computing Rule.computing ReadRule.computing Walk.computing PlainWalk.computing Call.computing
+unfolding Words.computing Reading.computing Message.computing ReadMessage.computing ScriptWords.computing Tree.computing Script.computing Measures.computing Bodies.computing Moves.computing PlainMachine.computing Write.computing Rule.computing ReadRule.computing Walk.computing PlainWalk.computing Call.computing
 examples = refl

@@ -7,9 +7,9 @@ use mathlib.Core.Path.{_≡_, refl, sym, ap, _∙_, subst}
 use native.Mathlib.Omega.{arith}
 use lib.ListN.{length, length-map}
 use Rattle.base_sets.specs.Sets.{isOdd, members, but}
-use Rattle.base_sets.specs.Shares.{putIf, picked, unpicked, spread, shares}
-use Rattle.base_sets.proofs.Shares.{share-more, share-last, share-rises}
-use Rattle.base_sets.proofs.Divisions.{picked-map, unpicked-map, from, from-zero, from-one, from-end, but-picked}
+use Rattle.base_shares.specs.Shares.{putIf, picked, unpicked, spread, shares}
+use Rattle.base_shares.proofs.Shares.{share-more, share-last, share-rises}
+use Rattle.base_shares.proofs.Divisions.{picked-map, unpicked-map, from, from-zero, from-one, from-end, but-picked}
 use Rattle.base_sets.proofs.Members.{members-rising}
 use Rattle.read_scripts.specs.Tree.{close, part, tops, totalOver}
 use Rattle.read_scripts.specs.Represents.{Held}

@@ -10,9 +10,9 @@ use lib.ListN.{getD, length}
 use lib.Pow.{pow-pos}
 use Rattle.read_messages.specs.Words.{kind}
 use Rattle.base_sets.specs.Sets.{members, elem, headOr, inBoth, numbersFrom}
-use Rattle.base_sets.specs.Shares.{picked}
+use Rattle.base_shares.specs.Shares.{picked}
 use Rattle.base_sets.proofs.Members.{members-step}
-use Rattle.base_sets.proofs.Divisions.{share-first}
+use Rattle.base_shares.proofs.Divisions.{share-first}
 use Rattle.read_scripts.specs.Tree.{tops, timesIn}
 use Rattle.read_scripts.specs.Represents.{bodyIn}
 use Rattle.read_rule_words.specs.Rule.{Names, Rule, beside, some-name, sometime, somewhere, ruleIndex, Later}

@@ -199,7 +199,7 @@ fn beside<'a>(
             return w;
         };
         now = c2;
-        share = base_sets::next_share(spot.top, share);
+        share = base_shares::next_share(spot.top, share);
     }
 }
 

@@ -2,7 +2,8 @@
 -- Assumes nothing.
 use native.Mathlib.Omega.{arith}
 use borrow.Author.Needs.{needs}
-use Rattle.read_scripts.specs.Script.{partFits, partFrom}
+use Rattle.read_scripts.specs.Script.{partFrom}
+use Rattle.read_script_words.specs.ScriptWords.{partFits}
 use Rattle.read_scripts.specs.Table.{scannedPart}
 use Rattle.read_scripts.proofs.Steps.{body-begins, guarded-asks}
 use Rattle.read_scripts.proofs.read_body.Reads as read-body

@@ -13,7 +13,7 @@ use Rattle.read_scripts.proofs.read_part.Reads as read-part
 use Rattle.read_scripts.proofs.read_part.Kinds as read-part-kinds
 use Rattle.read_scripts.proofs.+read_body+read_guarded+read_part.Lts-read_part as read-part-lts
 use Rattle.read_messages.proofs.read_message.Reads as read-message-reads
-use Rattle.read_scripts.proofs.ask_part.Reads as ask-part-reads
+use Rattle.read_script_words.proofs.ask_part.Reads as ask-part-reads
 use Rattle.read_scripts.proofs.enter_part.Reads as enter-part-reads
 use Rattle.read_scripts.proofs.refused.Reads as refused-reads
 use Rattle.read_scripts.proofs.vacant.Reads as vacant-reads

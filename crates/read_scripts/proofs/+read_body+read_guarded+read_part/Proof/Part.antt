@@ -8,12 +8,13 @@ use lib.ListN.{length, drop}
 use Rattle.base_slices.proofs.Tails as Tails
 use Rattle.read_messages.proofs.Laws.{readOf}
 use Rattle.read_scripts.proofs.Steps.{partAt, lent, entered-next, passed, receipt-asks, receipt-law, output-law, output-refused}
-use Rattle.read_scripts.specs.Script.{partFits, partFrom}
+use Rattle.read_scripts.specs.Script.{partFrom}
+use Rattle.read_script_words.specs.ScriptWords.{partFits}
 use Rattle.read_scripts.specs.Table.{scannedPart}
 use Rattle.read_scripts.specs.declared.Table.{Table}
 use Rattle.read_scripts.specs.declared.Scan.{Scan}
-use Rattle.read_scripts.specs.declared.PartWord.{PartWord}
-use Rattle.read_scripts.specs.declared.PartWord.the-variants.{Receipt}
+use Rattle.read_script_words.specs.declared.PartWord.{PartWord}
+use Rattle.read_script_words.specs.declared.PartWord.the-variants.{Receipt}
 use Rattle.read_scripts.proofs.+read_body+read_guarded+read_part.Lts-read_part as lts
 use Rattle.read_scripts.proofs.read_part.Reads as reads
 use Rattle.read_scripts.proofs.+read_body+read_guarded+read_part.Proof.Measures.{read-part-at, read-part-claims}

@@ -25,7 +25,7 @@ use Rattle.base_sets.proofs.difference.Reads as difference-reads
 use Rattle.base_sets.proofs.first.Reads as first-reads
 use Rattle.base_sets.proofs.intersection.Reads as intersection-reads
 use Rattle.base_sets.proofs.is_single.Reads as is-single-reads
-use Rattle.base_sets.proofs.next_share.Reads as next-share-reads
+use Rattle.base_shares.proofs.next_share.Reads as next-share-reads
 use Rattle.base_sets.proofs.rest.Reads as rest-reads
 use Rattle.walk_states.proofs.all_targets.Reads as all-targets-reads
 use Rattle.walk_states.proofs.is_called.Reads as is-called-reads

@@ -9,10 +9,10 @@ use native.Mathlib.Omega.{arith}
 use lib.ListN.{length}
 use lib.Pow.{pow-mono}
 use borrow.Author.Tests.{eq-eqb, ne-eqb}
 use Rattle.base_sets.specs.Sets.{isOdd, keepIf, keep, members, elem, mask, RisingFrom, but}
-use Rattle.base_sets.specs.Shares.{putIf, picked, unpicked, spread, shares}
+use Rattle.base_shares.specs.Shares.{putIf, picked, unpicked, spread, shares}
 use Rattle.base_sets.proofs.Positions.{parity, odd-0, odd-1}
 use Rattle.base_sets.proofs.Members.{rising-down, members-empty}
 
 module _ {A : Type 0} where
   pub picked-0 : (x : A) (l : List A) (k : ℕ) → k % 2 ≡ 0 → picked (x ∷ l) k ≡ picked l (k / 2)

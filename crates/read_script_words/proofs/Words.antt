@@ -11,11 +11,10 @@ use lib.ListN.{length, drop, getD}
 use Rattle.read_messages.specs.Words.{kind, operand}
 use Rattle.base_slices.proofs.Tests.{byTest}
 use Rattle.base_slices.proofs.Tails.{before}
-use Rattle.read_scripts.proofs.PartWord.{the-type}
-use Rattle.read_scripts.specs.declared.PartWord.{PartWord}
-use Rattle.read_scripts.specs.declared.PartWord.the-variants.{Close, Ambient, Action, Receipt, Output, No}
-use Rattle.read_scripts.specs.Script.{partFits, askedPart}
-use Rattle.read_scripts.specs.Measures.{greatestName}
+use Rattle.read_script_words.proofs.PartWord.{the-type}
+use Rattle.read_script_words.specs.declared.PartWord.{PartWord}
+use Rattle.read_script_words.specs.declared.PartWord.the-variants.{Close, Ambient, Action, Receipt, Output, No}
+use Rattle.read_script_words.specs.ScriptWords.{partFits, askedPart, greatestName}
 
 -- the variants before `No`
 abbrev pub Fit : PartWord → Type 0

@@ -1,8 +1,8 @@
--- `read_scripts::ask_part` meets its contract. Assumes nothing.
+-- `read_script_words::ask_part` meets its contract. Assumes nothing.
 use borrow.Author.Needs.{needs}
-use Rattle.read_scripts.proofs.Words.{asked-unfit, asked-deep, asked-within}
-use Rattle.read_scripts.proofs.ask_part.Statement.{statement}
-use Rattle.read_scripts.proofs.ask_part.Tie as tie
+use Rattle.read_script_words.proofs.Words.{asked-unfit, asked-deep, asked-within}
+use Rattle.read_script_words.proofs.ask_part.Statement.{statement}
+use Rattle.read_script_words.proofs.ask_part.Tie as tie
 
 returns : tie.Need-returns
 returns c = search (needs, asked-unfit)

@@ -10,12 +10,12 @@ use lib.Arith.{lt-one}
 use lib.ListN.{length}
 use lib.Bits.{bitAnd, and-step, and-zero-r, and-le-l}
 use lib.Pow.{pow-pos}
 use Rattle.base_sets.specs.Sets.{isOdd, members, inBoth}
-use Rattle.base_sets.specs.Shares.{putIf, picked}
+use Rattle.base_shares.specs.Shares.{putIf, picked}
 use Rattle.base_sets.proofs.Digits.{and-low, and-half}
 use Rattle.base_sets.proofs.Members.{members-same, members-both, members-empty}
 use Rattle.base_sets.proofs.Lists.{lt-or-ge}
 use Rattle.base_sets.proofs.Positions.{positions, members-positions, parity, odd-0, odd-1, positions-0, positions-1}
 
 -- the digits of k, put at the positions where m has a 1
 unfoldable pub deposit : ℕ → ℕ → ℕ → ℕ

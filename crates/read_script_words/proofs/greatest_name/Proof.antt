@@ -1,13 +1,13 @@
--- `read_scripts::greatest_name` meets its contract: the greatest name of the words behind i. Assumes nothing.
+-- `read_script_words::greatest_name` meets its contract: the greatest name of the words behind i. Assumes nothing.
 use Prim.Native.Nat.{_≤_}
 use mathlib.Core.Path.{_≡_, sym}
 use borrow.Author.Needs.{needs}
 use lib.ListN.{length, drop}
 use Rattle.read_messages.specs.Words.{kind, operand}
-use Rattle.read_scripts.specs.Measures.{greatestName}
-use Rattle.read_scripts.proofs.Words.{greatest-end, greatest-whole, greatest-other, greatest-more, greatest-kept}
-use Rattle.read_scripts.proofs.greatest_name.Statement.{statement}
-use Rattle.read_scripts.proofs.greatest_name.Tie as tie
+use Rattle.read_script_words.specs.ScriptWords.{greatestName}
+use Rattle.read_script_words.proofs.Words.{greatest-end, greatest-whole, greatest-other, greatest-more, greatest-kept}
+use Rattle.read_script_words.proofs.greatest_name.Statement.{statement}
+use Rattle.read_script_words.proofs.greatest_name.Tie as tie
 
 abbrev Inv-loop : tie.InvT-loop
 Inv-loop s greatest₀ i₀ greatest i = (i ≤ length s) × (greatest ≡ greatestName (drop i s))

@@ -1,13 +1,13 @@
--- `read_scripts::part_word` meets its contract. Assumes nothing.
+-- `read_script_words::part_word` meets its contract. Assumes nothing.
 use Prim.Native.Nat.{ℕ}
 use mathlib.Core.Path.{_≡_, refl}
 use borrow.Author.Needs.{needs}
 use borrow.Author.Tests.{ne-eqb}
 use Rattle.read_messages.specs.Words.{kind, operand}
-use Rattle.read_scripts.specs.Script.{partKind, partWord}
-use Rattle.read_scripts.specs.declared.PartWord.{PartWord}
-use Rattle.read_scripts.proofs.part_word.Statement.{statement}
-use Rattle.read_scripts.proofs.part_word.Tie as tie
+use Rattle.read_script_words.specs.ScriptWords.{partKind, partWord}
+use Rattle.read_script_words.specs.declared.PartWord.{PartWord}
+use Rattle.read_script_words.proofs.part_word.Statement.{statement}
+use Rattle.read_script_words.proofs.part_word.Tie as tie
 
 -- a word with operand zero by its kind
 zero-word : (w : ℕ) (p : PartWord) (k : ℕ) → operand w ≡ 0 → kind w ≡ k → p ≡ partKind k → p ≡ partWord w

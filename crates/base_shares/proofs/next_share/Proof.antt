@@ -1,8 +1,8 @@
--- `base_sets::next_share` meets its contract. Assumes nothing.
+-- `base_shares::next_share` meets its contract. Assumes nothing.
 use borrow.Author.Needs.{needs}
-use Rattle.base_sets.proofs.Shares.{share-next, share-around}
-use Rattle.base_sets.proofs.next_share.Statement.{statement}
-use Rattle.base_sets.proofs.next_share.Tie as tie
+use Rattle.base_shares.proofs.Shares.{share-next, share-around}
+use Rattle.base_shares.proofs.next_share.Statement.{statement}
+use Rattle.base_shares.proofs.next_share.Tie as tie
 
 wrapping-sub-u64-requires : tie.Need-wrapping-sub-u64-requires
 wrapping-sub-u64-requires c κs = search needs

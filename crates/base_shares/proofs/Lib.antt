@@ -1,0 +1,3 @@
+-- Laws of shares that the crates above cite.
+pub mod Shares
+pub mod Divisions
