@@ -21,12 +21,10 @@ fn agrees(seed: u64, case: &Case, expected: &Answer, written: &[u32]) {
     assert_eq!((done, words, &out[..]), (1, as_words(expected), written), "seed {seed}: {case:X?}");
 }
 
-#[test]
-fn both_checkers_agree() {
-    let first = setting("FIRST", 0);
-    let cases = setting("CASES", 24_000);
+/// Asks both checkers about these seeds, and counts the cases that are too large for full copying.
+fn compare(seeds: impl Iterator<Item = u64>) -> u64 {
     let mut too_large = 0;
-    for seed in first..first + cases {
+    for seed in seeds {
         let case = case(seed);
         let mut written = case.buffer.clone();
         match second::call(&case.call(), &mut written) {
@@ -34,6 +32,20 @@ fn both_checkers_agree() {
             None => too_large += 1,
         }
     }
+    too_large
+}
+
+#[test]
+fn both_checkers_agree() {
+    let first = setting("FIRST", 0);
+    let cases = setting("CASES", 24_000);
+    let threads = std::thread::available_parallelism().map_or(1, usize::from);
+    // a thread's panic is that of the scope, and so the test's
+    let too_large: u64 = std::thread::scope(|scope| {
+        let each = |k| scope.spawn(move || compare((first..first + cases).skip(k).step_by(threads)));
+        let all: Vec<_> = (0..threads).map(each).collect();
+        all.into_iter().map(|thread| thread.join().expect("the checkers agree")).sum()
+    });
     println!("{cases} cases, of which {too_large} are too large for full copying");
     assert!(too_large * 50 < cases);
 }
