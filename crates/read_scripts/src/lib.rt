@@ -1,7 +1,8 @@
 // The script: body reader and part reader above the message reader, and the part table they fill. Questions 1 to 6 of
 // document 01.
 use read_messages::Outcome;
-use read_script_words::{ask_part, PartWord};
+use read_script_words::PartWord;
+use read_script_words::ask_part;
 ghost use mathlib.Core.Path.{_≡_};
 ghost use Prim.Native.Nat.{suc, _+_, _-_, _<_};
 ghost use lib.ListN.{length, drop};

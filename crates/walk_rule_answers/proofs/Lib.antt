@@ -1,2 +1,3 @@
 -- What a word of AT or PLACED says. Assumes nothing.
 pub mod Said
+pub mod Beginning

@@ -1,21 +1,24 @@
-// What a rule word answers from the counts, the chosen names and the set of top parts alone (document 01, "The rule and
-// its walk").
+// What a rule word answers from the rule, the counts, the chosen names and the set of top parts alone (document 01, "The rule
+// and its walk").
+use base_slices::wide;
 use read_rule_words::RuleTerm;
 use read_rule_words::term_of;
 use walk_stages::Counts;
+use walk_stages::Limits;
 use walk_stages::Walked;
 ghost use mathlib.Core.Path.{_≡_};
-ghost use Prim.Native.Nat.{_<_};
+ghost use Prim.Native.Nat.{_+_, _≤_, _<_};
 ghost use lib.Dec.{eqb};
+ghost use lib.ListN.{getD};
 ghost use Rattle.read_messages.specs.Words.{operand};
 ghost use Rattle.read_rule_words.specs.ReadRule.{termOf};
 ghost use Rattle.theory_decision.specs.Walk.{turned as reversed, says};
-ghost use Rattle.walk_stages.specs.Visits.{countOf, walkedOf, nameSaid};
+ghost use Rattle.walk_stages.specs.Visits.{countOf, walkedOf, begun, nameSaid};
 ghost use Rattle.walk_rule_answers.specs.Visited.{VisitAsked, OneMoreVisit};
 ghost use Rattle.walk_rule_answers.specs.ChosenNames.{ChosenAt};
 
 // The counts after one more visit, at that depth.
-pub fn next_count(c: Counts, depth: usize) -> Counts
+fn next_count(c: Counts, depth: usize) -> Counts
     requires { ⌜ VisitAsked c depth ⌝ }
     ensures { λ r. ⌜ OneMoreVisit c depth r ⌝ }
 {
@@ -31,6 +34,46 @@ pub fn next_count(c: Counts, depth: usize) -> Counts
         visits: c.visits + 1,
         deepest,
     }
+}
+
+// Questions 17 and 18 at a visit with that many depths left, its own among them: which of them stops it at that index, or
+// yes with the counts after it.
+pub fn begin_visit(left: usize, at: usize, limits: Limits, c: Counts) -> Walked
+    requires { ⌜ left ≤ 256 ⌝ }
+    ensures { λ r. ⌜ walkedOf r ≡ begun limits left at (countOf c) ⌝ }
+{
+    let visits = c.visits;
+    if left == 0 {
+        return Walked::Stopped(17, at, visits);
+    }
+    if limits.patience <= visits {
+        return Walked::Stopped(18, at, visits);
+    }
+    Walked::Yes(next_count(c, 257 - left))
+}
+
+// Where the right rule stands of the rule that begins at that word.
+pub fn right_rule(program: &[u32; 768], at: usize) -> usize
+    requires { ⌜ at < 256 ⌝ }
+    ensures { λ r. ⌜ r ≡ getD (now (program .entry)) (256 + at) 0 ⌝ }
+{
+    wide(program[256 + at])
+}
+
+// Which of the rule's PLACED words that word is.
+pub fn placing(program: &[u32; 768], at: usize) -> usize
+    requires { ⌜ at < 256 ⌝ }
+    ensures { λ r. ⌜ r ≡ getD (now (program .entry)) (512 + at) 0 ⌝ }
+{
+    wide(program[512 + at])
+}
+
+// The last name that a SOME tries inside so many others: G + d, d being the SOMEs around, itself counted.
+pub fn last_name(limits: Limits, somes: usize) -> u32
+    requires { ⌜ (limits .greatest < 268435456) × (somes ≤ 8) ⌝ }
+    ensures { λ r. ⌜ r ≡ limits .greatest + somes + 1 ⌝ }
+{
+    limits.greatest + somes as u32 + 1
 }
 
 // Yes for no, and no for yes.

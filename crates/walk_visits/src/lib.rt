@@ -1,8 +1,10 @@
 // The walk of a rule over the process that a state represents (document 01, "The rule and its walk"): a visit at each
 // word met. A state is lent as two arrays, and made only where a move or PLACED changes it.
-use base_slices::wide;
+use walk_rule_answers::begin_visit;
+use walk_rule_answers::last_name;
 use walk_rule_answers::name_said;
-use walk_rule_answers::next_count;
+use walk_rule_answers::placing;
+use walk_rule_answers::right_rule;
 use walk_rule_answers::turned;
 use walk_rule_answers::void_rule;
 use walk_rule_answers::with_name;
@@ -32,22 +34,17 @@ pub fn visit<'a>(
     requires { ⌜ (spot .left ≤ 256) × Visitable (now script) (now sets) (now numbers) (spot .top) (spot .somes) limits ⌝ }
     ensures { λ r. ⌜ Answers (now (program .entry)) (now (script .entry)) (now (sets .entry)) (now (numbers .entry)) (now (chosen .entry)) (spot .top) (spot .somes) (spot .left) (spot .at) limits c r ⌝ }
 {
-    let visits = c.visits;
     let at = spot.at;
-    let left = spot.left;
-    if left == 0 {
-        return Walked::Stopped(17, at, visits);
-    }
-    if limits.patience <= visits {
-        return Walked::Stopped(18, at, visits);
-    }
+    let begun = begin_visit(spot.left, at, limits, c);
+    let Walked::Yes(n) = begun else {
+        return begun;
+    };
     if 256 <= at {
-        return Walked::Stopped(11, at, visits);
+        return Walked::Stopped(11, at, c.visits);
     }
     let kind = program[at] / 268435456;
-    let n = next_count(c, 257 - left);
     let mut below = spot;
-    below.left = left - 1;
+    below.left = spot.left - 1;
     match kind {
         0 => Walked::Yes(n),
         1 => negation(program, script, sets, numbers, chosen, below, limits, n),
@@ -59,7 +56,7 @@ pub fn visit<'a>(
         7 => sometime(program, script, sets, numbers, chosen, below, limits, n),
         8 => somewhere(program, script, sets, numbers, chosen, below, limits, n),
         9 => placed_in(program, script, sets, numbers, chosen, below, limits, n),
-        10..=4294967295 => Walked::Stopped(8, at, visits),
+        10..=4294967295 => Walked::Stopped(8, at, c.visits),
     }
 }
 
@@ -104,7 +101,7 @@ fn either<'a>(
         return on_left;
     };
     let mut right = spot;
-    right.at = wide(program[256 + spot.at]);
+    right.at = right_rule(program, spot.at);
     visit(program, script, sets, numbers, chosen, right, limits, c2)
 }
 
@@ -159,7 +156,7 @@ fn split<'a>(
     let Walked::Yes(c2) = w else {
         return w;
     };
-    side.at = wide(program[256 + spot.at]);
+    side.at = right_rule(program, spot.at);
     side.top = base_sets::difference(spot.top, share);
     visit(program, script, sets, numbers, chosen, side, limits, c2)
 }
@@ -221,7 +218,7 @@ fn some_name<'a>(
     if 8 <= somes {
         return Walked::Stopped(10, spot.at, c.visits);
     }
-    let last = limits.greatest + somes as u32 + 1;
+    let last = last_name(limits, somes);
     let mut now = c;
     let mut n: u32 = 1;
     while n <= last {
@@ -334,7 +331,7 @@ fn placed_in<'a>(
     ensures { λ r. ⌜ Finds (now (program .entry)) (now (script .entry)) (now (sets .entry)) (now (numbers .entry)) (now (chosen .entry)) (spot .top) (spot .somes) (spot .left) (spot .at) limits c r 9 ⌝ }
 {
     let at = spot.at;
-    let number = wide(program[512 + at]);
+    let number = placing(program, at);
     if 64 <= number {
         return Walked::Stopped(12, at, c.visits);
     }

@@ -20,20 +20,11 @@ module _ (t : ℕ) where
   pub returns : lts.Need-returns (either-claims t) (either-at t) reads.Post
   returns c = let x = c .before .before .before .before .args in either-stops (x .program .now) (x .script .now) (x .sets .now) (x .numbers .now) (x .chosen .now) (x .spot .top) (x .spot .somes) (x .spot .left) (x .spot .at) (x .limits) (x .c) _ (c .before .visit .ensures) (c .match .keys2)
 
-  pub add-wide : lts.Need-add-wide (either-claims t) (either-at t) reads.Post
-  add-wide c = search needs
-
-  pub mul-wide : lts.Need-mul-wide (either-claims t) (either-at t) reads.Post
-  mul-wide c = search needs
-
-  pub element-copy-out-wide : lts.Need-element-copy-out-wide (either-claims t) (either-at t) reads.Post
-  element-copy-out-wide c = search needs
-
-  pub wide-requires : lts.Need-wide-requires (either-claims t) (either-at t) reads.Post
-  wide-requires c κs = search needs
+  pub right-rule-requires : lts.Need-right-rule-requires (either-claims t) (either-at t) reads.Post
+  right-rule-requires c κs = search needs
 
   pub visit-requires-2 : lts.Need-visit-requires-2 (either-claims t) (either-at t) reads.Post
-  visit-requires-2 c κs = (omega (arith, c .before .before .before .before .before .before .before .before .before .pre .0), (omega (arith, c .before .before .before .before .before .before .before .before .before .pre .1 .1), c .before .before .before .before .before .before .before .before .before .pre .1 .2))
+  visit-requires-2 c κs = (omega (arith, c .before .before .before .before .before .before .before .pre .0), (omega (arith, c .before .before .before .before .before .before .before .pre .1 .1), c .before .before .before .before .before .before .before .pre .1 .2))
 
   pub returns-2 : lts.Need-returns-2 (either-claims t) (either-at t) reads.Post
-  returns-2 c = let x = c .before .before .before .before .before .before .before .before .before .before .args in either-goes (x .program .now) (x .script .now) (x .sets .now) (x .numbers .now) (x .chosen .now) (x .spot .top) (x .spot .somes) (x .spot .left) (x .spot .at) (x .limits) (x .c) _ _ _ _ (c .before .before .before .before .before .before .before .visit .ensures) (c .before .before .before .before .before .on-left .given .1) (c .before .wide .ensures) (c .visit2 .ensures)
+  returns-2 c = let x = c .before .before .before .before .before .before .before .before .args in either-goes (x .program .now) (x .script .now) (x .sets .now) (x .numbers .now) (x .chosen .now) (x .spot .top) (x .spot .somes) (x .spot .left) (x .spot .at) (x .limits) (x .c) _ _ _ _ (c .before .before .before .before .before .visit .ensures) (c .before .before .before .on-left .given .1) (c .before .right-rule .ensures) (c .visit2 .ensures)

@@ -15,9 +15,11 @@ use Rattle.walk_visits.proofs.sometime.Reads as sometime
 use Rattle.walk_visits.proofs.somewhere.Reads as somewhere
 use Rattle.walk_visits.proofs.split.Reads as split
 use Rattle.walk_visits.proofs.visit.Reads as visit
-use Rattle.base_slices.proofs.wide.Reads as wide-reads
+use Rattle.walk_rule_answers.proofs.begin_visit.Reads as begin-visit-reads
+use Rattle.walk_rule_answers.proofs.last_name.Reads as last-name-reads
 use Rattle.walk_rule_answers.proofs.name_said.Reads as name-said-reads
-use Rattle.walk_rule_answers.proofs.next_count.Reads as next-count-reads
+use Rattle.walk_rule_answers.proofs.placing.Reads as placing-reads
+use Rattle.walk_rule_answers.proofs.right_rule.Reads as right-rule-reads
 use Rattle.walk_rule_answers.proofs.turned.Reads as turned-reads
 use Rattle.walk_rule_answers.proofs.void_rule.Reads as void-rule-reads
 use Rattle.walk_rule_answers.proofs.with_name.Reads as with-name-reads
@@ -96,16 +98,16 @@ abbrev pub beside-claims : ℕ → beside-lts.Claims
 beside-claims t = (split-below t, split.Post, next-share-reads.Asked, next-share-reads.Learnt)
 
 abbrev pub either-claims : ℕ → either-lts.Claims
-either-claims t = (belowMeasure 0 visit.Pre t, visit.Post, wide-reads.Asked, wide-reads.Learnt)
+either-claims t = (belowMeasure 0 visit.Pre t, visit.Post, right-rule-reads.Asked, right-rule-reads.Learnt)
 
 abbrev pub negation-claims : ℕ → negation-lts.Claims
 negation-claims t = (belowMeasure 0 visit.Pre t, visit.Post, turned-reads.Asked, turned-reads.Learnt)
 
 abbrev pub placed-in-claims : ℕ → placed-in-lts.Claims
-placed-in-claims t = (wide-reads.Asked, wide-reads.Learnt, name-said-reads.Asked, name-said-reads.Learnt, next-state-reads.Asked, next-state-reads.Learnt, belowMeasure 0 visit.Pre t, visit.Post)
+placed-in-claims t = (placing-reads.Asked, placing-reads.Learnt, name-said-reads.Asked, name-said-reads.Learnt, next-state-reads.Asked, next-state-reads.Learnt, belowMeasure 0 visit.Pre t, visit.Post)
 
 abbrev pub some-name-claims : ℕ → some-name-lts.Claims
-some-name-claims t = (with-name-reads.Asked, with-name-reads.Learnt, belowMeasure 0 visit.Pre t, visit.Post)
+some-name-claims t = (last-name-reads.Asked, last-name-reads.Learnt, with-name-reads.Asked, with-name-reads.Learnt, belowMeasure 0 visit.Pre t, visit.Post)
 
 abbrev pub sometime-claims : ℕ → sometime-lts.Claims
 sometime-claims t = (belowMeasure 0 visit.Pre t, visit.Post, all-targets-reads.Asked, all-targets-reads.Learnt, next-turn-reads.Asked, next-turn-reads.Learnt, first-reads.Asked, first-reads.Learnt, next-state-reads.Asked, next-state-reads.Learnt)
@@ -114,7 +116,7 @@ abbrev pub somewhere-claims : ℕ → somewhere-lts.Claims
 somewhere-claims t = (belowMeasure 0 visit.Pre t, visit.Post, intersection-reads.Asked, intersection-reads.Learnt, first-reads.Asked, first-reads.Learnt, rest-reads.Asked, rest-reads.Learnt)
 
 abbrev pub split-claims : ℕ → split-lts.Claims
-split-claims t = (belowMeasure 0 visit.Pre t, visit.Post, wide-reads.Asked, wide-reads.Learnt, difference-reads.Asked, difference-reads.Learnt)
+split-claims t = (belowMeasure 0 visit.Pre t, visit.Post, right-rule-reads.Asked, right-rule-reads.Learnt, difference-reads.Asked, difference-reads.Learnt)
 
 abbrev pub visit-claims : ℕ → visit-lts.Claims
-visit-claims t = (next-count-reads.Asked, next-count-reads.Learnt, belowMeasure 2 negation.Pre t, negation.Post, belowMeasure 2 either.Pre t, either.Post, void-rule-reads.Asked, void-rule-reads.Learnt, belowMeasure 2 at-name.Pre t, at-name.Post, belowMeasure 2 beside.Pre t, beside.Post, belowMeasure 2 some-name.Pre t, some-name.Post, belowMeasure 2 sometime.Pre t, sometime.Post, belowMeasure 2 somewhere.Pre t, somewhere.Post, belowMeasure 2 placed-in.Pre t, placed-in.Post)
+visit-claims t = (begin-visit-reads.Asked, begin-visit-reads.Learnt, belowMeasure 2 negation.Pre t, negation.Post, belowMeasure 2 either.Pre t, either.Post, void-rule-reads.Asked, void-rule-reads.Learnt, belowMeasure 2 at-name.Pre t, at-name.Post, belowMeasure 2 beside.Pre t, beside.Post, belowMeasure 2 some-name.Pre t, some-name.Post, belowMeasure 2 sometime.Pre t, sometime.Post, belowMeasure 2 somewhere.Pre t, somewhere.Post, belowMeasure 2 placed-in.Pre t, placed-in.Post)

@@ -11,23 +11,14 @@ use Rattle.walk_visits.proofs.placed_in.Reads as reads
 use Rattle.walk_visits.proofs.+at_name+beside+either+negation+placed_in+some_name+sometime+somewhere+split+visit.Proof.Measures.{placed-in-at, placed-in-claims}
 
 module _ (t : ℕ) where
-  pub add-wide : lts.Need-add-wide (placed-in-claims t) (placed-in-at t) reads.Post
-  add-wide c = search needs
-
-  pub mul-wide : lts.Need-mul-wide (placed-in-claims t) (placed-in-at t) reads.Post
-  mul-wide c = search needs
-
-  pub element-copy-out-wide : lts.Need-element-copy-out-wide (placed-in-claims t) (placed-in-at t) reads.Post
-  element-copy-out-wide c = search needs
-
-  pub wide-requires : lts.Need-wide-requires (placed-in-claims t) (placed-in-at t) reads.Post
-  wide-requires c κs = search needs
+  pub placing-requires : lts.Need-placing-requires (placed-in-claims t) (placed-in-at t) reads.Post
+  placing-requires c κs = search needs
 
   pub returns : lts.Need-returns (placed-in-claims t) (placed-in-at t) reads.Post
-  returns c = let x = c .before .before .before .before .args in placed-far (x .program .now) (x .script .now) (x .sets .now) (x .numbers .now) (x .chosen .now) (x .spot .top) (x .spot .somes) (x .spot .left) (x .spot .at) (x .limits) (x .c) (rw (sym (c .before .wide .ensures)) (c .if1 .taken)) _
+  returns c = let x = c .before .before .before .args in placed-far (x .program .now) (x .script .now) (x .sets .now) (x .numbers .now) (x .chosen .now) (x .spot .top) (x .spot .somes) (x .spot .left) (x .spot .at) (x .limits) (x .c) (rw (sym (c .before .placing .ensures)) (c .if1 .taken)) _
 
   pub add-i : lts.Need-add-i (placed-in-claims t) (placed-in-at t) reads.Post
-  add-i c = omega (arith, c .before .before .before .before .before .pre .1 .2 .few-parts, c .before .if1 .left)
+  add-i c = omega (arith, c .before .before .before .before .pre .1 .2 .few-parts, c .before .if1 .left)
 
   pub mul-name-said : lts.Need-mul-name-said (placed-in-claims t) (placed-in-at t) reads.Post
   mul-name-said c = search needs
@@ -39,10 +30,10 @@ module _ (t : ℕ) where
   name-said-requires c κs = search needs
 
   pub returns-2 : lts.Need-returns-2 (placed-in-claims t) (placed-in-at t) reads.Post
-  returns-2 c = let x = c .before .before .before .before .before .before .before .before .args in placed-number (x .program .now) (x .script .now) (x .sets .now) (x .numbers .now) (x .chosen .now) (x .spot .top) (x .spot .somes) (x .spot .left) (x .spot .at) (x .limits) (x .c) _ (ap (λ (y : ℕ). x .limits .parts + y) (c .before .before .before .before .before .wide .ensures)) (c .if2 .taken) _
+  returns-2 c = let x = c .before .before .before .before .before .before .before .args in placed-number (x .program .now) (x .script .now) (x .sets .now) (x .numbers .now) (x .chosen .now) (x .spot .top) (x .spot .somes) (x .spot .left) (x .spot .at) (x .limits) (x .c) _ (ap (λ (y : ℕ). x .limits .parts + y) (c .before .before .before .before .before .placing .ensures)) (c .if2 .taken) _
 
   pub returns-3 : lts.Need-returns-3 (placed-in-claims t) (placed-in-at t) reads.Post
-  returns-3 c = let x = c .before .before .before .before .before .before .before .before .before .args in placed-name (x .program .now) (x .script .now) (x .sets .now) (x .numbers .now) (x .chosen .now) (x .spot .top) (x .spot .somes) (x .spot .left) (x .spot .at) (x .limits) (x .c) (c .before .before .before .before .before .before .before .before .before .pre .1 .2 .few-somes) _ (c .before .before .name-said .ensures) (c .if3 .taken) _
+  returns-3 c = let x = c .before .before .before .before .before .before .before .before .args in placed-name (x .program .now) (x .script .now) (x .sets .now) (x .numbers .now) (x .chosen .now) (x .spot .top) (x .spot .somes) (x .spot .left) (x .spot .at) (x .limits) (x .c) (c .before .before .before .before .before .before .before .before .pre .1 .2 .few-somes) _ (c .before .before .name-said .ensures) (c .if3 .taken) _
 
   pub add-inner : lts.Need-add-inner (placed-in-claims t) (placed-in-at t) reads.Post
   add-inner c = search needs
@@ -50,20 +41,20 @@ module _ (t : ℕ) where
   pub next-state-requires : lts.Need-next-state-requires (placed-in-claims t) (placed-in-at t) reads.Post
   next-state-requires c κs =
       let f = c .before .before .before .before .before in
-      (λ b u e. absurd (step-apart b u _ _ (sym e)), λ j n e. step-placing (λ (y : ℕ) (z : ℕ). (y < 64) × (z < 536870912)) _ _ j n e (omega (arith, f .before .if2 .left), omega (arith, f .if3 .left)), f .before .before .before .before .before .before .before .before .before .pre .1 .2 .state)
+      (λ b u e. absurd (step-apart b u _ _ (sym e)), λ j n e. step-placing (λ (y : ℕ) (z : ℕ). (y < 64) × (z < 536870912)) _ _ j n e (omega (arith, f .before .if2 .left), omega (arith, f .if3 .left)), f .before .before .before .before .before .before .before .before .pre .1 .2 .state)
 
   pub visit-requires : lts.Need-visit-requires (placed-in-claims t) (placed-in-at t) reads.Post
   visit-requires c κs =
       let n = c .before .before in
-      let s = n .before .before .before .before .before .before .before .before .before .before .before .before .before .before .before in
+      let s = n .before .before .before .before .before .before .before .before .before .before .before .before .before .before in
       (omega (arith, s .pre .0), (omega (arith, s .pre .1 .1), visitable-state (s .pre .1 .2) (n .next-state .ensures .0)))
 
   pub returns-4 : lts.Need-returns-4 (placed-in-claims t) (placed-in-at t) reads.Post
   returns-4 c =
       let n = c .before .before .before in
       let f = n .before .before .before .before .before .before in
-      let s = f .before .before .before .before .before .before .before .before .before in
+      let s = f .before .before .before .before .before .before .before .before in
       let x = s .args in
       let m = n .next-state .ensures in
-      placed-goes (x .program .now) (x .script .now) (x .sets .now) (x .numbers .now) (x .chosen .now) (x .spot .top) (x .spot .somes) (x .spot .left) (x .spot .at) (x .limits) (x .c) (s .pre .1 .2 .few-somes) _ (f .before .before .name-said .ensures) _ (ap (λ (y : ℕ). x .limits .parts + y) (f .before .before .before .before .before .before .wide .ensures)) _ _ _
+      placed-goes (x .program .now) (x .script .now) (x .sets .now) (x .numbers .now) (x .chosen .now) (x .spot .top) (x .spot .somes) (x .spot .left) (x .spot .at) (x .limits) (x .c) (s .pre .1 .2 .few-somes) _ (f .before .before .name-said .ensures) _ (ap (λ (y : ℕ). x .limits .parts + y) (f .before .before .before .before .before .before .placing .ensures)) _ _ _
       (m .0) (m .1 .1 _ _ refl .0) (m .1 .1 _ _ refl .1) _ (c .visit .ensures)

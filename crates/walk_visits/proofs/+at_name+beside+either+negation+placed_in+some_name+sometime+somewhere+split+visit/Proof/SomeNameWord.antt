@@ -19,17 +19,11 @@ module _ (t : ℕ) where
   pub returns : lts.Need-returns (some-name-claims t) (some-name-at t) reads.Post Inv-loop μ-loop
   returns c = let x = c .before .before .args in naming-none (x .program .now) (x .script .now) (x .sets .now) (x .numbers .now) (x .chosen .now) (x .spot .top) (x .spot .somes) (x .spot .left) (x .spot .at) (x .limits) (x .c) _ (c .if1 .taken)
 
-  pub cast-last : lts.Need-cast-last (some-name-claims t) (some-name-at t) reads.Post Inv-loop μ-loop
-  cast-last c = search needs
-
-  pub add-last : lts.Need-add-last (some-name-claims t) (some-name-at t) reads.Post Inv-loop μ-loop
-  add-last c = search needs
-
-  pub add-last-2 : lts.Need-add-last-2 (some-name-claims t) (some-name-at t) reads.Post Inv-loop μ-loop
-  add-last-2 c = search needs
+  pub last-name-requires : lts.Need-last-name-requires (some-name-claims t) (some-name-at t) reads.Post Inv-loop μ-loop
+  last-name-requires c κs = search needs
 
   pub loop-holds : lts.Need-loop-holds (some-name-claims t) (some-name-at t) reads.Post Inv-loop μ-loop
-  loop-holds c = let x = c .before .before .before .args in (omega arith, omega arith, refl, naming-holds (x .program .now) (x .script .now) (x .sets .now) (x .numbers .now) (x .chosen .now) (x .spot .top) (x .spot .somes) (x .spot .left) (x .spot .at) (x .limits) (x .c))
+  loop-holds c = let x = c .before .before .before .args in (omega arith, omega (arith, c .last-name .ensures), c .last-name .ensures, naming-holds (x .program .now) (x .script .now) (x .sets .now) (x .numbers .now) (x .chosen .now) (x .spot .top) (x .spot .somes) (x .spot .left) (x .spot .at) (x .limits) (x .c))
 
   pub with-name-requires : lts.Need-with-name-requires (some-name-claims t) (some-name-at t) reads.Post Inv-loop μ-loop
   with-name-requires c κs = search needs

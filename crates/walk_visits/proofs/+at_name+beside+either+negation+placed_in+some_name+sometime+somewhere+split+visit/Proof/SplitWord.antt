@@ -21,23 +21,14 @@ module _ (t : ℕ) where
   pub returns : lts.Need-returns (split-claims t) (split-point t) reads.Post
   returns c = let x = c .before .before .before .before .args in split-stops (x .program .now) (x .script .now) (x .sets .now) (x .numbers .now) (x .chosen .now) (x .spot .top) (x .spot .somes) (x .spot .left) (x .spot .at) (x .limits) (x .c) _ (x .share) (c .before .visit .ensures) (c .match .keys2)
 
-  pub add-wide : lts.Need-add-wide (split-claims t) (split-point t) reads.Post
-  add-wide c = search needs
-
-  pub mul-wide : lts.Need-mul-wide (split-claims t) (split-point t) reads.Post
-  mul-wide c = search needs
-
-  pub element-copy-out-wide : lts.Need-element-copy-out-wide (split-claims t) (split-point t) reads.Post
-  element-copy-out-wide c = search needs
-
-  pub wide-requires : lts.Need-wide-requires (split-claims t) (split-point t) reads.Post
-  wide-requires c κs = search needs
+  pub right-rule-requires : lts.Need-right-rule-requires (split-claims t) (split-point t) reads.Post
+  right-rule-requires c κs = search needs
 
   pub difference-requires : lts.Need-difference-requires (split-claims t) (split-point t) reads.Post
   difference-requires c κs = search needs
 
   pub visit-requires-2 : lts.Need-visit-requires-2 (split-claims t) (split-point t) reads.Post
-  visit-requires-2 c κs = (omega (arith, c .before .before .before .before .before .before .before .before .before .before .pre .0), (omega (arith, c .before .before .before .before .before .before .before .before .before .before .pre .1 .1), visitable-top (c .before .before .before .before .before .before .before .before .before .before .pre .1 .2) _))
+  visit-requires-2 c κs = (omega (arith, c .before .before .before .before .before .before .before .before .pre .0), (omega (arith, c .before .before .before .before .before .before .before .before .pre .1 .1), visitable-top (c .before .before .before .before .before .before .before .before .pre .1 .2) _))
 
   pub returns-2 : lts.Need-returns-2 (split-claims t) (split-point t) reads.Post
-  returns-2 c = let x = c .before .before .before .before .before .before .before .before .before .before .before .args in split-goes (x .program .now) (x .script .now) (x .sets .now) (x .numbers .now) (x .chosen .now) (x .spot .top) (x .spot .somes) (x .spot .left) (x .spot .at) (x .limits) (x .c) _ (x .share) (c .before .before .before .before .before .before .before .before .visit .ensures) _ _ _ _ (c .before .before .before .before .before .before .w .given .1) (c .before .before .wide .ensures) (c .before .difference .ensures) (c .visit2 .ensures)
+  returns-2 c = let x = c .before .before .before .before .before .before .before .before .before .args in split-goes (x .program .now) (x .script .now) (x .sets .now) (x .numbers .now) (x .chosen .now) (x .spot .top) (x .spot .somes) (x .spot .left) (x .spot .at) (x .limits) (x .c) _ (x .share) (c .before .before .before .before .before .before .visit .ensures) _ _ _ _ (c .before .before .before .before .w .given .1) (c .before .before .right-rule .ensures) (c .before .difference .ensures) (c .visit2 .ensures)
