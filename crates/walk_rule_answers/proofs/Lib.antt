@@ -1,3 +1,2 @@
 -- What a word of AT or PLACED says. Assumes nothing.
 pub mod Said
-pub mod Beginning

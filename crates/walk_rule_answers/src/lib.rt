@@ -13,17 +13,17 @@ ghost use lib.ListN.{getD};
 ghost use Rattle.read_messages.specs.Words.{operand};
 ghost use Rattle.read_rule_words.specs.ReadRule.{termOf};
 ghost use Rattle.theory_decision.specs.Walk.{turned as reversed, says};
-ghost use Rattle.walk_stages.specs.Visits.{countOf, walkedOf, begun, nameSaid};
+ghost use Rattle.walk_stages.specs.Visits.{countOf, walkedOf, nameSaid};
 ghost use Rattle.walk_rule_answers.specs.Visited.{VisitAsked, OneMoreVisit};
 ghost use Rattle.walk_rule_answers.specs.ChosenNames.{ChosenAt};
 
-// The counts after one more visit, at that depth.
-fn next_count(c: Counts, depth: usize) -> Counts
-    requires { ⌜ VisitAsked c depth ⌝ }
-    ensures { λ r. ⌜ OneMoreVisit c depth r ⌝ }
+// The counts after one more visit, with that many depths left, its own among them.
+pub fn next_count(c: Counts, left: usize) -> Counts
+    requires { ⌜ VisitAsked c left ⌝ }
+    ensures { λ r. ⌜ OneMoreVisit c left r ⌝ }
 {
     let deepest = c.deepest;
-    let d = depth as u32;
+    let d = (257 - left) as u32;
     if deepest < d {
         return Counts {
             visits: c.visits + 1,
@@ -34,22 +34,6 @@ fn next_count(c: Counts, depth: usize) -> Counts
         visits: c.visits + 1,
         deepest,
     }
-}
-
-// Questions 17 and 18 at a visit with that many depths left, its own among them: which of them stops it at that index, or
-// yes with the counts after it.
-pub fn begin_visit(left: usize, at: usize, limits: Limits, c: Counts) -> Walked
-    requires { ⌜ left ≤ 256 ⌝ }
-    ensures { λ r. ⌜ walkedOf r ≡ begun limits left at (countOf c) ⌝ }
-{
-    let visits = c.visits;
-    if left == 0 {
-        return Walked::Stopped(17, at, visits);
-    }
-    if limits.patience <= visits {
-        return Walked::Stopped(18, at, visits);
-    }
-    Walked::Yes(next_count(c, 257 - left))
 }
 
 // Where the right rule stands of the rule that begins at that word.

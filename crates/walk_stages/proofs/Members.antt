@@ -5,9 +5,9 @@ use mathlib.Core.List.{List, [], _∷_}
 use mathlib.Core.Option.{Option, none, some}
 use mathlib.Core.Path.{_≡_, refl, sym, ap, ap₂, _∙_, subst}
 use native.Mathlib.Omega.{arith}
-use lib.Dec.{eqb, ltb}
+use lib.Dec.{eqb}
 use lib.ListN.{getD}
-use Rattle.base_slices.proofs.Tests.{byTest}
+use borrow.Author.Tests.{lt-ltb, le-ltb}
 use Rattle.read_messages.specs.Words.{kind, operand}
 use Rattle.read_messages.specs.Message.{name}
 use Rattle.read_messages.specs.declared.Named.the-variants.{Called}
@@ -27,13 +27,12 @@ use Rattle.engine_states.specs.Represents.{heads, boundIn, Represents}
 use Rattle.base_arrays.specs.Stretches.{stretch}
 use Rattle.engine_state_arrays.specs.Lent.{kindsIn, startsIn, stateIn}
 use Rattle.base_arrays.proofs.Copying.{length-stretch, getD-stretch}
-use Rattle.theory_decision.proofs.Deciding.{stopped≢says}
 use Rattle.walk_stages.specs.Pieces.{Room, Divides}
 use Rattle.engine_states.specs.declared.State.{State}
-use Rattle.theory_decision.specs.Walk.{Count, says, onYes, ifAny, look, counted, walk}
+use Rattle.theory_decision.specs.Walk.{says, ifAny, look, counted, walk}
 use Rattle.theory_decision.specs.Walk as spec
 use Rattle.theory_decision.specs.ClosureWalk.{closureSpace, only}
-use Rattle.walk_stages.specs.Visits.{countOf, walkedOf, settingOf, begun, indices, nameSaid, Lendable, Scene, here, visits, Visits, Looks, Splits}
+use Rattle.walk_stages.specs.Visits.{countOf, walkedOf, settingOf, indices, nameSaid, Lendable, Scene, here, visits, Visits, Looks, Splits}
 use Rattle.walk_stages.specs.declared.Counts.{Counts}
 use Rattle.walk_stages.specs.declared.Limits.{Limits}
 use Rattle.walk_stages.specs.declared.Walked.{Walked}
@@ -47,50 +46,49 @@ use Rattle.walk_stages.proofs.Scenes.{scene-inside, scene-low, scene-to
 pub single-low : (m i : ℕ) → isOne (members m) ≡ true → i ≡ headOr 64 (members m) → i < 64
 single-low m i one first = first-below m i [] (one-is 64 (members m) one ∙ ap (λ (x : ℕ). x ∷ []) (sym first))
 
--- ---- questions 17 and 18, and the count of a visit
+-- ---- the count of a visit, and what its tests said
 
--- what a visit answers: behind the two questions and its count, what its word asks
-walk-begins : (limits : Limits) (e : Names) (q : Rule) (m : ClosureMachine) (left : ℕ) (n : Count) → left ≤ 256
-    → visits limits left e q m n ≡ onYes (begun limits left (ruleIndex q) n) (λ n₁. look (closureSpace (limits .limit)) (settingOf limits) (visits limits (left - 1)) e q m n₁)
-unfolding walk counted begun onYes
-walk-begins limits e q m zero n l = refl
-walk-begins limits e q m (suc k) n l =
-    let d : suc (257 - suc k) ≡ 257 - k = omega arith in
-    let f : suc k - 1 ≡ k = omega arith in
-    byTest (ltb (n .visits) (limits .patience)) (λ t. rw (t, f, d)) (λ t. rw t)
+module _ (limits : Limits) (e : Names) (q : Rule) (m : ClosureMachine) where
+  walk-more : (left : ℕ) (c n : Counts) → (left ≡ 0 → ⊥) → left ≤ 256 → c .visits < limits .patience → n .visits ≡ c .visits + 1 → n .deepest ≡ max (257 - left) (c .deepest)
+      → visits limits left e q m (countOf c) ≡ look (closureSpace (limits .limit)) (settingOf limits) (visits limits (left - 1)) e q m (countOf n)
+  unfolding walk counted
+  walk-more zero c n z l v a b = absurd (z refl)
+  walk-more (suc k) c n z l v a b =
+      let d : suc (257 - suc k) ≡ 257 - k = omega arith in
+      let f : suc k - 1 ≡ k = omega arith in
+      let more : suc (c .visits) ≡ n .visits = omega (arith, a) in
+      let deep : max (257 - suc k) (c .deepest) ≡ n .deepest = sym b in
+      rw (lt-ltb (c .visits) (limits .patience) v, f, d, more, deep)
 
--- a visit that is made has a depth
-pub begun-some : (limits : Limits) (left index : ℕ) (c n : Counts) (b : Walked) → walkedOf b ≡ begun limits left index (countOf c) → b ≡ Yes n → 1 ≤ left
-unfolding walkedOf begun
-begun-some limits zero i c n b e d = stopped≢says (sym e ∙ ap walkedOf d)
-begun-some limits (suc l) i c n b e d = omega arith
+  walk-over : (left : ℕ) (c : Counts) → (left ≡ 0 → ⊥) → limits .patience ≤ c .visits → visits limits left e q m (countOf c) ≡ spec.stopped 18 (ruleIndex q) (c .visits)
+  unfolding walk
+  walk-over zero c z v = absurd (z refl)
+  walk-over (suc k) c z v = rw (le-ltb (c .visits) (limits .patience) v)
+
+  walk-none : (left : ℕ) (c : Counts) → left ≡ 0 → visits limits left e q m (countOf c) ≡ spec.stopped 17 (ruleIndex q) (c .visits)
+  unfolding walk
+  walk-none left c z = rw z
 
 module _ (program script sets numbers choices : List ℕ) (top somes left index : ℕ) (limits : Limits) (c : Counts) where
+  pub deep-visits : left ≡ 0 → Visits program script sets numbers choices top somes left index limits c (Stopped 17 index (c .visits))
+  unfolding walkedOf
+  deep-visits z X = ap (λ (i : ℕ). spec.stopped 17 i (c .visits)) (sym (X .stage .stood)) ∙ sym (walk-none limits (X .names) (X .rule) _ left c z)
+
+  pub over-visits : (left ≡ 0 → ⊥) → limits .patience ≤ c .visits → Visits program script sets numbers choices top somes left index limits c (Stopped 18 index (c .visits))
+  unfolding walkedOf
+  over-visits z v X = ap (λ (i : ℕ). spec.stopped 18 i (c .visits)) (sym (X .stage .stood)) ∙ sym (walk-over limits (X .names) (X .rule) _ left c z v)
+
   pub outside-visits : 256 ≤ index → (r : Walked) → Visits program script sets numbers choices top somes left index limits c r
   outside-visits h r X = absurd (let z : ⊥ = omega (arith, scene-low program script sets numbers choices top somes left index limits X) in z)
 
-  module _ (l : left ≤ 256) (b : Walked) (told-so : walkedOf b ≡ begun limits left index (countOf c)) where
-    abbrev asked : Scene program script sets numbers choices top somes left index limits → Count → spec.Walked
-    asked X n = look (closureSpace (limits .limit)) (settingOf limits) (visits limits (left - 1)) (X .names) (X .rule) (here script sets numbers top (X .tree)) n
-
-    begins : (X : Scene program script sets numbers choices top somes left index limits)
-        → onYes (begun limits left index (countOf c)) (asked X) ≡ visits limits left (X .names) (X .rule) (here script sets numbers top (X .tree)) (countOf c)
-    begins X =
-        ap (λ (i : ℕ). onYes (begun limits left i (countOf c)) (asked X)) (sym (X .stage .stood))
-        ∙ sym (walk-begins limits (X .names) (X .rule) (here script sets numbers top (X .tree)) left (countOf c) l)
-
-    -- a visit that is stopped
-    pub stopped-visits : NotYes b → Visits program script sets numbers choices top somes left index limits c b
-    stopped-visits h X = yes-stops b (begun limits left index (countOf c)) told-so (asked X) h ∙ begins X
-
-    -- a visit that is counted
-    pub counted-visits : (n : Counts) → b ≡ Yes n → (k : ℕ) → getD program index 0 / 268435456 ≡ k → (r : Walked)
-        → Looks program script sets numbers choices top somes (left - 1) index limits n r k → Visits program script sets numbers choices top somes left index limits c r
-    unfolding kind
-    counted-visits n d k e r L X =
-        L (scene-deeper program script sets numbers choices top somes left index limits (suc (left - 1)) (omega (arith, begun-some limits left index c n b told-so d)) X) e
-        ∙ sym (yes-goes b (begun limits left index (countOf c)) told-so (asked X) n d)
-        ∙ begins X
+  -- a visit that is counted
+  pub counted-visits : (left ≡ 0 → ⊥) → left ≤ 256 → c .visits < limits .patience → (n : Counts) → n .visits ≡ c .visits + 1 → n .deepest ≡ max (257 - left) (c .deepest)
+      → (k : ℕ) → getD program index 0 / 268435456 ≡ k → (r : Walked) → Looks program script sets numbers choices top somes (left - 1) index limits n r k
+      → Visits program script sets numbers choices top somes left index limits c r
+  unfolding kind
+  counted-visits z l v n a b k e r L X =
+      L (scene-deeper program script sets numbers choices top somes left index limits (suc (left - 1)) (omega arith) X) e
+      ∙ sym (walk-more limits (X .names) (X .rule) (here script sets numbers top (X .tree)) left c n z l v a b)
 
 -- ---- the words with no rule inside, and those that hand one visit on
 

@@ -1,6 +1,6 @@
 -- What the functions of the walk answer, by what they are lent: the rule's words and table as one array, a state and its part
 -- table as two, and the names chosen so far. Assumes nothing: these are definitions.
-use Prim.Native.Nat.{ℕ, zero, suc, _+_, _-_, _≤_, _<_, max}
+use Prim.Native.Nat.{ℕ, suc, _+_, _-_, _≤_, _<_}
 use mathlib.Core.Bool.{true, false, cond}
 use mathlib.Core.List.{List, [], _∷_}
 use mathlib.Core.Path.{_≡_}
@@ -37,15 +37,6 @@ walkedOf (Stopped q p v) = spec.stopped q p v
 
 abbrev pub settingOf : Limits → Setting
 settingOf l = record { patience = l .patience; greatest = l .greatest; parts = l .parts }
-
--- Questions 17 and 18 at a visit with `left` depths left, its own among them: which of them stops it at the index, or yes with
--- the counts after it.
-unfoldable pub begun : Limits → (left index : ℕ) → Count → spec.Walked
-begun limits zero i n = spec.stopped 17 i (n .visits)
-begun limits (suc l) i n =
-    cond (ltb (n .visits) (limits .patience))
-    (spec.says true (record { visits = suc (n .visits); deepest = max (257 - suc l) (n .deepest) }))
-    (spec.stopped 18 i (n .visits))
 
 -- the indices of the SOMEs around, innermost first
 abbrev pub indices : Names → List ℕ

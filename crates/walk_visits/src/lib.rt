@@ -1,8 +1,8 @@
 // The walk of a rule over the process that a state represents (document 01, "The rule and its walk"): a visit at each
 // word met. A state is lent as two arrays, and made only where a move or PLACED changes it.
-use walk_rule_answers::begin_visit;
 use walk_rule_answers::last_name;
 use walk_rule_answers::name_said;
+use walk_rule_answers::next_count;
 use walk_rule_answers::placing;
 use walk_rule_answers::right_rule;
 use walk_rule_answers::turned;
@@ -34,17 +34,22 @@ pub fn visit<'a>(
     requires { ⌜ (spot .left ≤ 256) × Visitable (now script) (now sets) (now numbers) (spot .top) (spot .somes) limits ⌝ }
     ensures { λ r. ⌜ Answers (now (program .entry)) (now (script .entry)) (now (sets .entry)) (now (numbers .entry)) (now (chosen .entry)) (spot .top) (spot .somes) (spot .left) (spot .at) limits c r ⌝ }
 {
+    let visits = c.visits;
     let at = spot.at;
-    let begun = begin_visit(spot.left, at, limits, c);
-    let Walked::Yes(n) = begun else {
-        return begun;
-    };
+    let left = spot.left;
+    if left == 0 {
+        return Walked::Stopped(17, at, visits);
+    }
+    if limits.patience <= visits {
+        return Walked::Stopped(18, at, visits);
+    }
     if 256 <= at {
-        return Walked::Stopped(11, at, c.visits);
+        return Walked::Stopped(11, at, visits);
     }
     let kind = program[at] / 268435456;
+    let n = next_count(c, left);
     let mut below = spot;
-    below.left = spot.left - 1;
+    below.left = left - 1;
     match kind {
         0 => Walked::Yes(n),
         1 => negation(program, script, sets, numbers, chosen, below, limits, n),
@@ -56,7 +61,7 @@ pub fn visit<'a>(
         7 => sometime(program, script, sets, numbers, chosen, below, limits, n),
         8 => somewhere(program, script, sets, numbers, chosen, below, limits, n),
         9 => placed_in(program, script, sets, numbers, chosen, below, limits, n),
-        10..=4294967295 => Walked::Stopped(8, at, c.visits),
+        10..=4294967295 => Walked::Stopped(8, at, visits),
     }
 }
 

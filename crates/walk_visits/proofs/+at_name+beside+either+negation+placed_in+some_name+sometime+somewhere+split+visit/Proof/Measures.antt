@@ -15,9 +15,9 @@ use Rattle.walk_visits.proofs.sometime.Reads as sometime
 use Rattle.walk_visits.proofs.somewhere.Reads as somewhere
 use Rattle.walk_visits.proofs.split.Reads as split
 use Rattle.walk_visits.proofs.visit.Reads as visit
-use Rattle.walk_rule_answers.proofs.begin_visit.Reads as begin-visit-reads
 use Rattle.walk_rule_answers.proofs.last_name.Reads as last-name-reads
 use Rattle.walk_rule_answers.proofs.name_said.Reads as name-said-reads
+use Rattle.walk_rule_answers.proofs.next_count.Reads as next-count-reads
 use Rattle.walk_rule_answers.proofs.placing.Reads as placing-reads
 use Rattle.walk_rule_answers.proofs.right_rule.Reads as right-rule-reads
 use Rattle.walk_rule_answers.proofs.turned.Reads as turned-reads
@@ -119,4 +119,4 @@ abbrev pub split-claims : ℕ → split-lts.Claims
 split-claims t = (belowMeasure 0 visit.Pre t, visit.Post, right-rule-reads.Asked, right-rule-reads.Learnt, difference-reads.Asked, difference-reads.Learnt)
 
 abbrev pub visit-claims : ℕ → visit-lts.Claims
-visit-claims t = (begin-visit-reads.Asked, begin-visit-reads.Learnt, belowMeasure 2 negation.Pre t, negation.Post, belowMeasure 2 either.Pre t, either.Post, void-rule-reads.Asked, void-rule-reads.Learnt, belowMeasure 2 at-name.Pre t, at-name.Post, belowMeasure 2 beside.Pre t, beside.Post, belowMeasure 2 some-name.Pre t, some-name.Post, belowMeasure 2 sometime.Pre t, sometime.Post, belowMeasure 2 somewhere.Pre t, somewhere.Post, belowMeasure 2 placed-in.Pre t, placed-in.Post)
+visit-claims t = (next-count-reads.Asked, next-count-reads.Learnt, belowMeasure 2 negation.Pre t, negation.Post, belowMeasure 2 either.Pre t, either.Post, void-rule-reads.Asked, void-rule-reads.Learnt, belowMeasure 2 at-name.Pre t, at-name.Post, belowMeasure 2 beside.Pre t, beside.Post, belowMeasure 2 some-name.Pre t, some-name.Post, belowMeasure 2 sometime.Pre t, sometime.Post, belowMeasure 2 somewhere.Pre t, somewhere.Post, belowMeasure 2 placed-in.Pre t, placed-in.Post)
