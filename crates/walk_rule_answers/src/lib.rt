@@ -7,7 +7,7 @@ use walk_stages::Counts;
 use walk_stages::Limits;
 use walk_stages::Walked;
 ghost use mathlib.Core.Path.{_≡_};
-ghost use Prim.Native.Nat.{_+_, _≤_, _<_};
+ghost use Prim.Native.Nat.{_+_, _<_};
 ghost use lib.Dec.{eqb};
 ghost use lib.ListN.{getD};
 ghost use Rattle.read_messages.specs.Words.{operand};
@@ -15,7 +15,7 @@ ghost use Rattle.read_rule_words.specs.ReadRule.{termOf};
 ghost use Rattle.theory_decision.specs.Walk.{turned as reversed, says};
 ghost use Rattle.walk_stages.specs.Visits.{countOf, walkedOf, nameSaid};
 ghost use Rattle.walk_rule_answers.specs.Visited.{VisitAsked, OneMoreVisit};
-ghost use Rattle.walk_rule_answers.specs.ChosenNames.{ChosenAt};
+ghost use Rattle.walk_rule_answers.specs.ChosenNames.{ChosenAt, LastNameAsked};
 
 // The counts after one more visit, with that many depths left, its own among them.
 pub fn next_count(c: Counts, left: usize) -> Counts
@@ -54,7 +54,7 @@ pub fn placing(program: &[u32; 768], at: usize) -> usize
 
 // The last name that a SOME tries inside so many others: G + d, d being the SOMEs around, itself counted.
 pub fn last_name(limits: Limits, somes: usize) -> u32
-    requires { ⌜ (limits .greatest < 268435456) × (somes ≤ 8) ⌝ }
+    requires { ⌜ LastNameAsked limits somes ⌝ }
     ensures { λ r. ⌜ r ≡ limits .greatest + somes + 1 ⌝ }
 {
     limits.greatest + somes as u32 + 1
