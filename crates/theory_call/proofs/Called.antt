@@ -24,7 +24,7 @@ use Rattle.theory_call.proofs.ClosureRuns.{GoodMachine, started-unfolde
 -- ---- what a run leaves is good
 
 -- a machine that is left has the property
-abbrev Leaves : (ClosureMachine → Type 0) → ClosureRan → Type 0
+abbrev pub Leaves : (ClosureMachine → Type 0) → ClosureRan → Type 0
 Leaves Q (halted q i) = Unit {0}
 Leaves Q (completed m) = Q m
 
@@ -34,7 +34,7 @@ unfolding ifMade
 made-good i m none k f = tt
 made-good i m (some s) k f = f s refl
 
-run-good : (n i : ℕ) (ws : List ℕ) (m : ClosureMachine) → GoodMachine m → Leaves GoodMachine (closureRun n i ws m)
+pub run-good : (n i : ℕ) (ws : List ℕ) (m : ClosureMachine) → GoodMachine m → Leaves GoodMachine (closureRun n i ws m)
 unfolding closureRun
 run-good n i [] m G = G
 run-good n i (w ∷ ws) m G = byTest (moveFits n w)

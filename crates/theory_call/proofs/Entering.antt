@@ -39,20 +39,23 @@ module _ (c : Call) where
 
 -- ---- the questions that ask numbers
 
-pub terms-few : (p k : ℕ) → asking (terms p k) ≡ got tt → k ≤ 4096
-terms-few p k e = leb-true k 4096 (asking-inv (terms p k) tt e .1 .0)
+pub terms-few : (p k l : ℕ) → asking (terms p k l) ≡ got tt → k ≤ 4096
+terms-few p k l e = leb-true k 4096 (asking-inv (terms p k l) tt e .1 .0)
 
-pub terms-patience : (p k : ℕ) → asking (terms p k) ≡ got tt → p ≤ 16777216
-terms-patience p k e = leb-true p 16777216 (and-eq-true-iff (leb 1 p) (leb p 16777216) .0 (asking-inv (terms p k) tt e .0) .1)
+pub terms-long : (p k l : ℕ) → asking (terms p k l) ≡ got tt → 256 ≤ l
+terms-long p k l e = leb-true 256 l (asking-inv (terms p k l) tt e .1 .1 .0)
 
-terms-within : (p k : ℕ) → Within 256 (asking (terms p k))
-terms-within p k = asking-within 256 (terms p k) refl
+pub terms-patience : (p k l : ℕ) → asking (terms p k l) ≡ got tt → p ≤ 16777216
+terms-patience p k l e = leb-true p 16777216 (and-eq-true-iff (leb 1 p) (leb p 16777216) .0 (asking-inv (terms p k l) tt e .0) .1)
 
--- ---- questions 7 to 14
+terms-within : (p k l : ℕ) → Within 256 (asking (terms p k l))
+terms-within p k l = asking-within 256 (terms p k l) refl
+
+-- ---- questions 7 to 14 and 21
 
 module _ (c : Call) (s : Start) where
   abbrev asks : Reading (Unit {0})
-  asks = asking (terms (c .patience) (s .made + length (c .moves)))
+  asks = asking (terms (c .patience) (s .made + length (c .moves)) (length (c .list)))
 
   pub door-inv : (r : Rule × Cursor) → door c s ≡ got r → (readWholeRule (partsOf s) (c .rule) ≡ got r) × (asks ≡ got tt)
   unfolding door
@@ -62,10 +65,10 @@ module _ (c : Call) (s : Start) where
       (x ∙ v, z)
 
   pub door-few : (r : Rule × Cursor) → door c s ≡ got r → s .made + length (c .moves) ≤ 4096
-  door-few r e = terms-few (c .patience) (s .made + length (c .moves)) (door-inv r e .1)
+  door-few r e = terms-few (c .patience) (s .made + length (c .moves)) (length (c .list)) (door-inv r e .1)
 
   pub door-patience : (r : Rule × Cursor) → door c s ≡ got r → c .patience ≤ 16777216
-  door-patience r e = terms-patience (c .patience) (s .made + length (c .moves)) (door-inv r e .1)
+  door-patience r e = terms-patience (c .patience) (s .made + length (c .moves)) (length (c .list)) (door-inv r e .1)
 
   pub door-unread : (q i : ℕ) → readWholeRule (partsOf s) (c .rule) ≡ refuse q i → door c s ≡ refuse q i
   unfolding door
@@ -82,16 +85,20 @@ module _ (c : Call) (s : Start) where
 
   pub door-within : Within 256 (door c s)
   unfolding door
-  door-within = bind-within 256 (readWholeRule (partsOf s) (c .rule)) _ (rule-within (partsOf s) (c .rule)) (λ r e. bind-within 256 asks _ (terms-within (c .patience) (s .made + length (c .moves))) (λ u d. tt))
+  door-within = bind-within 256 (readWholeRule (partsOf s) (c .rule)) _ (rule-within (partsOf s) (c .rule)) (λ r e. bind-within 256 asks _ (terms-within (c .patience) (s .made + length (c .moves)) (length (c .list))) (λ u d. tt))
 
 -- ---- from the script's own start, along whose line no move is made
 
 module _ (c : Call) (p : Script × Cursor) (r : Rule × Cursor) (e : readWholeRule (p .1 .number) (c .rule) ≡ got r) where
-  no-more : asking (terms (c .patience) (0 + length (c .moves))) ≡ asking (terms (c .patience) (length (c .moves)))
-  no-more = let z : 0 + length (c .moves) ≡ length (c .moves) = omega arith in ap (λ (k : ℕ). asking (terms (c .patience) k)) z
+  -- what is asked of the numbers
+  abbrev asked-own : Reading (Unit {0})
+  asked-own = asking (terms (c .patience) (length (c .moves)) (length (c .list)))
 
-  pub own-unasked : (q i : ℕ) → asking (terms (c .patience) (length (c .moves))) ≡ refuse q i → door c (startOf (c .script) p) ≡ refuse q i
+  no-more : asking (terms (c .patience) (0 + length (c .moves)) (length (c .list))) ≡ asked-own
+  no-more = let z : 0 + length (c .moves) ≡ length (c .moves) = omega arith in ap (λ (k : ℕ). asking (terms (c .patience) k (length (c .list)))) z
+
+  pub own-unasked : (q i : ℕ) → asked-own ≡ refuse q i → door c (startOf (c .script) p) ≡ refuse q i
   own-unasked q i d = door-unasked c (startOf (c .script) p) r e q i (no-more ∙ d)
 
-  pub own-got : asking (terms (c .patience) (length (c .moves))) ≡ got tt → door c (startOf (c .script) p) ≡ got r
+  pub own-got : asked-own ≡ got tt → door c (startOf (c .script) p) ≡ got r
   own-got d = door-got c (startOf (c .script) p) r e (no-more ∙ d)

@@ -1,5 +1,6 @@
 -- The theorems about the call as a definition: demand 2, the moves as reductions, the weight, the bound, how small an answer
--- is, that its trees rise, what patience and buffers can't change, the written tree read again, and the same told by closures.
+-- is, that its trees rise, what patience and buffers can't change, the written tree read again, the itinerary of a yes, and the same told
+-- by closures.
 -- Assumes nothing.
 pub mod Runs
 pub mod Door
@@ -10,6 +11,7 @@ pub mod Answers
 pub mod Verdicts
 pub mod ClosureRuns
 pub mod Called
+pub mod Itineraries
 pub mod Small
 pub mod Reducing
 pub mod Risen

@@ -24,7 +24,7 @@ use Rattle.theory_call.proofs.Begun.{script-good}
 use Rattle.theory_call.proofs.Entering.{start-all, door-inv}
 use Rattle.theory_call.proofs.Answers.{Says, answer-inv, same}
 
-rule-read : (c : Call) (s : Standing c) → readWholeRule (partsOf (s .start)) (c .rule) ≡ got (s .rule)
+pub rule-read : (c : Call) (s : Standing c) → readWholeRule (partsOf (s .start)) (c .rule) ≡ got (s .rule)
 rule-read c s = door-inv c (s .start) (s .rule) (s .enters) .0
 
 -- the numbers of a machine's parts are below n, and its names at most the script's greatest
@@ -38,7 +38,7 @@ start-good : (c : Call) (s : Start) → starting c ≡ got s → Good (partsOf s
 start-good c = start-all c (λ s. Good (partsOf s) (s .machine .tree)) (λ p e. script-good (c .script) p e)
 
 -- The premises of the walk's theorem hold of every call.
-known : (c : Call) (s : Standing c) → Known (partsOf (s .start) + s .rule .1 .number) (setting c (s .start)) [] (s .rule .0) (s .machine .tree)
+pub known : (c : Call) (s : Standing c) → Known (partsOf (s .start) + s .rule .1 .number) (setting c (s .start)) [] (s .rule .0) (s .machine .tree)
 known c s = record {
   names = tt;
   rule = rule-more _ _ _ _ (λ j h. omega arith) (λ n h. omega arith) (s .rule .0) (rule-fits (partsOf (s .start)) (c .rule) (s .rule) (rule-read c s));

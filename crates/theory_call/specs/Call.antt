@@ -19,13 +19,15 @@ use Rattle.read_rule_words.specs.ReadRule.{readWholeRule}
 use Rattle.theory_decision.specs.Walk.{Count, Walked, stopped, says, Setting, walkFrom}
 use Rattle.theory_decision.specs.PlainWalk.{plainSpace}
 
--- what a call is lent: "script, moves, rule, patience and the buffer as it was"
+-- what a call is lent: "script, moves, rule, patience and the buffer as it was", and the list for an itinerary (document 02,
+-- Req 01: "the plain machine is lent what a call gains")
 pub record Call : Type 0 where
   pub script : List ℕ
   pub moves : List ℕ
   pub rule : List ℕ
   pub patience : ℕ
   pub buffer : List ℕ
+  pub list : List ℕ
 
 -- yes or no, or number and place
 pub data Verdict : Type 0 where
@@ -165,18 +167,19 @@ asking [] = got tt
 asking (q ∷ qs) = ask (q .number) (q .place) (q .yes) >>= λ u. asking qs
 
 -- Those that are asked between the rule and the first move, in their order: "13. Patience 1 to 16,777,216?" "14. At most 4,096
--- moves?"
-abbrev pub terms : (patience moves : ℕ) → List Question
-terms p k =
+-- moves?" "The list buffer must hold 256 words"; "A buffer too short is refused with 21 at 0, asked after 14."
+abbrev pub terms : (patience moves list : ℕ) → List Question
+terms p k l =
     question 13 0 (leb 1 p && leb p 16777216)
     ∷ question 14 0 (leb k 4096)
+    ∷ question 21 0 (leb 256 l)
     ∷ []
 
--- Questions 7 to 14 in their order.
+-- Questions 7 to 14 and 21 in their order.
 unfoldable pub door : Call → Start → Reading (Rule × Cursor)
 door c s = do
   r ← readWholeRule (partsOf s) (c .rule)
-  _ ← asking (terms (c .patience) (s .made + length (c .moves)))
+  _ ← asking (terms (c .patience) (s .made + length (c .moves)) (length (c .list)))
   got r
 
 -- behind the door

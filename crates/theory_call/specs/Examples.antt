@@ -1,5 +1,5 @@
 -- The starred examples of document 01, as one table and one theorem: each row is a call, the whole answer, its buffer
--- included, and the bound on the moves that the script allows. The buffer is lent with the word 7 throughout. Assumes nothing.
+-- included, and the bound on the moves that the script allows. Both buffers are lent with the word 7 throughout. Assumes nothing.
 use Prim.Native.Nat.{ℕ, _-_}
 use mathlib.Core.Bool.{Bool, true, false}
 use mathlib.Core.List.{List, [], _∷_, _++_, map}
@@ -28,7 +28,7 @@ use Rattle.theory_call.specs.Call.{Call, Answer, accepted, refused, answ
 use Rattle.theory_call.specs.Call
 
 abbrev pub row : List ℕ → List ℕ → List ℕ → ℕ → Call
-row s m r p = record { script = s; moves = m; rule = r; patience = p; buffer = replicate 12 7 }
+row s m r p = record { script = s; moves = m; rule = r; patience = p; buffer = replicate 12 7; list = replicate 256 7 }
 
 abbrev pub gives : Bool → (moves visits deepest weight words : ℕ) → List ℕ → Answer
 gives a m v d w n b = record { verdict = accepted a; moves = m; visits = v; deepest = d; weight = w; words = n; buffer = b ++ replicate (12 - n) 7 }

@@ -21,7 +21,7 @@ use Rattle.theory_call.specs.Call.{Call, Verdict, accepted, refused, com
 use Rattle.theory_call.specs.Call as call
 use Rattle.theory_call.specs.Nesting.{nesting}
 
--- what stands when the walk begins: the questions 1 to 6 give the start, 7 to 14 the rule, 15 and 16 the machine
+-- what stands when the walk begins: the questions 1 to 6 give the start, 7 to 14 and 21 the rule, 15 and 16 the machine
 pub record Standing (c : Call) : Type 0 where
   pub start : Start
   pub rule : Rule × Cursor
