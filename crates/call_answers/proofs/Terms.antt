@@ -1,4 +1,4 @@
--- Questions 13 and 14: what the code's tests find, and what their answers say. Assumes nothing.
+-- Questions 13, 14 and 21: what the code's tests find, and what their answers say. Assumes nothing.
 use Prim.Native.Nat.{ℕ, _≤_, _<_}
 use mathlib.Core.Bool.{true, false, _&&_}
 use mathlib.Core.List.{List, [], _∷_, _++_}
@@ -14,8 +14,8 @@ use Rattle.theory_call.specs.Call.{Question, question, asking, terms}
 use Rattle.theory_call.proofs.Asking.{AllYes, asking-yes, asking-no}
 use Rattle.call_answers.specs.Answering.{askedOf}
 
-abbrev pub Asked : ℕ → ℕ → Outcome
-Asked p k = askedOf (asking (terms p k))
+abbrev pub Asked : (patience moves list : ℕ) → Outcome
+Asked p k l = askedOf (asking (terms p k l))
 
 -- what is answered where all before it are answered by yes and this one by no; where all are answered by yes
 refused-by : (ps : List Question) (q : Question) (qs : List Question) → AllYes ps → q .yes ≡ false → Refused (q .number) (q .place) ≡ askedOf (asking (ps ++ q ∷ qs))
@@ -26,21 +26,24 @@ read-by : (qs : List Question) → AllYes qs → Read 0 ≡ askedOf (asking qs)
 unfolding askedOf
 read-by qs h = sym (ap askedOf (asking-yes qs h))
 
-module _ (p k : ℕ) where
+module _ (p k l : ℕ) where
   calm : (p ≡ 0 → ⊥) → p ≤ 16777216 → (leb 1 p && leb p 16777216) ≡ true
-  calm l h = let m : 1 ≤ p = omega arith in rw (le-leb 1 p m, le-leb p 16777216 h)
+  calm n h = let m : 1 ≤ p = omega arith in rw (le-leb 1 p m, le-leb p 16777216 h)
 
-  pub no-patience : p ≡ 0 → Refused 13 0 ≡ Asked p k
-  no-patience e = let l : p < 1 = omega arith in refused-by [] (question 13 0 (leb 1 p && leb p 16777216)) _ tt (rw (lt-leb 1 p l) refl)
+  pub no-patience : p ≡ 0 → Refused 13 0 ≡ Asked p k l
+  no-patience e = let n : p < 1 = omega arith in refused-by [] (question 13 0 (leb 1 p && leb p 16777216)) _ tt (rw (lt-leb 1 p n) refl)
 
-  pub too-patient : (p ≡ 0 → ⊥) → 16777216 < p → Refused 13 0 ≡ Asked p k
-  too-patient l h = let m : 1 ≤ p = omega arith in refused-by [] (question 13 0 (leb 1 p && leb p 16777216)) _ tt (rw (le-leb 1 p m, lt-leb p 16777216 h) refl)
+  pub too-patient : (p ≡ 0 → ⊥) → 16777216 < p → Refused 13 0 ≡ Asked p k l
+  too-patient n h = let m : 1 ≤ p = omega arith in refused-by [] (question 13 0 (leb 1 p && leb p 16777216)) _ tt (rw (le-leb 1 p m, lt-leb p 16777216 h) refl)
 
-  pub too-many : (p ≡ 0 → ⊥) → p ≤ 16777216 → 4096 < k → Refused 14 0 ≡ Asked p k
-  too-many l h m = refused-by (question 13 0 (leb 1 p && leb p 16777216) ∷ []) (question 14 0 (leb k 4096)) _ (calm l h, tt) (lt-leb k 4096 m)
+  pub too-many : (p ≡ 0 → ⊥) → p ≤ 16777216 → 4096 < k → Refused 14 0 ≡ Asked p k l
+  too-many n h m = refused-by (question 13 0 (leb 1 p && leb p 16777216) ∷ []) (question 14 0 (leb k 4096)) _ (calm n h, tt) (lt-leb k 4096 m)
 
-  pub entered : (p ≡ 0 → ⊥) → p ≤ 16777216 → k ≤ 4096 → Read 0 ≡ Asked p k
-  entered l h m = read-by (terms p k) (calm l h, (le-leb k 4096 m, tt))
+  pub too-short : (p ≡ 0 → ⊥) → p ≤ 16777216 → k ≤ 4096 → l < 256 → Refused 21 0 ≡ Asked p k l
+  too-short n h m s = refused-by (question 13 0 (leb 1 p && leb p 16777216) ∷ question 14 0 (leb k 4096) ∷ []) (question 21 0 (leb 256 l)) _ (calm n h, (le-leb k 4096 m, tt)) (lt-leb 256 l s)
+
+  pub entered : (p ≡ 0 → ⊥) → p ≤ 16777216 → k ≤ 4096 → 256 ≤ l → Read 0 ≡ Asked p k l
+  entered n h m s = read-by (terms p k l) (calm n h, (le-leb k 4096 m, (le-leb 256 l s, tt)))
 
 -- ---- what is known from the answer
 
@@ -54,5 +57,5 @@ unfolding askedOf
 asked-read (refuse q i) n e = read≢refused (sym e)
 asked-read (got u) n e = refl
 
-pub asked-so : (p k n : ℕ) (x : Outcome) → x ≡ Asked p k → x ≡ Read n → asking (terms p k) ≡ got tt
-asked-so p k n x e d = asked-read (asking (terms p k)) n (sym e ∙ d)
+pub asked-so : (p k l n : ℕ) (x : Outcome) → x ≡ Asked p k l → x ≡ Read n → asking (terms p k l) ≡ got tt
+asked-so p k l n x e d = asked-read (asking (terms p k l)) n (sym e ∙ d)

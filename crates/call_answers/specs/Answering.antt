@@ -11,6 +11,7 @@ use Rattle.read_script_words.specs.ScriptWords.{greatestName}
 use Rattle.read_rule_words.specs.Rule.{greatestRuleName}
 use Rattle.theory_call.specs.Call.{Call}
 use Rattle.theory_call.specs.Call as plain
+use Rattle.theory_call.specs.Itinerary.{Listed}
 use Rattle.call_answers.specs.declared.Verdict.{Verdict}
 use Rattle.call_answers.specs.declared.Verdict.the-variants.{Yes, No, Refused}
 use Rattle.call_answers.specs.declared.Answer.{Answer}
@@ -20,7 +21,7 @@ verdictOf Yes = plain.accepted true
 verdictOf No = plain.accepted false
 verdictOf (Refused q i) = plain.refused q i
 
--- the answer, with the buffer as it is at exit
+-- the answer, with the buffer as it is at exit; the itinerary's count is left out, since document 02 leaves it free
 unfoldable pub answerOf : Answer → (buffer : List ℕ) → plain.Answer
 answerOf a b = record {
   verdict = verdictOf (a .verdict);
@@ -43,9 +44,21 @@ unfoldable pub refusedBy : Outcome → (buffer : List ℕ) → plain.Answer
 refusedBy (outcome.Refused q i) b = plain.refusal q i 0 0 b
 refusedBy (outcome.Read n) b = plain.refusal 0 0 0 0 b
 
+-- an answer that is a refusal, whatever the buffer, and counts no move of an itinerary
+pub record Refusing (a : Answer) (refused : (buffer : List ℕ) → plain.Answer) : Type 0 where
+  pub answered : (buffer : List ℕ) → answerOf a buffer ≡ refused buffer
+  pub uncounted : a .count ≡ 0
+
 -- what a call is lent
-abbrev pub callOf : (script moves rule : List ℕ) (patience : ℕ) (buffer : List ℕ) → Call
-callOf script moves rule patience buffer = record { script = script; moves = moves; rule = rule; patience = patience; buffer = buffer }
+abbrev pub callOf : (script moves rule : List ℕ) (patience : ℕ) (buffer list : List ℕ) → Call
+callOf script moves rule patience buffer list = record { script = script; moves = moves; rule = rule; patience = patience; buffer = buffer; list = list }
+
+-- what a call gives, `out` and `list` being the buffers as they are at exit
+pub record CallGives (c : Call) (a : Answer) (out list : List ℕ) : Type 0 where
+  -- its answer is the plain machine's
+  pub answered : answerOf a out ≡ plain.answer c
+  -- with a yes of SOMETIME an itinerary, else none
+  pub listed : Listed c (verdictOf (a .verdict) ≡ plain.accepted true) (a .count) list
 
 -- "G the greatest name in script and rule (0 if none)"
 pub record Greatest (script words : List ℕ) (g : ℕ) : Type 0 where

@@ -1,5 +1,5 @@
--- `ask_terms` meets its contract: questions 13 and 14. Assumes nothing.
-use Rattle.call_answers.proofs.Terms.{no-patience, too-patient, too-many, entered}
+-- `ask_terms` meets its contract: questions 13, 14 and 21. Assumes nothing.
+use Rattle.call_answers.proofs.Terms.{no-patience, too-patient, too-many, too-short, entered}
 use Rattle.call_answers.proofs.ask_terms.Statement.{statement}
 use Rattle.call_answers.proofs.ask_terms.Tie as tie
 
@@ -13,7 +13,10 @@ returns-3 : tie.Need-returns-3
 returns-3 c = search too-many
 
 returns-4 : tie.Need-returns-4
-returns-4 c = search entered
+returns-4 c = search too-short
+
+returns-5 : tie.Need-returns-5
+returns-5 c = search entered
 
 pub ask-terms-spec : {M : Type 1} → statement M
-ask-terms-spec = tie.close (tie.spec returns returns-2 returns-3 returns-4)
+ask-terms-spec = tie.close (tie.spec returns returns-2 returns-3 returns-4 returns-5)

@@ -7,7 +7,7 @@ use Rattle.call_answers.proofs.refused.Tie as tie
 
 returns : tie.Need-returns
 unfolding refusal verdictOf answerOf
-returns c b = refl
+returns c = record { answered = λ b. refl; uncounted = refl }
 
 pub refused-spec : {M : Type 1} → statement M
 refused-spec = tie.close (tie.spec returns)
