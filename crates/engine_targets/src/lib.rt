@@ -2,7 +2,7 @@
 // actor.
 ghost use mathlib.Core.Path.{_≡_};
 ghost use Prim.Native.Nat.{ℕ, _<_};
-ghost use lib.ListN.{length, getD};
+ghost use lib.ListN.{length, getD, replicate};
 ghost use Rattle.base_sets.specs.Sets.{members, elem};
 ghost use Rattle.read_scripts.specs.Represents.{bodyIn};
 ghost use Rattle.engine_states.specs.Searches.{LocatesBy, Located};
@@ -38,14 +38,22 @@ fn locate_below<'a, 'b>(
     locate_below(found, kids, named, others, at, fuel - 1)
 }
 
-// For every part the part in whose body it stands: 64 for the top, 65 where there is none, or an ambient around it has no
-// name.
+// For every part the part in whose body it stands, put into an array that has 65 for each: 64 for the top, 65 where there is
+// none, or an ambient around it has no name.
+pub fn put_homes<'a, 'b>(homes: &'b mut [usize; 64], kids: &'a [u64; 65], named: u64)
+    requires { ⌜ now homes ≡ replicate 64 65 ⌝ }
+    ensures { λ _. ⌜ Located (members named) (bodyIn (now (kids .entry))) (λ i. getD (now (homes .exit)) i 0) ⌝ }
+{
+    let top = kids[64];
+    locate_below(homes, kids, named, top, 64, 64);
+}
+
+// The same as an array of its own.
 pub fn locate(kids: &[u64; 65], named: u64) -> [usize; 64]
     ensures { λ r. ⌜ Located (members named) (bodyIn (now (kids .entry))) (λ i. getD r i 0) ⌝ }
 {
     let mut found: [usize; 64] = [65; 64];
-    let top = kids[64];
-    locate_below(&mut found, kids, named, top, 64, 64);
+    put_homes(&mut found, kids, named);
     found
 }
 

@@ -49,7 +49,7 @@ single-low m i one first = first-below m i [] (one-is 64 (members m) one ∙ ap 
 -- ---- the count of a visit, and what its tests said
 
 module _ (limits : Limits) (e : Names) (q : Rule) (m : ClosureMachine) where
-  walk-more : (left : ℕ) (c n : Counts) → (left ≡ 0 → ⊥) → left ≤ 256 → c .visits < limits .patience → n .visits ≡ c .visits + 1 → n .deepest ≡ max (257 - left) (c .deepest)
+  pub walk-more : (left : ℕ) (c n : Counts) → (left ≡ 0 → ⊥) → left ≤ 256 → c .visits < limits .patience → n .visits ≡ c .visits + 1 → n .deepest ≡ max (257 - left) (c .deepest)
       → visits limits left e q m (countOf c) ≡ look (closureSpace (limits .limit)) (settingOf limits) (visits limits (left - 1)) e q m (countOf n)
   unfolding walk counted
   walk-more zero c n z l v a b = absurd (z refl)

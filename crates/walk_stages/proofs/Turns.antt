@@ -23,7 +23,7 @@ use Rattle.engine_states.specs.Searches.{home, Located}
 use Rattle.engine_states.specs.Represents.{heads, boundIn}
 use Rattle.engine_states.specs.declared.State.{State}
 use Rattle.engine_targets.specs.Targets.{isSome, TargetsOf}
-use Rattle.engine_targets.specs.Makes.{Moves}
+use Rattle.engine_targets.specs.Makes.{Makes, Moves}
 use Rattle.engine_targets.proofs.Aiming.{state-homes, state-targets}
 use Rattle.base_arrays.specs.Stretches.{stretch}
 use Rattle.engine_state_arrays.specs.Lent.{kindsIn, startsIn, stateIn}
@@ -217,7 +217,7 @@ module _ (program script sets numbers choices : List ℕ) (top somes left index 
   -- ---- SOMETIME and SOMEWHERE: the inner rule first
 
   module _ (c : Counts) (x : Walked) (visited : Visits program script sets numbers choices top somes left (index + 1) limits c x) where
-    first-told : (X : Here) (q : Rule) → Ruled (X .words) (X .table) (indices (X .names)) q → ruleIndex q ≡ index + 1 → Later (X .from) q → walkedOf x ≡ visits limits left (X .names) q (here script sets numbers top (X .tree)) (countOf c)
+    pub first-told : (X : Here) (q : Rule) → Ruled (X .words) (X .table) (indices (X .names)) q → ruleIndex q ≡ index + 1 → Later (X .from) q → walkedOf x ≡ visits limits left (X .names) q (here script sets numbers top (X .tree)) (countOf c)
     first-told X q R e L = visited (scene-inner program script sets numbers choices top somes left index limits X q (index + 1) (record { ruled = R; stood = e; later = L }))
 
     pub somewhere-first : NotNo x → Looks program script sets numbers choices top somes left index limits c x 8
@@ -332,14 +332,14 @@ module _ (program script sets numbers choices : List ℕ) (top somes left index 
 
   -- the homes and the targets that are found
   module _ (homes targets : List ℕ) (P : Located (members (getD sets 129 0)) (bodyIn (state .kids)) (λ i. getD homes i 0))
-      (T : (a : ℕ) → a < 64 → TargetsOf (bodyIn (state .kids)) (getD (state .notes .acts) a 0) (members (getD (state .notes .aims) a 0)) (λ i. getD homes i 0) a (members (getD targets a 0))) where
+      (T : (a : ℕ) → a < limits .limit → TargetsOf (bodyIn (state .kids)) (getD (state .notes .acts) a 0) (members (getD (state .notes .aims) a 0)) (λ i. getD homes i 0) a (members (getD targets a 0))) where
     placed : (X : Here) (i : ℕ) → i < 64 → getD homes i 0 ≡ home σ i (X .tree)
     placed X = state-homes script (kindsIn numbers) (startsIn numbers) (X .weight) (X .spent) state (X .tree) (X .stage .ready) (few X) (X .stage .represents) (λ i. getD homes i 0) P
 
     aimed : (X : Here) (a : ℕ) → a < limits .limit → (t : ℕ) → t < 64 → elem t (members (getD targets a 0)) ≡ isSome (closureMove σ a t (X .tree))
     aimed X a h =
         let low : a < 64 = omega (arith, X .stage .few) in
-        state-targets script (kindsIn numbers) (startsIn numbers) (X .weight) (X .spent) state (X .tree) (X .stage .ready) (few X) (X .stage .represents) (λ i. getD homes i 0) P a low (members (getD targets a 0)) (T a low)
+        state-targets script (kindsIn numbers) (startsIn numbers) (X .weight) (X .spent) state (X .tree) (X .stage .ready) (few X) (X .stage .represents) (λ i. getD homes i 0) P a low (members (getD targets a 0)) (T a h)
 
     pub trying-holds : (c : Counts) (from rest : ℕ) → Turns targets (limits .limit) from rest (pairsBehind targets (limits .limit) 0 0) → Trying targets c c from rest
     trying-holds c from rest U = record {
@@ -358,32 +358,51 @@ module _ (program script sets numbers choices : List ℕ) (top somes left index 
       tried-first : (X : Here) (q : Rule) → X .rule ≡ sometime index q → Tried (after σ (X .tree)) (trying X q) (nexts σ (limits .limit) (X .tree)) c now ((a, t) ∷ others)
       tried-first X q e = subst (λ (l : List (ℕ × ℕ)). Tried (after σ (X .tree)) (trying X q) (nexts σ (limits .limit) (X .tree)) c now l) (turns-first (N .turn) small some-left t et) (N .tried X q e)
 
-      -- the move leads to the next state, and the visit is made there
+      -- the move leads to the next state
       module _ (sets′ numbers′ : List ℕ) (top′ : ℕ) (L : Lendable script sets′ numbers′ top′) (ek : kindsIn numbers′ ≡ kindsIn numbers) (es : startsIn numbers′ ≡ startsIn numbers)
-          (M : Moves script (kindsIn numbers) (startsIn numbers) state (stateIn sets′ numbers′ top′) (λ i. getD homes i 0) a t)
-          (x : Walked) (visited : Visits program script sets′ numbers′ choices top′ somes left index limits now x) where
-        turn-tried : (X : Here) (q : Rule) → X .rule ≡ sometime index q → (m : ClosureMachine) × (after σ (X .tree) a t ≡ some m) × (walkedOf x ≡ trying X q m (countOf now))
-        turn-tried X q e =
+          (M : Moves script (kindsIn numbers) (startsIn numbers) state (stateIn sets′ numbers′ top′) (λ i. getD homes i 0) a t) where
+        -- which represents what the move makes of the closure
+        pub turn-moved : (X : Here) (q : Rule) → X .rule ≡ sometime index q → Makes script (kindsIn numbers) (startsIn numbers) state (stateIn sets′ numbers′ top′) (X .weight) (X .spent + 1) a t (X .tree)
+        turn-moved X q e =
             let is = tried-makes (after σ (X .tree)) (trying X q) (nexts σ (limits .limit) (X .tree)) c now a t others (tried-first X q e) in
-            let (m, em, R, eb) = M (X .weight) (X .spent) (X .tree) (omega (arith, X .stage .slack)) (X .stage .represents) (placed X, after-made σ (X .tree) a t is) in (
-              here script sets′ numbers′ top′ (m .body),
-              after-is σ (boundIn script (stateIn sets′ numbers′ top′)) (X .tree) a t m em eb,
-              visited (scene-moved program script sets numbers choices top somes left index limits X sets′ numbers′ top′ L ek es a t m em R) ∙ ap (λ (y : Rule). visits limits left (X .names) y (here script sets′ numbers′ top′ (m .body)) (countOf now)) e,
-            )
+            M (X .weight) (X .spent) (X .tree) (omega (arith, X .stage .slack)) (X .stage .represents) (placed X, after-made σ (X .tree) a t is)
 
-        pub trying-again : (d : Counts) → x ≡ No d → (from′ rest′ : ℕ) → Turns targets (limits .limit) from′ rest′ others → Trying targets c d from′ rest′
-        trying-again d ex from′ rest′ next = record {
-          pairs = others;
-          turn = next;
-          tried = λ X q e.
+        -- the visit of SOMETIME that is made there
+        module _ (x : Walked) (visited : (Y : Scene program script sets′ numbers′ choices top′ somes left index limits) (q : Rule) → Y .rule ≡ sometime index q
+            → walkedOf x ≡ visits limits left (Y .names) (sometime index q) (here script sets′ numbers′ top′ (Y .tree)) (countOf now)) where
+          turn-tried : (X : Here) (q : Rule) → X .rule ≡ sometime index q → (m : ClosureMachine) × (after σ (X .tree) a t ≡ some m) × (walkedOf x ≡ trying X q m (countOf now))
+          turn-tried X q e =
+              let (m, em, R, eb) = turn-moved X q e in (
+                here script sets′ numbers′ top′ (m .body),
+                after-is σ (boundIn script (stateIn sets′ numbers′ top′)) (X .tree) a t m em eb,
+                visited (scene-moved program script sets numbers choices top somes left index limits X sets′ numbers′ top′ L ek es a t m em R) q e,
+              )
+
+          pub turn-again : (d : Counts) → x ≡ No d → (from′ rest′ : ℕ) → Turns targets (limits .limit) from′ rest′ others → Trying targets c d from′ rest′
+          turn-again d ex from′ rest′ next = record {
+            pairs = others;
+            turn = next;
+            tried = λ X q e.
+                let (m, is, v) = turn-tried X q e in
+                tried-again (after σ (X .tree)) (trying X q) (nexts σ (limits .limit) (X .tree)) c now a t others (tried-first X q e) m is x v d ex;
+          }
+
+          pub turn-stops : NotNo x → (X : Here) (q : Rule) → X .rule ≡ sometime index q → walkedOf x ≡ firstYes (trying X q) (nexts σ (limits .limit) (X .tree)) (countOf c)
+          turn-stops h X q e =
               let (m, is, v) = turn-tried X q e in
-              tried-again (after σ (X .tree)) (trying X q) (nexts σ (limits .limit) (X .tree)) c now a t others (tried-first X q e) m is x v d ex;
-        }
+              tried-stops (after σ (X .tree)) (trying X q) (nexts σ (limits .limit) (X .tree)) c now a t others (tried-first X q e) m is x v h
 
-        pub trying-stops : NotNo x → (X : Here) (q : Rule) → X .rule ≡ sometime index q → walkedOf x ≡ firstYes (trying X q) (nexts σ (limits .limit) (X .tree)) (countOf c)
-        trying-stops h X q e =
-            let (m, is, v) = turn-tried X q e in
-            tried-stops (after σ (X .tree)) (trying X q) (nexts σ (limits .limit) (X .tree)) c now a t others (tried-first X q e) m is x v h
+        -- any visit that is made there is one of SOMETIME
+        module _ (x : Walked) (visited : Visits program script sets′ numbers′ choices top′ somes left index limits now x) where
+          as-sometime : (Y : Scene program script sets′ numbers′ choices top′ somes left index limits) (q : Rule) → Y .rule ≡ sometime index q
+              → walkedOf x ≡ visits limits left (Y .names) (sometime index q) (here script sets′ numbers′ top′ (Y .tree)) (countOf now)
+          as-sometime Y q e = visited Y ∙ ap (λ (y : Rule). visits limits left (Y .names) y (here script sets′ numbers′ top′ (Y .tree)) (countOf now)) e
+
+          pub trying-again : (d : Counts) → x ≡ No d → (from′ rest′ : ℕ) → Turns targets (limits .limit) from′ rest′ others → Trying targets c d from′ rest′
+          trying-again = turn-again x as-sometime
+
+          pub trying-stops : NotNo x → (X : Here) (q : Rule) → X .rule ≡ sometime index q → walkedOf x ≡ firstYes (trying X q) (nexts σ (limits .limit) (X .tree)) (countOf c)
+          trying-stops = turn-stops x as-sometime
 
   pub trying-ends : (targets : List ℕ) (c now : Counts) (from rest : ℕ) → Trying targets c now from rest → rest ≡ 0 → (X : Here) (q : Rule) → X .rule ≡ sometime index q → walkedOf (No now) ≡ firstYes (trying X q) (nexts σ (limits .limit) (X .tree)) (countOf c)
   trying-ends targets c now from rest N z X q e = tried-ends (after σ (X .tree)) (trying X q) (nexts σ (limits .limit) (X .tree)) c now (N .pairs) (N .tried X q e) (N .turn .ends z)

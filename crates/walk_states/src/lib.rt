@@ -8,7 +8,7 @@ use engine_state_arrays::bodies;
 use engine_state_arrays::from_arrays;
 use engine_state_arrays::to_arrays;
 use engine_states::State;
-use engine_targets::locate;
+use engine_targets::put_homes;
 use engine_targets::targets;
 ghost use mathlib.Core.Path.{_≡_};
 ghost use Prim.Native.Nat.{ℕ, _+_, _-_, _≤_, _<_};
@@ -37,12 +37,6 @@ pub struct Spot {
     pub top: u64,
     pub somes: usize,
     pub left: usize,
-}
-
-// The homes of all parts, and the targets of each actor's moves.
-pub struct Found {
-    pub homes: [usize; 64],
-    pub targets: [u64; 64],
 }
 
 // The moves still to be tried: those of the outer number before `from` with the inner ones that are left, then those of the
@@ -78,24 +72,28 @@ pub fn is_called<'a>(sets: &'a [u64; 131], numbers: &'a [u32; 481], i: usize, na
     false
 }
 
-// The homes of all parts of the state that is lent, and the targets of all actors.
-pub fn all_targets<'a>(sets: &'a [u64; 131], numbers: &'a [u32; 481], top: u64) -> Found
-    ensures homes { λ r. ⌜ Located (members (getD (now (sets .entry)) 129 0)) (bodyIn (stateIn (now (sets .entry)) (now (numbers .entry)) top .kids)) (λ i. getD (r .homes) i 0) ⌝ }
-    ensures targets { λ r. ⌜ ((a : ℕ) → a < 64 → TargetsOf (bodyIn (stateIn (now (sets .entry)) (now (numbers .entry)) top .kids)) (getD (stateIn (now (sets .entry)) (now (numbers .entry)) top .notes .acts) a 0) (members (getD (stateIn (now (sets .entry)) (now (numbers .entry)) top .notes .aims) a 0)) (λ i. getD (r .homes) i 0) a (members (getD (r .targets) a 0))) ⌝ }
+// The homes of all parts of the state that is lent; the targets of each actor below the limit are put into `found`, which is
+// lent since to hand it up would cost a copy.
+pub fn all_targets<'a, 'b>(
+    sets: &'a [u64; 131],
+    numbers: &'a [u32; 481],
+    top: u64,
+    limit: usize,
+    found: &'b mut [u64; 64],
+) -> [usize; 64]
+    requires { ⌜ (limit ≤ 64) × (length (now found) ≡ 64) ⌝ }
+    ensures homes { λ r. ⌜ Located (members (getD (now (sets .entry)) 129 0)) (bodyIn (stateIn (now (sets .entry)) (now (numbers .entry)) top .kids)) (λ i. getD r i 0) ⌝ }
+    ensures targets { λ r. ⌜ ((a : ℕ) → a < limit → TargetsOf (bodyIn (stateIn (now (sets .entry)) (now (numbers .entry)) top .kids)) (getD (stateIn (now (sets .entry)) (now (numbers .entry)) top .notes .acts) a 0) (members (getD (stateIn (now (sets .entry)) (now (numbers .entry)) top .notes .aims) a 0)) (λ i. getD r i 0) a (members (getD (now (found .exit)) a 0))) ⌝ }
 {
     let kids = bodies(sets, top);
-    let homes = locate(&kids, sets[129]);
-    let mut found = Found {
-        homes,
-        targets: [0; 64],
-    };
+    let mut homes: [usize; 64] = [65; 64];
+    put_homes(&mut homes, &kids, sets[129]);
     let mut a: usize = 0;
-    while a < 64 {
-        let aims = targets(&kids, numbers[256 + a], sets[65 + a], &found.homes, a);
-        found.targets[a] = aims;
+    while a < limit {
+        found[a] = targets(&kids, numbers[256 + a], sets[65 + a], &homes, a);
         a += 1;
     }
-    found
+    homes
 }
 
 // The turn behind the first move of the turn before `start` with the inner ones `left`; of all turns the first is behind 0 with none.

@@ -262,9 +262,10 @@ fn sometime<'a>(
     let Walked::No(c2) = w else {
         return w;
     };
-    let found = all_targets(sets, numbers, spot.top);
+    let mut targets: [u64; 64] = [0; 64];
+    let homes = all_targets(sets, numbers, spot.top, limits.limit, &mut targets);
     let mut now = c2;
-    let mut turn = next_turn(&found.targets, 0, 0, limits.limit);
+    let mut turn = next_turn(&targets, 0, 0, limits.limit);
     while turn.rest != 0 {
         let a = turn.from - 1;
         let t = base_sets::first(turn.rest);
@@ -273,13 +274,13 @@ fn sometime<'a>(
         let mut s = *sets;
         let mut n = *numbers;
         there = spot;
-        there.top = next_state(script, &mut s, &mut n, spot.top, &found.homes, step);
+        there.top = next_state(script, &mut s, &mut n, spot.top, &homes, step);
         let w2 = visit(program, script, &s, &n, chosen, there, limits, now);
         let Walked::No(c3) = w2 else {
             return w2;
         };
         now = c3;
-        turn = next_turn(&found.targets, turn.from, turn.rest, limits.limit);
+        turn = next_turn(&targets, turn.from, turn.rest, limits.limit);
     }
     Walked::No(now)
 }

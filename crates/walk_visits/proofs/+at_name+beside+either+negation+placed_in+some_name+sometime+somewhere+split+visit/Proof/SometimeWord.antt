@@ -15,10 +15,10 @@ use Rattle.walk_visits.proofs.sometime.Reads as reads
 use Rattle.walk_visits.proofs.+at_name+beside+either+negation+placed_in+some_name+sometime+somewhere+split+visit.Proof.Measures.{sometime-at, sometime-claims}
 
 abbrev pub Inv-loop : lts.InvT-loop
-Inv-loop program script sets numbers chosen spot limits found now₀ turn₀ now turn = (turn .rest < 2 ^ 64) × Trying program script sets numbers chosen (spot .top) (spot .somes) (spot .left) (spot .at) limits (found .targets) now₀ now (turn .from) (turn .rest)
+Inv-loop program script sets numbers chosen spot limits targets homes now₀ turn₀ now turn = (turn .rest < 2 ^ 64) × Trying program script sets numbers chosen (spot .top) (spot .somes) (spot .left) (spot .at) limits targets now₀ now (turn .from) (turn .rest)
 
 abbrev pub μ-loop : lts.MeasureT-loop
-μ-loop program script sets numbers chosen spot limits found now₀ turn₀ now turn = length (pairsLeft (found .targets) (limits .limit) (turn .from) (turn .rest))
+μ-loop program script sets numbers chosen spot limits targets homes now₀ turn₀ now turn = length (pairsLeft targets (limits .limit) (turn .from) (turn .rest))
 
 module _ (t : ℕ) where
   -- ---- the points of the code, and the way from each to those before it
@@ -39,10 +39,10 @@ module _ (t : ℕ) where
   start c = inner-start (inner c)
 
   abbrev targeted : Loop → lts.After-all-targets (sometime-claims t) (sometime-at t) reads.Post Inv-loop μ-loop
-  targeted c = c .before .before .before .before
+  targeted c = c .before .before .before
 
   abbrev tested : Next → lts.After-first (sometime-claims t) (sometime-at t) reads.Post Inv-loop μ-loop
-  tested c = c .before .before .before .before .before .before .before
+  tested c = c .before .before .before .before .before .before
 
   abbrev First : Type 0
   First = lts.After-first (sometime-claims t) (sometime-at t) reads.Post Inv-loop μ-loop
@@ -68,16 +68,16 @@ module _ (t : ℕ) where
   returns c = let x = inner-start (c .before) .args in sometime-first (x .program .now) (x .script .now) (x .sets .now) (x .numbers .now) (x .chosen .now) (x .spot .top) (x .spot .somes) (x .spot .left) (x .spot .at) (x .limits) (x .c) _ (c .before .visit .ensures) (c .match .keys2)
 
   pub all-targets-requires : lts.Need-all-targets-requires (sometime-claims t) (sometime-at t) reads.Post Inv-loop μ-loop
-  all-targets-requires c κs = tt
+  all-targets-requires c κs = (inner-start (c .before .before .before .before) .pre .1 .2 .few-numbers, refl)
 
   pub next-turn-requires : lts.Need-next-turn-requires (sometime-claims t) (sometime-at t) reads.Post Inv-loop μ-loop
   next-turn-requires c κs = (inner-start (c .before .before .before .before .before .before) .pre .1 .2 .few-numbers, within-none _ _)
 
   pub loop-holds : lts.Need-loop-holds (sometime-claims t) (sometime-at t) reads.Post Inv-loop μ-loop
   loop-holds c =
-      let f = c .before .before .before in
+      let f = c .before .before in
       let x = inner-start (c .before .before .before .before .before .before .before) .args in
-      (search (c .next-turn .ok, needs), trying-holds (x .program .now) (x .script .now) (x .sets .now) (x .numbers .now) (x .chosen .now) (x .spot .top) (x .spot .somes) (x .spot .left) (x .spot .at) (x .limits) (f .all-targets .result .homes) (f .all-targets .result .targets) (f .all-targets .ensures .0) (f .all-targets .ensures .1) _ _ _ (c .next-turn .ensures))
+      (search (c .next-turn .ok, needs), trying-holds (x .program .now) (x .script .now) (x .sets .now) (x .numbers .now) (x .chosen .now) (x .spot .top) (x .spot .somes) (x .spot .left) (x .spot .at) (x .limits) (f .all-targets .result) _ (f .all-targets .ensures .0) (f .all-targets .ensures .1) _ _ _ (c .next-turn .ensures))
 
   pub first-requires : lts.Need-first-requires (sometime-claims t) (sometime-at t) reads.Post Inv-loop μ-loop
   first-requires c κs = search needs
@@ -97,7 +97,7 @@ module _ (t : ℕ) where
 
   pub next-state-requires : lts.Need-next-state-requires (sometime-claims t) (sometime-at t) reads.Post Inv-loop μ-loop
   next-state-requires c κs =
-      let f = c .before .before .before .before .before .before in
+      let f = c .before .before .before .before .before in
       let l = first-loop f in
       let s = start l in
       let target-low = first-low _ _ (l .loop .inv .0) (some-left f) (f .first .ensures) in
@@ -120,29 +120,29 @@ module _ (t : ℕ) where
       let m = n .next-state .ensures in
       let x = start l .args in
       sometime-then (x .program .now) (x .script .now) (x .sets .now) (x .numbers .now) (x .chosen .now) (x .spot .top) (x .spot .somes) (x .spot .left) (x .spot .at) (x .limits) (x .c) _ (inner l .visit .ensures) _ (l .before .before .before .before .before .before .w .given .1) _
-      (trying-stops (x .program .now) (x .script .now) (x .sets .now) (x .numbers .now) (x .chosen .now) (x .spot .top) (x .spot .somes) (x .spot .left) (x .spot .at) (x .limits) (f .result .homes) (f .result .targets) (f .ensures .0) (f .ensures .1) _ _ _ _ _ (l .loop .inv .1) (l .loop .inv .0) (some-left (tested n)) (tested n .first .ensures) _ _ _
+      (trying-stops (x .program .now) (x .script .now) (x .sets .now) (x .numbers .now) (x .chosen .now) (x .spot .top) (x .spot .somes) (x .spot .left) (x .spot .at) (x .limits) (f .result) _ (f .ensures .0) (f .ensures .1) _ _ _ _ _ (l .loop .inv .1) (l .loop .inv .0) (some-left (tested n)) (tested n .first .ensures) _ _ _
       (m .0) (m .1 .0 _ _ refl .0) (m .1 .0 _ _ refl .1) (m .1 .0 _ _ refl .2) _ (c .before .visit2 .ensures) (c .match2 .keys2))
 
   pub next-turn-requires-2 : lts.Need-next-turn-requires-2 (sometime-claims t) (sometime-at t) reads.Post Inv-loop μ-loop
-  next-turn-requires-2 c κs = let f = tested (c .before .before .before .before .before .before .before .before) in (start (first-loop f) .pre .1 .2 .few-numbers, within (first-loop f))
+  next-turn-requires-2 c κs = let f = tested (c .before .before .before .before .before .before .before) in (start (first-loop f) .pre .1 .2 .few-numbers, within (first-loop f))
 
   pub loop-less : lts.Need-loop-less (sometime-claims t) (sometime-at t) reads.Post Inv-loop μ-loop
   loop-less c =
-      let n = c .before .before .before .before .before .before .before .before .before in
+      let n = c .before .before .before .before .before .before .before .before in
       let l = again n in
       let x = start l .args in
       trying-less (x .program .now) (x .script .now) (x .sets .now) (x .numbers .now) (x .chosen .now) (x .spot .top) (x .spot .somes) (x .spot .left) (x .spot .at) (x .limits) _ _ _ _ _ (l .loop .inv .1) (l .loop .inv .0) (some-left (tested n)) _ _ (c .next-turn2 .ensures)
 
   pub loop-again : lts.Need-loop-again (sometime-claims t) (sometime-at t) reads.Post Inv-loop μ-loop
   loop-again c =
-      let n = c .before .before .before .before .before .before .before .before .before in
+      let n = c .before .before .before .before .before .before .before .before in
       let l = again n in
       let f = targeted l .all-targets in
       let m = n .next-state .ensures in
       let x = start l .args in (
         search (c .next-turn2 .ok, needs),
-        trying-again (x .program .now) (x .script .now) (x .sets .now) (x .numbers .now) (x .chosen .now) (x .spot .top) (x .spot .somes) (x .spot .left) (x .spot .at) (x .limits) (f .result .homes) (f .result .targets) (f .ensures .0) (f .ensures .1) _ _ _ _ _ (l .loop .inv .1) (l .loop .inv .0) (some-left (tested n)) (tested n .first .ensures) _ _ _
-            (m .0) (m .1 .0 _ _ refl .0) (m .1 .0 _ _ refl .1) (m .1 .0 _ _ refl .2) _ (c .before .before .before .before .before .before .visit2 .ensures) _ (c .before .before .before .before .w2 .given .1) _ _ (c .next-turn2 .ensures),
+        trying-again (x .program .now) (x .script .now) (x .sets .now) (x .numbers .now) (x .chosen .now) (x .spot .top) (x .spot .somes) (x .spot .left) (x .spot .at) (x .limits) (f .result) _ (f .ensures .0) (f .ensures .1) _ _ _ _ _ (l .loop .inv .1) (l .loop .inv .0) (some-left (tested n)) (tested n .first .ensures) _ _ _
+            (m .0) (m .1 .0 _ _ refl .0) (m .1 .0 _ _ refl .1) (m .1 .0 _ _ refl .2) _ (c .before .before .before .before .before .visit2 .ensures) _ (c .before .before .before .w2 .given .1) _ _ (c .next-turn2 .ensures),
       )
 
   pub returns-3 : lts.Need-returns-3 (sometime-claims t) (sometime-at t) reads.Post Inv-loop μ-loop
