@@ -4,11 +4,15 @@ use mathlib.Core.List.{List}
 use mathlib.Core.Path.{_≡_, refl, sym, _∙_, subst}
 use native.Mathlib.Omega.{arith}
 use lib.Dec.{eqb}
-use lib.ListN.{getD, set, length, length-set, replicate}
+use lib.ListN.{getD, set, length, length-set, replicate, List·getD-eq-default}
 use lib.Seq.{getD-set-same, getD-set-other}
 use borrow.Author.Tests.{eqb-true, eqb-false}
 use Rattle.base_slices.proofs.Tests.{byTest}
 use Rattle.walk_rules.specs.Walking.{Loading}
+
+-- there is no word behind the last
+pub word-none : (words : List ℕ) (i : ℕ) → length words ≤ i → 0 ≡ getD words i 0
+word-none words i h = sym (List·getD-eq-default words 0 h)
 
 pub loading-none : (words rights placings : List ℕ) → Loading words rights placings (replicate 768 0) 0
 loading-none words rights placings =
@@ -18,7 +22,7 @@ loading-none words rights placings =
 pub loading-whole : {words rights placings program : List ℕ} {i : ℕ} → Loading words rights placings program i → i ≤ 256 → 256 ≤ i → Loading words rights placings program 256
 loading-whole {words} {rights} {placings} {program} {i} L h n = let e : i ≡ 256 = omega arith in subst (Loading words rights placings program) e L
 
-module _ {words rights placings program : List ℕ} {i w r n : ℕ} (L : Loading words rights placings program i) (low : i < 256) (ew : i < length words → w ≡ getD words i 0) (er : r ≡ getD rights i 0) (en : n ≡ getD placings i 0) where
+module _ {words rights placings program : List ℕ} {i w r n : ℕ} (L : Loading words rights placings program i) (low : i < 256) (ew : w ≡ getD words i 0) (er : r ≡ getD rights i 0) (en : n ≡ getD placings i 0) where
   abbrev once : List ℕ
   once = set program i w
 
@@ -41,9 +45,9 @@ module _ {words rights placings program : List ℕ} {i w r n : ℕ} (L : Loading
   pub loading-more : Loading words rights placings thrice (i + 1)
   loading-more = record {
     long = length-set twice (512 + i) n ∙ twice-long;
-    word = split-last (λ (j : ℕ). j < length words → getD thrice j 0 ≡ getD words j 0)
-        (λ h. getD-set-other twice (512 + i) i n 0 (λ z. omega arith) ∙ getD-set-other once (256 + i) i r 0 (λ z. omega arith) ∙ getD-set-same program i w 0 (let l = L .long in omega (arith, l)) ∙ ew h)
-        (λ j g h. past j (λ z. omega arith) (λ z. omega arith) (λ z. omega arith) ∙ L .word j g h);
+    word = split-last (λ (j : ℕ). getD thrice j 0 ≡ getD words j 0)
+        (getD-set-other twice (512 + i) i n 0 (λ z. omega arith) ∙ getD-set-other once (256 + i) i r 0 (λ z. omega arith) ∙ getD-set-same program i w 0 (let l = L .long in omega (arith, l)) ∙ ew)
+        (λ j g. past j (λ z. omega arith) (λ z. omega arith) (λ z. omega arith) ∙ L .word j g);
     right = split-last (λ (j : ℕ). getD thrice (256 + j) 0 ≡ getD rights j 0)
         (getD-set-other twice (512 + i) (256 + i) n 0 (λ z. omega arith) ∙ getD-set-same once (256 + i) r 0 (let l : length once ≡ 768 = length-set program i w ∙ L .long in omega (arith, l)) ∙ er)
         (λ j g. past (256 + j) (λ z. omega arith) (λ z. omega arith) (λ z. omega arith) ∙ L .right j g);

@@ -2,21 +2,22 @@
 // and the visit at the first word.
 use engine_states::State;
 use read_rules::RuleTable;
+use walk_itineraries::Arrival;
+use walk_itineraries::Led;
+use walk_itineraries::lead;
 use walk_stages::Counts;
 use walk_stages::Limits;
-use walk_stages::Walked;
 use walk_states::Spot;
 use walk_states::as_arrays;
 use walk_visits::visit;
 ghost use mathlib.Core.Path.{_≡_};
-ghost use Prim.Native.Nat.{_<_};
 ghost use lib.ListN.{length, getD};
 ghost use Rattle.walk_stages.specs.Visits.{Walks};
-ghost use Rattle.walk_rules.specs.Walking.{Loading, RuleWalkable};
+ghost use Rattle.walk_rules.specs.Walking.{Loading, RuleWalkable, Routed};
 
 // The word at that index, 0 where there is none.
 fn word_at(rule: &[u32], i: usize) -> u32
-    ensures { λ r. ⌜ (i < length (now (rule .entry)) → r ≡ getD (now (rule .entry)) i 0) ⌝ }
+    ensures { λ r. ⌜ r ≡ getD (now (rule .entry)) i 0 ⌝ }
 {
     if i < rule.len() {
         return rule[i];
@@ -41,8 +42,9 @@ fn loaded(rule: &[u32], rights: [u16; 256], placings: [u8; 256]) -> [u32; 768]
     program
 }
 
-// The whole walk of the rule over the process that the state represents.
-pub fn walk_rule<'a>(
+// The whole walk of the rule over the process that the state represents. Only one that begins at SOMETIME keeps its moves: on
+// yes those that lead to it stand at the list's start.
+pub fn walk_rule<'a, 'b>(
     rule: &'a [u32],
     table: RuleTable,
     script: &'a [u32],
@@ -50,33 +52,49 @@ pub fn walk_rule<'a>(
     starts: [u32; 64],
     state: State,
     limits: Limits,
-) -> Walked
-    requires { ⌜ RuleWalkable (now script) kinds starts state limits ⌝ }
-    ensures { λ r. ⌜ Walks (now (rule .entry)) table (now (script .entry)) kinds starts state limits r ⌝ }
+    list: &'b mut [u32; 256],
+) -> Led
+    requires { ⌜ (length (now list) ≡ 256) × RuleWalkable (now script) kinds starts state limits ⌝ }
+    ensures walked { λ r. ⌜ Walks (now (rule .entry)) table (now (script .entry)) kinds starts state limits (r .walked) ⌝ }
+    ensures routed { λ r. ⌜ Routed (now (rule .entry)) table (now (script .entry)) kinds starts state limits (r .walked) (r .count) (now (list .exit)) ⌝ }
 {
     let rights = table.rights;
     let placings = table.placings;
     let program = loaded(rule, rights, placings);
     let s = as_arrays(kinds, starts, state);
     let chosen: [u32; 256] = [0; 256];
-    let none = Counts {
+    let counts = Counts {
         visits: 0,
         deepest: 0,
     };
-    let first = Spot {
+    let spot = Spot {
         at: 0,
         top: s.top,
         somes: 0,
         left: 256,
     };
-    visit(
+    if program[0] / 268435456 == 7 {
+        let first = Arrival { spot, counts };
+        return lead(
+            &program,
+            script,
+            &s.sets,
+            &s.numbers,
+            &chosen,
+            first,
+            limits,
+            list,
+        );
+    }
+    let walked = visit(
         &program,
         script,
         &s.sets,
         &s.numbers,
         &chosen,
-        first,
+        spot,
         limits,
-        none,
-    )
+        counts,
+    );
+    Led { walked, count: 0 }
 }
