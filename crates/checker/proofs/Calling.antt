@@ -30,13 +30,15 @@ use Rattle.engine_state_arrays.specs.Lent.{kindsIn, startsIn, ownState, Small}
 use Rattle.theory_call.specs.Call.{Call, refusal, startOf, asking, terms, door, answer}
 use Rattle.theory_call.specs.ClosureCall.{ClosureRan, halted, completed, closureRun, begun}
 use Rattle.call_lists.specs.Running.{endedOf, madeOf, Left, Runs, Runnable, ListRan}
-use Rattle.call_answers.specs.Answering.{answerOf, callOf}
+use Rattle.call_answers.specs.Answering.{Refusing, callOf, CallGives}
 use Rattle.call_answers.specs.declared.Answer.{Answer}
 use Rattle.call_answers.proofs.Terms.{Asked, asked-refused}
-use Rattle.checker.specs.Calling.{ScriptHeld, RuleHeld, Entered, StateHeld, Walkable}
+use Rattle.call_answers.proofs.Refusals.{gives-refusal}
+use Rattle.walk_itineraries.specs.declared.Led.{Led}
+use Rattle.checker.specs.Calling.{ScriptHeld, RuleHeld, Entered, StateHeld, Walkable, WalkSays, Concludable}
 use Rattle.call_lists.specs.declared.Ended.{Ended}
 use Rattle.call_lists.specs.declared.Ended.the-variants.{Made, Halted}
-use Rattle.theory_call.proofs.Entering.{terms-few, door-unread, own-unasked, own-got}
+use Rattle.theory_call.proofs.Entering.{terms-few, terms-long, door-unread, own-unasked, own-got}
 use Rattle.theory_call.proofs.Called.{answers-door, answers-halted}
 
 script-outcome : (x : Reading (Script × Cursor)) → table.scanned 64 table.vacant x .outcome ≡ outcome x
@@ -91,15 +93,15 @@ module _ {script : List ℕ} {t : Table} (H : ScriptHeld script t) (words : List
   reads-rule : (x : Reading (Rule × Cursor)) → readWholeRule (t .count) words ≡ x → readWholeRule (H .read .1 .number) words ≡ x
   reads-rule x e = subst (λ (k : ℕ). readWholeRule k words ≡ x) (number-is H) e
 
-  module _ (moves : List ℕ) (patience : ℕ) (buffer : List ℕ) (q i : ℕ) where
+  module _ (moves : List ℕ) (patience : ℕ) (buffer list : List ℕ) (q i : ℕ) where
     abbrev c : Call
-    c = callOf script moves words patience buffer
+    c = callOf script moves words patience buffer list
 
     pub says-rule : readWholeRule (t .count) words ≡ refuse q i → answer c ≡ refusal q i 0 0 buffer
     says-rule e = answers-door c (H .read) (H .reads) q i (door-unread c (startOf script (H .read)) q i (reads-rule (refuse q i) e))
 
-    pub says-terms : {u : RuleTable} → RuleHeld (t .count) words u → (x : Outcome) → x ≡ Asked patience (length moves) → x ≡ Refused q i → answer c ≡ refusal q i 0 0 buffer
-    says-terms R x e d = answers-door c (H .read) (H .reads) q i (own-unasked c (H .read) (R .read) (reads-rule (got (R .read)) (R .reads)) q i (asked-refused (asking (terms patience (length moves))) q i (sym e ∙ d)))
+    pub says-terms : {u : RuleTable} → RuleHeld (t .count) words u → (x : Outcome) → x ≡ Asked patience (length moves) (length list) → x ≡ Refused q i → answer c ≡ refusal q i 0 0 buffer
+    says-terms R x e d = answers-door c (H .read) (H .reads) q i (own-unasked c (H .read) (R .read) (reads-rule (got (R .read)) (R .reads)) q i (asked-refused (asking (terms patience (length moves) (length list))) q i (sym e ∙ d)))
 
 -- the arrays that are lent hold the state that the list begins with, and it represents the script's closure
 pub record Began (script : List ℕ) (t : Table) (s : State) (sets numbers : List ℕ) : Type 0 where
@@ -112,12 +114,15 @@ pub record Began (script : List ℕ) (t : Table) (s : State) (sets numbers : Lis
   pub first : (count : ℕ) (b : Script) → Tabled script (record { kinds = t .kinds; starts = t .starts; kids = t .kids; count = count }) b
       → Represents script (t .kinds) (t .starts) (parts b) 0 s (settleUnder [] (closureOf b))
 
-module _ {script moves words : List ℕ} {patience : ℕ} {t : Table} {u : RuleTable} (L : Entered script moves words patience t u) where
-  pub enters : (buffer : List ℕ) → door (callOf script moves words patience buffer) (startOf script (L .both .held .read)) ≡ got (L .both .ruled .read)
-  enters buffer = own-got (callOf script moves words patience buffer) (L .both .held .read) (L .both .ruled .read) (reads-rule (L .both .held) words (got (L .both .ruled .read)) (L .both .ruled .reads)) (L .asked)
+module _ {script moves words : List ℕ} {patience : ℕ} {list : List ℕ} {t : Table} {u : RuleTable} (L : Entered script moves words patience list t u) where
+  pub enters : (buffer : List ℕ) → door (callOf script moves words patience buffer list) (startOf script (L .both .held .read)) ≡ got (L .both .ruled .read)
+  enters buffer = own-got (callOf script moves words patience buffer list) (L .both .held .read) (L .both .ruled .read) (reads-rule (L .both .held) words (got (L .both .ruled .read)) (L .both .ruled .reads)) (L .asked)
 
   pub short : length moves ≤ 4096
-  short = terms-few patience (length moves) (L .asked)
+  short = terms-few patience (length moves) (length list) (L .asked)
+
+  pub long : 256 ≤ length list
+  long = terms-long patience (length moves) (length list) (L .asked)
 
   abbrev run : List ℕ → ClosureRan
   run ws = closureRun (t .count) 0 ws (begun (L .both .held .read .0))
@@ -126,11 +131,11 @@ module _ {script moves words : List ℕ} {patience : ℕ} {t : Table} {u : RuleT
   abbrev Ends : Ended → State → Type 0
   Ends e r = (e ≡ endedOf (run moves)) × Left script (t .kinds) (t .starts) r (t .count) (0 + madeOf moves e) (run (take (madeOf moves e) moves))
 
-  list-halted : (buffer : List ℕ) (q i : ℕ) (r : State) → Ends (Halted q i) r → answer (callOf script moves words patience buffer) ≡ refusal q i i 0 buffer
-  list-halted buffer q i r g = answers-halted (callOf script moves words patience buffer) (L .both .held .read) (L .both .held .reads) (L .both .ruled .read) (enters buffer) q i
+  list-halted : (buffer : List ℕ) (q i : ℕ) (r : State) → Ends (Halted q i) r → answer (callOf script moves words patience buffer list) ≡ refusal q i i 0 buffer
+  list-halted buffer q i r g = answers-halted (callOf script moves words patience buffer list) (L .both .held .read) (L .both .held .reads) (L .both .ruled .read) (enters buffer) q i
       (subst (λ (k : ℕ). closureRun k 0 moves (begun (L .both .held .read .0)) ≡ halted q i) (number-is (L .both .held)) (ends-halted q i _ (g .0)))
 
-  list-made : (r : State) → Ends Made r → StateHeld script moves words patience t u r
+  list-made : (r : State) → Ends Made r → StateHeld script moves words patience list t u r
   list-made r g =
       let z : 0 + length moves ≡ length moves = omega arith in
       let (m, x, R, d) = left-made script (t .kinds) (t .starts) r (t .count) (0 + length moves) _ (g .1) in
@@ -162,12 +167,12 @@ module _ {script moves words : List ℕ} {patience : ℕ} {t : Table} {u : RuleT
           subst (λ (σ : Bindings). (x ≡ endedOf (closureRun (t .count) 0 moves (record { tree = b; bindings = σ }))) × Left script (t .kinds) (t .starts) stateLeft (t .count) (0 + madeOf moves x) (closureRun (t .count) 0 (take (madeOf moves x) moves) (record { tree = b; bindings = σ }))) (B .none)
           (g (t .count) 0 b (omega (arith, short)) represents)
 
-      pub list-refused : {q i : ℕ} (r : Answer) (buffer : List ℕ) → x ≡ Halted q i → ((out : List ℕ) → answerOf r out ≡ refusal q i i 0 out) → answerOf r buffer ≡ answer (callOf script moves words patience buffer)
-      list-refused {q} {i} r buffer d f = f buffer ∙ sym (list-halted buffer q i stateLeft (transport (λ z. Ends (d z) stateLeft) ran))
+      pub list-refused : {q i : ℕ} (r : Answer) (buffer : List ℕ) → x ≡ Halted q i → Refusing r (refusal q i i 0) → CallGives (callOf script moves words patience buffer list) r buffer list
+      list-refused {q} {i} r buffer d f = gives-refusal (callOf script moves words patience buffer list) r q i i 0 f (list-halted buffer q i stateLeft (transport (λ z. Ends (d z) stateLeft) ran))
 
       -- the state that is borrowed where all moves are made
       module _ (d : x ≡ Made) {k l : List ℕ} {b : State} (f : Small numbers₁ → (k ≡ kindsIn numbers₁) × (l ≡ startsIn numbers₁) × (b ≡ stateLeft)) where
-        stood : StateHeld script moves words patience t u b
+        stood : StateHeld script moves words patience list t u b
         stood = list-made b (transport (λ z. Ends (d z) (sym (f (R .lends .small) .2) z)) ran)
 
         pub list-walkable : Walkable script t u b
@@ -179,7 +184,12 @@ module _ {script moves words : List ℕ} {patience : ℕ} {t : Table} {u : RuleT
           room = L .both .ruled .tabled .room;
         }
 
-        pub list-answered : (r : Answer) (after buffer : List ℕ)
-            → ((list : List ℕ) → length moves ≡ length list → StateHeld script list words patience t u b → answerOf r after ≡ answer (callOf script list words patience buffer))
-            → answerOf r after ≡ answer (callOf script moves words patience buffer)
-        list-answered r after buffer g = g moves refl stood
+        module _ (w : Led) {found : List ℕ} (W : (made lent : List ℕ) (S : StateHeld script made words patience lent t u b) → WalkSays S (w .walked) (w .count) found) where
+          -- the walk is made on the machine that stands: its answer can be told, and its moves listed
+          pub list-concludable : Concludable script t b (w .count) found list
+          list-concludable = record { writable = list-walkable .writable; listable = record { few = W moves list stood .few; array = W moves list stood .array; room = long } }
+
+          pub list-answered : (r : Answer) (after buffer listed : List ℕ)
+              → ((made rule : List ℕ) (p : ℕ) (v : RuleTable) (S : StateHeld script made rule p list t v b) → length moves ≡ length made → WalkSays S (w .walked) (w .count) found → CallGives (callOf script made rule p buffer list) r after listed)
+              → CallGives (callOf script moves words patience buffer list) r after listed
+          list-answered r after buffer listed g = g moves words patience u stood refl (W moves list stood)

@@ -25,7 +25,7 @@ use Rattle.walk_stages.specs.declared.Walked.{Walked}
 use Rattle.walk_stages.specs.declared.Walked.the-variants.{Yes, No, Stopped}
 use Rattle.theory_call.specs.Call.{Call, accepted, refusal, standingWords, finish, roomy, accepting, walked}
 use Rattle.theory_call.specs.Call as plain
-use Rattle.call_answers.specs.Answering.{verdictOf, answerOf, callOf}
+use Rattle.call_answers.specs.Answering.{verdictOf, answerOf, Refusing, callOf}
 use Rattle.checker.specs.Calling.{ComesTo}
 use Rattle.call_answers.specs.declared.Answer.{Answer}
 use Rattle.call_answers.specs.declared.Verdict.{Verdict}
@@ -104,22 +104,22 @@ module _ (script kinds starts : List ℕ) (s : State) (moves : ℕ) (before afte
     abbrev counts : Count
     counts = record { visits = visits; deepest = deepest }
 
-    pub finishes-refused : (r : Answer) (q p : ℕ) → x ≡ Refused q p → Writes x → ((out : List ℕ) → answerOf r out ≡ refusal q p moves visits out) → ComesTo script kinds starts s moves before after r (says yes counts)
+    pub finishes-refused : (r : Answer) (q p : ℕ) → x ≡ Refused q p → Writes x → Refusing r (refusal q p moves visits) → ComesTo script kinds starts s moves before after r (says yes counts)
     unfolding unfoldMachine walked
     finishes-refused r q p e f g = record {
-      ends = λ list rule patience weight spent b em R.
+      ends = λ made rule patience list weight spent b em R.
           let w = f weight spent b R in
-          ends-refused (callOf script list rule patience before) (unfoldMachine (record { tree = b; bindings = boundIn script s })) yes counts r after (w .left) q p moves em (sym e ∙ w .said) g;
+          ends-refused (callOf script made rule patience before list) (unfoldMachine (record { tree = b; bindings = boundIn script s })) yes counts r after (w .left) q p moves em (sym e ∙ w .said) (g .answered);
     }
 
     pub finishes-words : (v : Verdict) (weighed words : ℕ) → x ≡ Words words → Writes x → verdictOf v ≡ accepted yes → length (s .bindings .variables) ≡ 32 → Ready script kinds starts s
         → ((script kinds starts : List ℕ) (weight spent : ℕ) (b : Closure) → Represents script kinds starts weight spent s b → weighed ≡ parts b + 2 * (32 - s .bindings .first))
-        → ComesTo script kinds starts s moves before after (record { verdict = v; moves = moves; visits = visits; deepest = deepest; weight = weighed; words = words }) (says yes counts)
+        → ComesTo script kinds starts s moves before after (record { verdict = v; moves = moves; visits = visits; deepest = deepest; weight = weighed; words = words; count = 0 }) (says yes counts)
     unfolding unfoldMachine walked
     finishes-words v weighed words e f ev long ready h = record {
-      ends = λ list rule patience weight spent b em R.
+      ends = λ made rule patience list weight spent b em R.
           let w = f weight spent b R in
-          ends-words (callOf script list rule patience before) (unfoldMachine (record { tree = b; bindings = boundIn script s })) yes counts _ after (w .left) words (sym e ∙ w .said) ev em refl refl
+          ends-words (callOf script made rule patience before list) (unfoldMachine (record { tree = b; bindings = boundIn script s })) yes counts _ after (w .left) words (sym e ∙ w .said) ev em refl refl
           (weighs-so script s b long (ready .bound) weighed (h script kinds starts weight spent b R)) refl;
     }
 
@@ -135,6 +135,6 @@ module _ (script kinds starts : List ℕ) (s : State) (moves : ℕ) (before afte
     unfolding walkedOf
     walks-no n e x = subst walking (sym e) x
 
-    pub walks-stopped : (q i v : ℕ) → w ≡ Stopped q i v → ((out : List ℕ) → answerOf r out ≡ refusal q i moves v out) → after ≡ before → walking w
+    pub walks-stopped : (q i v : ℕ) → w ≡ Stopped q i v → Refusing r (refusal q i moves v) → after ≡ before → walking w
     unfolding walked walkedOf
-    walks-stopped q i v e f d = subst walking (sym e) (record { ends = λ list rule patience weight spent b em R. f after ∙ (λ t. refusal q i (em t) v (d t)) })
+    walks-stopped q i v e f d = subst walking (sym e) (record { ends = λ made rule patience list weight spent b em R. f .answered after ∙ (λ t. refusal q i (em t) v (d t)) })

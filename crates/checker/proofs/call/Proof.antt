@@ -11,14 +11,14 @@ with-script-requires : tie.Need-with-script-requires
 with-script-requires c κs = search (script-held, needs)
 
 returns : tie.Need-returns
-returns c = call-kept _ _ _ (search (handed, answers-script, script-refused, needs))
+returns c = call-kept _ _ _ _ (search (handed, answers-script, script-refused, needs))
 
 returns-2 : tie.Need-returns-2
-returns-2 c = call-kept _ _ _ (search needs)
+returns-2 c = call-kept _ _ _ _ (search needs)
 
 pub call-spec : {M : Type 1} → statement M
 call-spec =
     tie.close
     (tie.spec
     (λ c κs. search needs) (λ c. search needs) (λ c. search needs) (λ c κs. search needs) returns with-script-requires
-    (λ c. search needs) returns-2)
+    (λ c. search needs) (λ c. search needs) returns-2)

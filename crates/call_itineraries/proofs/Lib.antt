@@ -1,0 +1,3 @@
+-- The laws of a list that is lent for an itinerary. Assumes nothing.
+mod Fronts
+mod Shown

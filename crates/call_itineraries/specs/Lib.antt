@@ -1,0 +1,2 @@
+-- What the contracts of `call_itineraries` cite. Assumes nothing: these are definitions.
+pub mod Showing
