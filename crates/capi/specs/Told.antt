@@ -1,5 +1,5 @@
--- What the call for C and Rust does with the two buffers that it is lent, for the eight words of an answer and for the tree; and
--- what the words that it wrote promise: demand 2, the moves as reductions, the tree read again. Assumes nothing: these are
+-- What the call for C and Rust does with the buffers that it is lent, for the nine words of an answer and for the tree; and what
+-- the words that it wrote promise: demand 2, the moves as reductions, the tree read again. Assumes nothing: these are
 -- definitions.
 use Prim.Native.Nat.{ℕ}
 use mathlib.Core.Bool.{Bool, true, false, cond}
@@ -11,17 +11,22 @@ use Rattle.theory_call.specs.Call.{Call, accepted, refused, answer}
 use Rattle.theory_call.specs.Standing.{Standing, Holds, Reduces, Returned, Readmitted, WeightHolds, WeightBounded}
 use Rattle.host_answer_words.specs.Told.{told}
 
--- whether there is room for the eight words
+-- whether there is room for the nine words
 abbrev pub hasRoom : List ℕ → Bool
-hasRoom told = leb 8 (length told)
+hasRoom told = leb 9 (length told)
 
 -- what the call returns: 1, or 0 where there is no room and nothing is done
 abbrev pub returned : List ℕ → ℕ
 returned told = cond (hasRoom told) 1 0
 
--- the words of the answer's buffer after the call; those behind the eighth stay
-abbrev pub answered : Call → List ℕ → List ℕ
-answered c words = cond (hasRoom words) (told (answer c) ++ drop 8 words) words
+-- the ninth word of the answer: the count of an itinerary's moves, which document 02 leaves free (theory_call, Itinerary: `Listed`
+-- says what holds of it)
+abbrev pub countTold : List ℕ → ℕ
+countTold words = getD words 8 0
+
+-- the words of the answer's buffer after the call, the ninth being the count; those behind it stay
+abbrev pub answered : Call → (count : ℕ) → List ℕ → List ℕ
+answered c count words = cond (hasRoom words) (told (answer c) count ++ drop 9 words) words
 
 -- demand 2, of the first word of an answer that is told: 2 only where the process that stands satisfies the rule, 1 only
 -- where it does not

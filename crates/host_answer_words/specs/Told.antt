@@ -1,4 +1,4 @@
--- The eight words of an answer. Assumes nothing: these are definitions.
+-- The nine words of an answer. Assumes nothing: these are definitions.
 use Prim.Native.Nat.{ℕ, _^_, _≤_, _<_}
 use mathlib.Core.Bool.{true, false}
 use mathlib.Core.List.{List, [], _∷_}
@@ -22,9 +22,10 @@ unfoldable pub placeOf : Verdict → ℕ
 placeOf (accepted a) = 0
 placeOf (refused q i) = i
 
--- the eight words of an answer: what is said; number; place; moves; visits; deepest; weight; words
-unfoldable pub told : Answer → List ℕ
-told a =
+-- the nine words of an answer: what is said; number; place; moves; visits; deepest; weight; words; the count of an itinerary's
+-- moves
+unfoldable pub told : Answer → (count : ℕ) → List ℕ
+told a count =
     saidOf (a .verdict)
     ∷ questionOf (a .verdict)
     ∷ placeOf (a .verdict)
@@ -33,15 +34,18 @@ told a =
     ∷ a .deepest
     ∷ a .weight
     ∷ a .words
+    ∷ count
     ∷ []
 
 -- the answer can be told in words
 pub record Tellable (a : engine.Answer) (words : List ℕ) : Type 0 where
-  -- there is room for eight
-  pub room : 8 ≤ length words
+  -- there is room for nine
+  pub room : 9 ≤ length words
   -- the place has 32 bits
   pub place : placeOf (verdictOf (a .verdict)) < 2 ^ 32
   -- so has the number of moves
   pub moves : a .moves < 2 ^ 32
-  -- and the weight
+  -- the weight
   pub weight : a .weight < 2 ^ 32
+  -- and the itinerary's count
+  pub count : a .count < 2 ^ 32

@@ -1,4 +1,4 @@
-// An answer as eight words.
+// An answer as nine words.
 use call_answers::Answer;
 use call_answers::Verdict;
 ghost use mathlib.Core.Path.{_≡_};
@@ -44,10 +44,10 @@ fn place_of(v: Verdict) -> usize
     }
 }
 
-// The eight words of an answer.
+// The nine words of an answer.
 pub fn tell(a: Answer, answer: &mut [u32])
     requires { ⌜ Tellable a (now answer) ⌝ }
-    ensures { λ _. ⌜ ((buffer : List ℕ) → now (answer .exit) ≡ told (answerOf a buffer) ++ drop 8 (now (answer .entry))) ⌝ }
+    ensures { λ _. ⌜ ((buffer : List ℕ) → now (answer .exit) ≡ told (answerOf a buffer) (a .count) ++ drop 9 (now (answer .entry))) ⌝ }
 {
     let verdict = a.verdict;
     answer[0] = said(verdict);
@@ -58,4 +58,5 @@ pub fn tell(a: Answer, answer: &mut [u32])
     answer[5] = a.deepest;
     answer[6] = a.weight as u32;
     answer[7] = a.words;
+    answer[8] = a.count as u32;
 }

@@ -27,9 +27,9 @@ unfoldable pub replied : Option (List ℕ × List ℕ) → (List ℕ → List �
 replied none k = unfitText
 replied (some p) k = k (p .0) (p .1)
 
--- "It lends 4,096 words."
+-- "It lends 4,096 words." And, as document 02 has it, 256 for an itinerary, which is not printed.
 abbrev pub callReply : (script moves rule : List ℕ) (patience : ℕ) → List ℕ
-callReply script moves rule patience = answerText (answer (callOf script moves rule patience (replicate 4096 0)))
+callReply script moves rule patience = answerText (answer (callOf script moves rule patience (replicate 4096 0) (replicate 256 0)))
 
 -- behind the rule: "patience, filling the input exactly"
 unfoldable pub ruleReply : (script moves rule : List ℕ) → List ℕ → List ℕ

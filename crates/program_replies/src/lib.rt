@@ -28,7 +28,7 @@ fn read_count(s: &[u32]) -> Counted
     Counted::Words(n)
 }
 
-// "It lends 4,096 words."
+// "It lends 4,096 words." And 256 for an itinerary, which is not printed.
 fn put_call<'a>(
     script: &'a [u32],
     moves: &'a [u32],
@@ -39,7 +39,8 @@ fn put_call<'a>(
     ensures { λ r. ⌜ Puts (now (text .entry)) (now (text .exit)) 0 r (callReply (now (script .entry)) (now (moves .entry)) (now (rule .entry)) patience) ⌝ }
 {
     let mut out = [0u32; 4096];
-    let a = call(script, moves, rule, patience, &mut out);
+    let mut list = [0u32; 256];
+    let a = call(script, moves, rule, patience, &mut out, &mut list);
     put_answer(text, a, &out)
 }
 

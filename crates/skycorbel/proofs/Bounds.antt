@@ -126,7 +126,7 @@ unfit-short = omega (arith, refusal-short 20 0)
 
 call-short : (script moves rule : List ℕ) (p : ℕ) → Short (callReply script moves rule p)
 call-short script moves rule p =
-    let c = callOf script moves rule p (replicate 4096 0) in
+    let c = callOf script moves rule p (replicate 4096 0) (replicate 256 0) in
     let e : length (replicate {A = ℕ} 4096 0) ≡ 4096 = length-replicate {A = ℕ} 4096 0 in
     verdict-short (answer c .verdict) (answer c) (omega (arith, answer-long c, e))
 

@@ -72,7 +72,7 @@ Tells ws t = (a : Bool) → Begins (saidText a) t → (c : Call) × Asked ws c �
 
 call-tells : (script moves rule : List ℕ) (p : ℕ) → Tells (counting script ++ counting moves ++ counting rule ++ (p ∷ [])) (callReply script moves rule p)
 call-tells script moves rule p a b =
-    let c = callOf script moves rule p (replicate 4096 0) in
+    let c = callOf script moves rule p (replicate 4096 0) (replicate 256 0) in
     (c, (refl, refl), decides c (accepted a) (text-said a (answer c .verdict) (answer c) b))
 
 rule-tells : (script moves rule s : List ℕ) → Tells (counting script ++ counting moves ++ counting rule ++ s) (ruleReply script moves rule s)

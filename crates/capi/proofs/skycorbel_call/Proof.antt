@@ -7,7 +7,7 @@ use Rattle.capi.proofs.skycorbel_call.Tie as tie
 
 -- ---- the ways from a point of the code to one before it
 
-abbrev told : tie.After-slice-known4 → tie.After-tell
+abbrev told : tie.After-slice-known6 → tie.After-tell
 told c = c .before .before
 
 returns : tie.Need-returns
@@ -17,8 +17,8 @@ tell-requires : tie.Need-tell-requires
 tell-requires c κs = search (tellable, needs)
 
 returns-2 : tie.Need-returns-2
-returns-2 c = told-whole _ _ _ _ (search needs) (search needs) (told c .tell .ensures _)
+returns-2 c = told-whole _ _ _ _ _ (search needs) (search needs) (search needs) (told c .tell .ensures _)
 
 pub skycorbel-call-spec : {M : Type 1} → statement M
 skycorbel-call-spec =
-    tie.close (tie.spec returns (λ c κs. search needs) tell-requires (λ c. search needs) (λ c. search needs) returns-2)
+    tie.close (tie.spec returns (λ c κs. search needs) tell-requires (λ c. search needs) (λ c. search needs) (λ c. search needs) returns-2)
