@@ -2,7 +2,7 @@
 
 use super::checker::{call, printed};
 use second::generate::doubled;
-use second::{Answer, Call, Verdict};
+use second::{Answer, Call, Verdict, LIST_WORDS};
 
 const TRUE: u32 = 0x0000_0000;
 const VOID: u32 = 0x3000_0000;
@@ -21,10 +21,18 @@ const ONE_TWO: &[u32] = &[0x1000_0000, 0x8000_0001, 0x1000_0000, 0x8000_0002, 0,
 const W: &[u32] =
     &[0x1000_0000, 0x8000_0001, 0x2000_0000, 0xA000_0000, 0x8000_0002, 0, 0, 0x1000_0000, 0x8000_0002, 0, 0];
 
-/// The answer to a call with a buffer of 64 words, and what is written.
+/// The answer to a call with a buffer of 64 words, and what is written. No word of the list is changed.
 fn answer(script: &[u32], moves: &[u32], rule: &[u32], patience: u32) -> (Answer, Vec<u32>) {
+    let mut list = [0xFFFF_FFFF; LIST_WORDS];
+    let (answer, written) = answer_with(script, moves, rule, patience, &mut list);
+    assert_eq!((answer.itinerary, list), (0, [0xFFFF_FFFF; LIST_WORDS]));
+    (answer, written)
+}
+
+/// The same with a list.
+fn answer_with(script: &[u32], moves: &[u32], rule: &[u32], patience: u32, list: &mut [u32]) -> (Answer, Vec<u32>) {
     let mut out = [0xFFFF_FFFF; 64];
-    let answer = call(&Call { script, moves, rule, patience }, &mut out).expect("small enough");
+    let answer = call(&Call { script, moves, rule, patience }, &mut out, list).expect("small enough");
     assert!(out[answer.words as usize..].iter().all(|word| *word == 0xFFFF_FFFF));
     (answer, out[..answer.words as usize].to_vec())
 }
@@ -58,10 +66,16 @@ fn somewhere() {
 
 #[test]
 fn sometime() {
-    says(W, &[SOMETIME, AT_2, AT_1, VOID], true, 6, 5);
+    let mut list = [0xFFFF_FFFF; LIST_WORDS];
+    let (yes, written) = answer_with(W, &[], &[SOMETIME, AT_2, AT_1, VOID], 100, &mut list);
+    let verdict = Verdict::Accepted(true);
+    assert_eq!(yes, Answer { verdict, moves: 0, visits: 6, deepest: 5, weight: 3, words: 11, itinerary: 1 });
+    assert_eq!(written, W);
+    assert_eq!(list[0], 0x1000_0102);
+    assert!(list[1..].iter().all(|word| *word == 0xFFFF_FFFF));
     let (answer, written) = answer(W, &[], &[SOMETIME, AT_2, AT_1, VOID], 5);
     let verdict = Verdict::Refused { question: 18, place: 3 };
-    assert_eq!(answer, Answer { verdict, moves: 0, visits: 5, deepest: 0, weight: 0, words: 0 });
+    assert_eq!(answer, Answer { verdict, moves: 0, visits: 5, deepest: 0, weight: 0, words: 0, itinerary: 0 });
     assert!(written.is_empty());
 }
 
@@ -89,13 +103,14 @@ fn through_the_program() {
 #[test]
 fn six_words_lent() {
     let c = Call { script: W, moves: &[0x1000_0102], rule: INSIDE, patience: 9 };
-    let mut out = [7; 6];
-    let refused = call(&c, &mut out).unwrap();
+    let (mut out, mut list) = ([7; 6], [8; LIST_WORDS]);
+    let refused = call(&c, &mut out, &mut list).unwrap();
     let verdict = Verdict::Refused { question: 19, place: 0 };
-    assert_eq!(refused, Answer { verdict, moves: 1, visits: 3, deepest: 0, weight: 0, words: 0 });
+    assert_eq!(refused, Answer { verdict, moves: 1, visits: 3, deepest: 0, weight: 0, words: 0, itinerary: 0 });
     assert_eq!(out, [7; 6]);
     let mut out = [7; 8];
-    assert_eq!(call(&c, &mut out).unwrap().words, 7);
+    assert_eq!(call(&c, &mut out, &mut list).unwrap().words, 7);
+    assert_eq!(list, [8; LIST_WORDS]);
     assert_eq!(out, [0x1000_0000, 0x8000_0002, 0x1000_0000, 0x8000_0001, 0, 0, 0, 7]);
 }
 
@@ -108,7 +123,7 @@ fn a_path_received() {
     ];
     let (answer, written) = answer(&script, &[0x1000_0100, 0x1000_0304, 0x1000_0304], &[TRUE], 1);
     let verdict = Verdict::Accepted(true);
-    assert_eq!(answer, Answer { verdict, moves: 3, visits: 1, deepest: 1, weight: 4, words: 7 });
+    assert_eq!(answer, Answer { verdict, moves: 3, visits: 1, deepest: 1, weight: 4, words: 7, itinerary: 0 });
     assert_eq!(written, [0x1000_0000, 0x8000_0001, 0, 0x1000_0000, 0x8000_0002, 0, 0]);
 }
 
@@ -120,7 +135,7 @@ const EMPTY_GUARD: &[u32] =
 fn an_empty_message_received() {
     let (answer, written) = answer(EMPTY_GUARD, &[0x1000_0100], &[TRUE], 1);
     let verdict = Verdict::Accepted(true);
-    assert_eq!(answer, Answer { verdict, moves: 1, visits: 1, deepest: 1, weight: 3, words: 4 });
+    assert_eq!(answer, Answer { verdict, moves: 1, visits: 1, deepest: 1, weight: 3, words: 4, itinerary: 0 });
     assert_eq!(written, ONE);
 }
 
@@ -148,7 +163,7 @@ fn a_received_variable_received_earlier() {
     ];
     let (answer, written) = answer(&script, &[0x1000_0100, 0x1000_0302], &[AT_1, VOID], 2);
     let verdict = Verdict::Accepted(true);
-    assert_eq!(answer, Answer { verdict, moves: 2, visits: 2, deepest: 2, weight: 5, words: 4 });
+    assert_eq!(answer, Answer { verdict, moves: 2, visits: 2, deepest: 2, weight: 5, words: 4, itinerary: 0 });
     assert_eq!(written, ONE);
 }
 

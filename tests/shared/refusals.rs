@@ -1,7 +1,7 @@
 //! Each question at the door, with a no at and one beyond its limit, and the order in which they are asked.
 
 use super::checker::{call, printed};
-use second::{Answer, Call, Verdict};
+use second::{Answer, Call, Verdict, LIST_WORDS};
 
 const AMB: u32 = 0x1000_0000;
 const ACT: u32 = 0x2000_0000;
@@ -16,20 +16,27 @@ const OR: u32 = 0x2000_0000;
 const VOID: u32 = 0x3000_0000;
 const SOME: u32 = 0x6000_0000;
 const SOMETIME: u32 = 0x7000_0000;
+const TRUE: u32 = 0;
 const PLACED_1: u32 = 0x9000_0001;
 
 fn answer(script: &[u32], moves: &[u32], rule: &[u32], patience: u32) -> Answer {
-    let mut out = vec![0; 5000];
-    let answer = call(&Call { script, moves, rule, patience }, &mut out).expect("small enough");
+    lent(LIST_WORDS, &Call { script, moves, rule, patience })
+}
+
+/// The answer to a call that is lent so many words for its list.
+fn lent(list_words: usize, c: &Call) -> Answer {
+    let (mut out, mut list) = (vec![0; 5000], vec![9; list_words]);
+    let answer = call(c, &mut out, &mut list).expect("small enough");
     if matches!(answer.verdict, Verdict::Refused { .. }) {
         assert!(out.iter().all(|word| *word == 0));
     }
+    assert!(list[answer.itinerary as usize..].iter().all(|word| *word == 9));
     answer
 }
 
 fn refused(answer: Answer, question: u32, place: u32, moves: u32, visits: u32) {
     let verdict = Verdict::Refused { question, place };
-    assert_eq!(answer, Answer { verdict, moves, visits, deepest: 0, weight: 0, words: 0 });
+    assert_eq!(answer, Answer { verdict, moves, visits, deepest: 0, weight: 0, words: 0, itinerary: 0 });
 }
 
 fn accepted(answer: Answer) {
@@ -300,7 +307,7 @@ fn question_19() {
     for (length, fits) in [(0, false), (6, false), (7, true), (8, true)] {
         let mut out = vec![9; length];
         let c = Call { script: W, moves: &[0x1000_0102], rule: &[NOT, 0], patience: 2 };
-        let answer = call(&c, &mut out).unwrap();
+        let answer = call(&c, &mut out, &mut [0; LIST_WORDS]).unwrap();
         if fits {
             assert_eq!((answer.verdict, answer.words), (Verdict::Accepted(false), 7));
             assert_eq!(out[0], AMB);
@@ -311,7 +318,8 @@ fn question_19() {
         }
     }
     // It comes behind the walk.
-    refused(call(&Call { script: W, moves: &[], rule: &[NOT, 0], patience: 1 }, &mut []).unwrap(), 18, 1, 0, 1);
+    let c = Call { script: W, moves: &[], rule: &[NOT, 0], patience: 1 };
+    refused(call(&c, &mut [], &mut [0; LIST_WORDS]).unwrap(), 18, 1, 0, 1);
 }
 
 fn bytes(words: &[u32]) -> Vec<u8> {
@@ -334,4 +342,56 @@ fn question_20() {
     let long = |words: usize| bytes(&[vec![words as u32 - 4], vec![0; words - 1]].concat());
     assert_eq!(printed(&long(6144)), Some("refused 1 at 0\n".to_string()));
     assert_eq!(printed(&long(6145)), refusal);
+}
+
+/// Request 01's question, of every call: whatever its rule is, and whether it has moves or not.
+#[test]
+fn question_21() {
+    for rule in [&[TRUE][..], &[NOT, TRUE], &[SOMETIME, TRUE], &[SOMETIME, VOID], &[NOT, NOT, SOMETIME, TRUE]] {
+        for moves in [&[][..], &[0x1000_0102]] {
+            let c = Call { script: W, moves, rule, patience: 99 };
+            for words in [0, 1, 254, 255] {
+                refused(lent(words, &c), 21, 0, 0, 0);
+            }
+            for words in [256, 257, 1000] {
+                accepted(lent(words, &c));
+            }
+        }
+    }
+}
+
+/// It is asked behind every question of the script, of the rule and of numbers alone.
+#[test]
+fn questions_before_21() {
+    let c = Call { script: W, moves: &[], rule: &[TRUE], patience: 1 };
+    refused(lent(255, &Call { script: &[], ..c }), 1, 0, 0, 0);
+    refused(lent(255, &Call { script: &outputs(65), ..c }), 6, 0, 0, 0);
+    refused(lent(255, &Call { rule: &[], ..c }), 7, 0, 0, 0);
+    refused(lent(255, &Call { rule: &[TRUE, TRUE], ..c }), 11, 1, 0, 0);
+    refused(lent(255, &Call { script: &outputs(64), rule: &[PLACED_1, TRUE], ..c }), 12, 0, 0, 0);
+    refused(lent(255, &Call { patience: 0, ..c }), 13, 0, 0, 0);
+    refused(lent(255, &Call { moves: &[0; 4097], ..c }), 14, 0, 0, 0);
+    refused(lent(255, &c), 21, 0, 0, 0);
+}
+
+/// It is asked before the first move, and so before what is asked of moves, in the walk and after it.
+#[test]
+fn questions_behind_21() {
+    let c = Call { script: W, moves: &[], rule: &[NOT, TRUE], patience: 9 };
+    let moved = Call { moves: &[0x1000_0102, 0x1000_0102], ..c };
+    let impatient = Call { patience: 1, ..c };
+    let wrong = Call { moves: &[0], ..c };
+    refused(lent(256, &wrong), 15, 0, 0, 0);
+    refused(lent(255, &wrong), 21, 0, 0, 0);
+    refused(lent(256, &moved), 16, 1, 1, 0);
+    refused(lent(255, &moved), 21, 0, 0, 0);
+    refused(lent(256, &impatient), 18, 1, 0, 1);
+    refused(lent(255, &impatient), 21, 0, 0, 0);
+    let deep = Call { script: &in_and_out(4), moves: &[0x1000_0100], rule: &[SOMETIME, VOID], patience: 10_000 };
+    refused(lent(256, &deep), 17, 1, 1, 511);
+    refused(lent(255, &deep), 21, 0, 0, 0);
+    let mut list = [9; LIST_WORDS];
+    refused(call(&c, &mut [], &mut list).unwrap(), 19, 0, 0, 2);
+    refused(call(&c, &mut [], &mut list[1..]).unwrap(), 21, 0, 0, 0);
+    assert_eq!(list, [9; LIST_WORDS]);
 }

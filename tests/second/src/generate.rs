@@ -1,11 +1,13 @@
 //! Random calls, the same ones from the same seed: scripts that move, lists of moves that can be made, rules that fit what
-//! stands, patience that just suffices and just does not; then damaged words, and every limit at and one beyond.
+//! stands, half of them with SOMETIME first, patience that just suffices and just does not; then damaged words, and every
+//! limit at and one beyond.
 
-use crate::machine::{ambient_name, make_move, possible_moves, settle};
+use crate::itinerary::MOST_MOVES;
+use crate::machine::{ambient_name, make_move, possible_moves, settle, Move};
 use crate::script::{read_script, Body};
-use crate::{call, Answer, Call};
+use crate::{call, Answer, Call, LIST_WORDS};
 
-/// A call with the buffer as it is before.
+/// A call with both buffers as they are before.
 #[derive(Clone, Debug, PartialEq, Eq)]
 pub struct Case {
     pub script: Vec<u32>,
@@ -13,6 +15,7 @@ pub struct Case {
     pub rule: Vec<u32>,
     pub patience: u32,
     pub buffer: Vec<u32>,
+    pub list: Vec<u32>,
 }
 
 impl Case {
@@ -56,6 +59,17 @@ pub fn case_of_size(seed: u64, size: Size) -> Case {
         0..=3 => ordinary(&mut random, size),
         _ => damaged(&mut random, size),
     }
+}
+
+/// The case of a seed within bounds that passes the door, with room for its tree and its itinerary. Those of even seeds begin
+/// with SOMETIME.
+pub fn answered_case(seed: u64, size: Size) -> Case {
+    let mut random = Random::new(seed);
+    let names = few_names(&mut random);
+    let case = if seed % 2 == 0 { looking_ahead(&mut random, &names, size) } else { looking_around(&mut random, &names, size) };
+    let list = (0..LIST_WORDS + random.below(3)).map(|_| random.next() as u32).collect();
+    let buffer = (0..1024).map(|_| random.next() as u32).collect();
+    Case { buffer, list, ..case }
 }
 
 /// Random numbers by shifts and exclusive or (Marsaglia's xorshift with 64 bits).
@@ -365,14 +379,23 @@ fn random_script(random: &mut Random, names: &[u32], size: Size) -> Vec<u32> {
 }
 
 /// Moves made from a tree as long as there are some, at most so many; and the tree that then stands.
-fn random_moves(random: &mut Random, mut tree: Body, most: usize) -> (Vec<u32>, Body) {
+fn random_moves(random: &mut Random, tree: Body, most: usize) -> (Vec<u32>, Body) {
+    moves_picked(tree, most, |possible| *random.pick(possible))
+}
+
+/// The same with mostly those moves that a walk tries first.
+fn early_moves(random: &mut Random, tree: Body, most: usize) -> (Vec<u32>, Body) {
+    moves_picked(tree, most, |possible| if random.one_in(5) { *random.pick(possible) } else { possible[0] })
+}
+
+fn moves_picked(mut tree: Body, most: usize, mut pick: impl FnMut(&[Move]) -> Move) -> (Vec<u32>, Body) {
     let mut words = Vec::new();
     while words.len() < most {
         let possible = possible_moves(&tree);
         if possible.is_empty() {
             break;
         }
-        let (actor, target) = *random.pick(&possible);
+        let (actor, target) = pick(&possible);
         let Ok((moved, _)) = make_move(tree.clone(), (actor, target)) else {
             break;
         };
@@ -519,17 +542,43 @@ impl Rules<'_> {
                 self.fitting(tree, 3);
             }
             3 if self.placed_left > 1 => self.about_two_placed(),
-            _ => {
-                let more = 1 + self.random.below(4);
-                let (_, later) = random_moves(self.random, tree.clone(), more);
-                self.word(SOMETIME);
-                self.fitting(&later, 1);
-            }
+            _ => self.about_later(tree),
         }
     }
 }
 
 impl Rules<'_> {
+    /// SOMETIME, then a rule about what stands after some more moves, or any.
+    fn sometime_first(&mut self, tree: &Body) {
+        self.word(SOMETIME);
+        if self.random.one_in(4) {
+            return self.any(1);
+        }
+        let more = 1 + self.random.below(12);
+        let (_, later) = early_moves(self.random, tree.clone(), more);
+        self.fitting(&later, 1);
+    }
+
+    /// A rule about what stands, or any; behind NOT NOT too.
+    fn anything_first(&mut self, tree: &Body) {
+        if self.random.one_in(8) {
+            self.words.extend([NOT, NOT]);
+        }
+        if self.random.one_in(2) {
+            self.about(tree);
+        } else {
+            self.any(0);
+        }
+    }
+
+    /// SOMETIME and what a tree meets that stands after some moves.
+    fn about_later(&mut self, tree: &Body) {
+        let more = 1 + self.random.below(4);
+        let (_, later) = random_moves(self.random, tree.clone(), more);
+        self.word(SOMETIME);
+        self.fitting(&later, 1);
+    }
+
     /// The process in one name inside another one, and the two of them beside each other after some moves.
     fn about_two_placed(&mut self) {
         self.placed_left -= 2;
@@ -544,15 +593,21 @@ impl Rules<'_> {
     }
 }
 
-fn random_rule(random: &mut Random, names: &[u32], tree: &Body, placed_left: u32, most_words: usize) -> Vec<u32> {
-    let about = random.one_in(2);
-    let mut rules = Rules { random, names, words: Vec::new(), somes: Vec::new(), placed_left, most_words };
-    if about {
-        rules.about(tree);
-    } else {
-        rules.any(0);
+/// A rule that begins with SOMETIME, or one that does not.
+fn random_rule(random: &mut Random, names: &[u32], played: &Played, size: Size, sometime_first: bool) -> Vec<u32> {
+    loop {
+        let (placed_left, most_words) = (64 - played.parts, size.rule_words);
+        let mut rules = Rules { random, names, words: Vec::new(), somes: Vec::new(), placed_left, most_words };
+        if sometime_first {
+            rules.sometime_first(&played.tree);
+        } else {
+            rules.anything_first(&played.tree);
+        }
+        let words = rules.words;
+        if sometime_first == (words[0] == SOMETIME) {
+            return words;
+        }
     }
-    rules.words
 }
 
 /// Some ambients beside each other, each with actions that take it into the others and out again.
@@ -592,35 +647,92 @@ fn moving_script(random: &mut Random, names: &[u32], size: Size) -> (Vec<u32>, B
     best.expect("there is one").1
 }
 
-/// A script that passes the door, moves that can be made (the last one perhaps not), a rule that passes the door.
+/// A script that passes the door, its parts, moves that can be made, and the tree that then stands.
+struct Played {
+    script: Vec<u32>,
+    parts: u32,
+    moves: Vec<u32>,
+    tree: Body,
+}
+
+fn play(random: &mut Random, names: &[u32], size: Size) -> Played {
+    let (script, tree, parts) = moving_script(random, names, size);
+    let most = if random.one_in(2) { random.below(4) } else { random.below(size.moves + 1) };
+    let (moves, tree) = random_moves(random, tree, most);
+    Played { script, parts, moves, tree }
+}
+
+/// One that can be moved on, if such a one is found soon.
+fn play_unfinished(random: &mut Random, names: &[u32], size: Size) -> Played {
+    let mut tries = 8;
+    loop {
+        let played = play(random, names, size);
+        tries -= 1;
+        if tries == 0 || !possible_moves(&played.tree).is_empty() {
+            return played;
+        }
+    }
+}
+
+/// A script, moves, of which one perhaps can't be made, and a rule that passes the door. One rule in two begins with SOMETIME.
 fn ordinary(random: &mut Random, size: Size) -> Case {
     let names = few_names(random);
-    let (script, tree, parts) = moving_script(random, &names, size);
-    let most = if random.one_in(2) { random.below(4) } else { random.below(size.moves + 1) };
-    let (mut moves, tree) = random_moves(random, tree, most);
-    if random.one_in(5) {
-        let (actor, target) = (random.below(parts as usize + 1) as u32, random.below(parts as usize + 1) as u32);
-        let at = if random.one_in(2) { moves.len() } else { random.below(moves.len() + 1) };
-        moves.insert(at, move_word(actor, target));
+    let mut case = if random.one_in(2) { looking_ahead(random, &names, size) } else { looking_around(random, &names, size) };
+    if random.one_in(6) {
+        let number = |random: &mut Random| random.below(1 + parts_of(&case.script) as usize) as u32;
+        let wild = move_word(number(random), number(random));
+        let at = if random.one_in(2) { case.moves.len() } else { random.below(case.moves.len() + 1) };
+        case.moves.insert(at, wild);
     }
-    let rule = random_rule(random, &names, &tree, 64 - parts, size.rule_words);
-    let mut case = Case { script, moves, rule, patience: size.visits, buffer: Vec::new() };
-    case.patience = random_patience(random, &case, size.visits);
-    case.buffer = random_buffer(random, &case);
+    case.list = random_list(random);
+    let (visits, words) = answer(&case).map_or((size.visits, 0), |answer| (answer.visits, answer.words));
+    case.patience = random_patience(random, visits, size.visits);
+    // With less patience than the walk needs no tree is written.
+    case.buffer = random_buffer(random, if case.patience < visits { 0 } else { words });
     case
 }
 
-/// The answer with a buffer in which there is room for every tree of this checker.
+fn parts_of(script: &[u32]) -> u32 {
+    read_script(script).map_or(0, |script| script.parts)
+}
+
+/// A rule that does not begin with SOMETIME.
+fn looking_around(random: &mut Random, names: &[u32], size: Size) -> Case {
+    let played = play(random, names, size);
+    let rule = random_rule(random, names, &played, size, false);
+    asked(played, rule, size.visits)
+}
+
+/// The most visits in which it is found out whether a rule is met after some more moves.
+const SOON: u32 = 200;
+
+/// A rule that begins with SOMETIME: mostly one that is met after some more moves and not before, if such a one is found soon.
+fn looking_ahead(random: &mut Random, names: &[u32], size: Size) -> Case {
+    let mut tries = *random.pick(&[1, 6, 6]);
+    loop {
+        let played = play_unfinished(random, names, size);
+        let rule = random_rule(random, names, &played, size, true);
+        let case = asked(played, rule, size.visits);
+        let found = answer(&Case { patience: SOON, ..case.clone() });
+        tries -= 1;
+        if tries == 0 || found.is_some_and(|answer| answer.itinerary > 0) {
+            return case;
+        }
+    }
+}
+
+fn asked(played: Played, rule: Vec<u32>, patience: u32) -> Case {
+    let Played { script, moves, .. } = played;
+    Case { script, moves, rule, patience, buffer: Vec::new(), list: Vec::new() }
+}
+
+/// The answer with buffers in which there is room for every tree of this checker and for an itinerary.
 fn answer(case: &Case) -> Option<Answer> {
-    call(&case.call(), &mut vec![0; 1 << 18])
+    call(&case.call(), &mut vec![0; 1 << 18], &mut [0; LIST_WORDS])
 }
 
 /// What a walk needs, one less, one more, less, more, the limit; never so much that a walk takes more visits than asked.
-fn random_patience(random: &mut Random, case: &Case, most: u32) -> u32 {
-    let visits = match answer(&Case { patience: most, ..case.clone() }) {
-        Some(answer) => answer.visits,
-        None => return most,
-    };
+fn random_patience(random: &mut Random, visits: u32, most: u32) -> u32 {
     match random.below(10) {
         0 => visits.max(1),
         1 => visits.saturating_sub(1).max(1),
@@ -632,9 +744,9 @@ fn random_patience(random: &mut Random, case: &Case, most: u32) -> u32 {
     }
 }
 
-/// A buffer of marked words: just long enough, one short, one longer, empty, much longer.
-fn random_buffer(random: &mut Random, case: &Case) -> Vec<u32> {
-    let words = answer(case).map_or(0, |answer| answer.words) as usize;
+/// A buffer of marked words for a tree of so many: just long enough, one short, one longer, empty, much longer.
+fn random_buffer(random: &mut Random, words: u32) -> Vec<u32> {
+    let words = words as usize;
     let length = match random.below(8) {
         0..=1 => words,
         2 => words.saturating_sub(1),
@@ -644,6 +756,23 @@ fn random_buffer(random: &mut Random, case: &Case) -> Vec<u32> {
         _ => words + random.below(30),
     };
     (0..length).map(|_| random.next() as u32).collect()
+}
+
+/// A list of marked words, or of words that could be moves: just long enough, one longer, longer, and now and then too short.
+fn random_list(random: &mut Random) -> Vec<u32> {
+    let length = match random.below(32) {
+        0 => LIST_WORDS - 1,
+        1 if random.one_in(2) => random.below(LIST_WORDS),
+        2..=9 => LIST_WORDS + 1,
+        10..=15 => LIST_WORDS + random.below(80),
+        _ => LIST_WORDS,
+    };
+    let could_be_moves = random.one_in(4);
+    let mut word = || match random.next() as u32 {
+        any if could_be_moves => move_word(any >> 8 & 7, any & 7),
+        any => any,
+    };
+    (0..length).map(|_| word()).collect()
 }
 
 /// An ordinary case with one or two words or lengths changed.
@@ -703,8 +832,9 @@ fn damage(random: &mut Random, words: &mut Vec<u32>) {
 
 fn limit(random: &mut Random) -> Case {
     let beyond = random.below(2);
-    let mut case = Case { script: vec![CLOSE], moves: Vec::new(), rule: vec![TRUE], patience: 1_000, buffer: Vec::new() };
-    match random.below(15) {
+    let list = random_list(random);
+    let mut case = Case { script: vec![CLOSE], moves: Vec::new(), rule: vec![TRUE], patience: 1_000, buffer: Vec::new(), list };
+    match random.below(16) {
         0 => case.script = long_script(random, 1024 + beyond),
         1 => case.script = nested_bodies(random, 64 + beyond),
         2 => case.script = nested_message(random, 64 + beyond),
@@ -719,13 +849,15 @@ fn limit(random: &mut Random) -> Case {
         11 => many_shares(random, &mut case),
         12 => doubling(random, &mut case),
         13 => two_placed(random, &mut case),
+        14 => long_itinerary(random, beyond, &mut case),
         _ => match random.below(3) {
             0 => case.script = Vec::new(),
             1 => case.rule = Vec::new(),
             _ => case.moves = vec![0; 4096 + beyond],
         },
     }
-    case.buffer = random_buffer(random, &case);
+    let words = answer(&case).map_or(0, |answer| answer.words);
+    case.buffer = random_buffer(random, words);
     case
 }
 
@@ -897,6 +1029,45 @@ fn deep_walk(random: &mut Random, beyond: usize, case: &mut Case) {
     case.patience = 50_000;
     let visits = answer(case).map_or(50_000, |answer| answer.visits);
     case.patience = *random.pick(&[visits, visits - 1, visits + 1, 50_000]);
+}
+
+/// An itinerary of 254 moves, or the walk that would need one more; or of fewer, after some of the moves.
+fn long_itinerary(random: &mut Random, beyond: usize, case: &mut Case) {
+    let moves = MOST_MOVES + beyond;
+    (case.script, case.moves) = errand(moves);
+    case.moves.truncate(if random.one_in(2) { 0 } else { random.below(moves) });
+    case.rule = vec![SOMETIME, VOID];
+    // SOMETIME and VOID are visited before each move and after the last.
+    let visits = 2 * (moves - case.moves.len() + 1) as u32;
+    case.patience = *random.pick(&[visits, visits, visits + 1, visits - 1, 5_000]);
+}
+
+/// A script that just one list makes VOID, and that list, which has so many moves, at least four: 1 goes into 2 and out of
+/// it again and again, then an action beside them opens each ambient.
+pub fn errand(moves: usize) -> (Vec<u32>, Vec<u32>) {
+    let opened = if moves % 2 == 0 { 2 } else { 3 };
+    let steps = [[IN, NAME | 2], [EXIT, NAME | 2]].repeat((moves - opened) / 2);
+    let opens: Vec<[u32; 2]> = (1..=opened as u32).map(|name| [OPEN, NAME | name]).collect();
+    let mut script = [vec![AMB, NAME | 1, ACT], flat_path(&steps), vec![CLOSE, CLOSE]].concat();
+    script.extend((2..=opened as u32).flat_map(|name| [AMB, NAME | name, CLOSE]));
+    script.extend([vec![ACT], flat_path(&opens), vec![CLOSE, CLOSE]].concat());
+    // The parts are 1 with its action, the other ambients, and the action that opens them all.
+    let opener = opened as u32 + 1;
+    let mut list = vec![move_word(1, 2); steps.len()];
+    list.push(move_word(opener, 0));
+    list.extend((2..opener).map(|ambient| move_word(opener, ambient)));
+    (script, list)
+}
+
+/// A path of these messages, its PATHs as flat as can be.
+fn flat_path(messages: &[[u32; 2]]) -> Vec<u32> {
+    match messages {
+        [only] => only.to_vec(),
+        _ => {
+            let (left, right) = messages.split_at(messages.len() / 2);
+            [vec![PATH], flat_path(left), flat_path(right)].concat()
+        }
+    }
 }
 
 /// BESIDE over many top parts.

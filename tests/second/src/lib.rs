@@ -1,10 +1,12 @@
-//! A second checker: the plain machine of document 01 with full copying, written from that document alone.
+//! A second checker: the plain machine of document 01 with full copying, written from that document and from document 02's
+//! requests alone.
 //!
 //! It shares nothing with the proved checker and is what the tests hold that one against. A message is an owned tree, a
 //! receipt puts a whole copy of the message in each place of its variable, and the tree of parts is plain owned data.
-//! Sentences in quotation marks in the comments are document 01's.
+//! Sentences in quotation marks in the comments are document 01's, and document 02's where a request is named.
 
 pub mod generate;
+pub mod itinerary;
 pub mod machine;
 pub mod program;
 pub mod rule;
@@ -14,10 +16,15 @@ pub mod walk;
 pub mod writer;
 
 use machine::{count_parts, make_move, possible_moves, settle};
+use rule::Kind;
 use script::Body;
+use slip::{made, Slip};
 use walk::{Stop, Walk};
 
-/// What a call is lent, without the buffer.
+/// Request 01: "The list buffer must hold 256 words".
+pub const LIST_WORDS: usize = 256;
+
+/// What a call is lent to read, without the two buffers.
 #[derive(Clone, Copy, Debug)]
 pub struct Call<'a> {
     pub script: &'a [u32],
@@ -41,6 +48,8 @@ pub struct Answer {
     pub deepest: u32,
     pub weight: u32,
     pub words: u32,
+    /// Request 01: "the count of moves" of the itinerary.
+    pub itinerary: u32,
 }
 
 /// "The first no ends the call with its number and place."
@@ -58,16 +67,16 @@ impl Refusal {
     /// "A refused one gives number, place, moves and visits made (0 if none); deepest, weight and words are 0".
     fn answer(self, moves: u32, visits: u32) -> Answer {
         let verdict = Verdict::Refused { question: self.question, place: self.place };
-        Answer { verdict, moves, visits, deepest: 0, weight: 0, words: 0 }
+        Answer { verdict, moves, visits, deepest: 0, weight: 0, words: 0, itinerary: 0 }
     }
 }
 
-/// The answer to a call; the buffer is written as document 01 says.
+/// The answer to a call; the tree is written to `out` as document 01 says, the itinerary to `list` as request 01 does.
 ///
 /// `None` where a tree would become too large for full copying (`machine::MOST_MESSAGE_WORDS`): such a call has an answer,
-/// but not from this checker. The buffer is then not written.
-pub fn call(c: &Call, out: &mut [u32]) -> Option<Answer> {
-    let start = match door(c) {
+/// but not from this checker. Neither buffer is then written.
+pub fn call(c: &Call, out: &mut [u32], list: &mut [u32]) -> Option<Answer> {
+    let start = match door(c, list.len()) {
         Ok(start) => start,
         Err(refusal) => return Some(refusal.answer(0, 0)),
     };
@@ -83,11 +92,16 @@ pub fn call(c: &Call, out: &mut [u32]) -> Option<Answer> {
         Err(Stop::Refused(refusal)) => return Some(refusal.answer(moves, walk.visits)),
         Err(Stop::TooLarge) => return None,
     };
+    let itinerary = if yes { itinerary_words(&start.rule, &walk, c.moves) } else { Vec::new() };
     let words = writer::written(&moved.tree);
     if words.len() > out.len().min(1 << 28) {
+        if made(Slip::ItineraryThoughRefused) {
+            list[..itinerary.len()].copy_from_slice(&itinerary);
+        }
         return Some(Refusal::new(19, 0).answer(moves, walk.visits));
     }
     out[..words.len()].copy_from_slice(&words);
+    list[..itinerary.len()].copy_from_slice(&itinerary);
     Some(Answer {
         verdict: Verdict::Accepted(yes),
         moves,
@@ -95,7 +109,25 @@ pub fn call(c: &Call, out: &mut [u32]) -> Option<Answer> {
         deepest: walk.deepest,
         weight: count_parts(&moved.tree) + 2 * moved.receipts,
         words: words.len() as u32,
+        itinerary: itinerary.len() as u32,
     })
+}
+
+/// After a yes, request 01: "When the rule's first word is SOMETIME", the moves by which the walk came to its yes, "from the
+/// standing tree". "In every other case the count is 0".
+fn itinerary_words(rule: &rule::Rule, walk: &Walk, list: &[u32]) -> Vec<u32> {
+    if !matches!(rule.kind, Kind::Sometime(_)) {
+        return Vec::new();
+    }
+    let mut words: Vec<u32> = walk.way.iter().map(|(actor, target)| 0x1000_0000 | actor << 8 | target).collect();
+    if made(Slip::ItineraryCutShort) {
+        words.pop();
+    }
+    if made(Slip::ItineraryFromTheScript) {
+        words.splice(..0, list.iter().copied());
+        words.truncate(LIST_WORDS);
+    }
+    words
 }
 
 /// What the questions before the moves leave.
@@ -105,8 +137,8 @@ struct Start {
     walk: Walk,
 }
 
-/// Questions 1 to 14.
-fn door(c: &Call) -> Result<Start, Refusal> {
+/// Questions 1 to 14 and 21, which is asked of every call that is lent a list of so many words.
+fn door(c: &Call, list_words: usize) -> Result<Start, Refusal> {
     let script = script::read_script(c.script)?;
     let read = rule::read_rule(c.rule)?;
     if script.parts + read.placed > 64 {
@@ -118,6 +150,10 @@ fn door(c: &Call) -> Result<Start, Refusal> {
     if c.moves.len() > 4096 {
         return Err(Refusal::new(14, 0));
     }
+    // Request 01: "A buffer too short is refused with 21 at 0, asked after 14."
+    if list_words < LIST_WORDS {
+        return Err(Refusal::new(21, 0));
+    }
     let walk = Walk {
         patience: c.patience,
         greatest_name: script.greatest_name.max(read.greatest_name),
@@ -125,6 +161,7 @@ fn door(c: &Call) -> Result<Start, Refusal> {
         visits: 0,
         deepest: 0,
         names: Vec::new(),
+        way: Vec::new(),
     };
     Ok(Start { tree: settle(script.tree), rule: read.rule, walk })
 }

@@ -1,6 +1,6 @@
 //! The program of document 01: its input taken apart, and what it prints.
 
-use crate::{call, Answer, Call, Verdict};
+use crate::{call, Answer, Call, Verdict, LIST_WORDS};
 
 /// The most bytes that the program's input may have.
 pub const MOST_BYTES: usize = 24_576;
@@ -15,7 +15,7 @@ pub fn printed(input: &[u8]) -> Option<String> {
     };
     // "It lends 4,096 words."
     let mut out = [0; 4096];
-    let answer = call(&c, &mut out)?;
+    let answer = call(&c, &mut out, &mut [0; LIST_WORDS])?;
     Some(report(&answer, &out))
 }
 

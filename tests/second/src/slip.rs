@@ -1,5 +1,5 @@
-//! Slips that the trade has made (document 01), for a test that each would be seen: with the feature `slips` one of them
-//! can be switched on for the thread, without it none is ever made.
+//! Slips that the trade has made (document 01) and some that a request invites, for a test that each would be seen: with the
+//! feature `slips` one of them can be switched on for the thread, without it none is ever made.
 
 #[derive(Clone, Copy, Debug, PartialEq, Eq)]
 pub enum Slip {
@@ -15,6 +15,12 @@ pub enum Slip {
     DropUnderReceipt,
     /// "Counting a path's length in a number that overflows".
     LengthOverflows,
+    /// Request 01: an itinerary without its last move.
+    ItineraryCutShort,
+    /// Request 01: an itinerary from the script's own tree, and not from the one that stands after the list.
+    ItineraryFromTheScript,
+    /// Request 01: an itinerary that is written though question 19 refuses the call.
+    ItineraryThoughRefused,
 }
 
 #[cfg(feature = "slips")]

@@ -1,6 +1,6 @@
 //! "The rule and its walk": the visits, with questions 17 and 18.
 
-use crate::machine::{ambient_name, make_move, possible_moves, TooLarge};
+use crate::machine::{ambient_name, make_move, possible_moves, Move, TooLarge};
 use crate::rule::{Kind, Name, Rule};
 use crate::script::{Body, Head, Message, Part};
 use crate::slip::{made, Slip};
@@ -30,6 +30,8 @@ pub struct Walk {
     pub deepest: u32,
     /// The names chosen for the SOMEs around, each with its SOME's index.
     pub names: Vec<(u32, u32)>,
+    /// Where the rule's first word is SOMETIME, the moves that it has made so far: after a yes those that lead there.
+    pub way: Vec<Move>,
 }
 
 impl Walk {
@@ -109,10 +111,15 @@ impl Walk {
         if self.visit(inner, process, deeper)? {
             return Ok(true);
         }
+        let is_first = rule.index == 0;
         for next in possible_moves(process) {
             let (moved, _) = make_move(process.clone(), next)?;
+            self.way.extend(is_first.then_some(next));
             if self.visit(rule, &moved, deeper)? {
                 return Ok(true);
+            }
+            if is_first {
+                self.way.pop();
             }
         }
         Ok(false)

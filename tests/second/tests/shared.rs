@@ -7,5 +7,7 @@ mod checker {
 
 #[path = "../../shared/examples.rs"]
 mod examples;
+#[path = "../../shared/itineraries.rs"]
+mod itineraries;
 #[path = "../../shared/refusals.rs"]
 mod refusals;

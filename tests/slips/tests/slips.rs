@@ -1,25 +1,49 @@
 //! The second checker is broken in each of the ways that document 01 lists, and compared with the proved call as the
-//! other tests compare them: each slip must show, and without one there is no difference.
+//! other tests compare them: each slip must show, and without one there is no difference. What it gives for an itinerary is
+//! free in part, and is judged as the proved call's is.
 
+use host::outcome::{compare, Difference, Outcome};
 use second::generate::{case, Case};
 use second::slip::{make, Slip};
+use std::sync::LazyLock;
 
-/// Whether the two checkers answer this case alike, the second with the slip. The case itself is made without it.
-fn alike(case: &Case, slip: Option<Slip>) -> bool {
-    let (mut ours, mut theirs) = (case.buffer.clone(), case.buffer.clone());
+/// The first cases, made once for all tests, and without a slip.
+fn cases(count: usize) -> &'static [Case] {
+    static ALL: LazyLock<Vec<Case>> = LazyLock::new(|| {
+        let quarter = |k: u64| std::thread::spawn(move || (1000 * k..1000 * (k + 1)).map(case).collect::<Vec<Case>>());
+        let quarters: Vec<_> = (0..4).map(quarter).collect();
+        quarters.into_iter().flat_map(|quarter| quarter.join().expect("cases")).collect()
+    });
+    &ALL[..count]
+}
+
+/// What the second checker leaves with the slip.
+fn slipped(case: &Case, slip: Option<Slip>) -> Option<Outcome> {
     make(slip);
-    let expected = second::call(&case.call(), &mut theirs);
+    let outcome = Outcome::second(case);
     make(None);
-    let Some(expected) = expected else {
-        return true;
-    };
-    let answer = host::call(&case.script, &case.moves, &case.rule, case.patience, &mut ours);
-    answer == expected && ours == theirs
+    outcome
+}
+
+/// Whether the two checkers answer this case alike, the second with the slip.
+fn alike(case: &Case, slip: Option<Slip>) -> bool {
+    slipped(case, slip).is_none_or(|second| compare(case, &Outcome::proved(case), &second).is_ok())
 }
 
 /// How many of the first cases differ.
-fn seen(slip: Option<Slip>, cases: u64) -> usize {
-    (0..cases).filter(|seed| !alike(&case(*seed), slip)).count()
+fn seen(slip: Option<Slip>, count: usize) -> usize {
+    cases(count).iter().filter(|case| !alike(case, slip)).count()
+}
+
+/// In how many of the first cases what the second checker leaves with the slip is found wrong, and each time in such a way.
+fn judged(slip: Slip, count: usize, fits: fn(Difference) -> bool) -> usize {
+    let fault = |case: &Case| {
+        let right = slipped(case, None)?;
+        compare(case, &slipped(case, Some(slip))?, &right).err()
+    };
+    let faults: Vec<Difference> = cases(count).iter().filter_map(fault).collect();
+    assert!(faults.iter().all(|fault| fits(*fault)), "{faults:?}");
+    faults.len()
 }
 
 #[test]
@@ -55,4 +79,19 @@ fn an_empty_action_dropped_under_a_receipt() {
 #[test]
 fn a_length_that_overflows() {
     assert!(seen(Some(Slip::LengthOverflows), 4000) > 0);
+}
+
+#[test]
+fn an_itinerary_without_its_last_move() {
+    assert!(judged(Slip::ItineraryCutShort, 1000, |fault| matches!(fault, Difference::Itinerary(_))) > 30);
+}
+
+#[test]
+fn an_itinerary_from_the_script_s_own_tree() {
+    assert!(judged(Slip::ItineraryFromTheScript, 1000, |fault| matches!(fault, Difference::Itinerary(_))) > 30);
+}
+
+#[test]
+fn an_itinerary_written_though_19_refuses() {
+    assert!(judged(Slip::ItineraryThoughRefused, 1000, |fault| fault == Difference::List) > 3);
 }
