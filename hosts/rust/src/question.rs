@@ -2,32 +2,33 @@ use core::fmt;
 
 /// A question that a call asks of what it is lent: the first that is answered by no refuses the call.
 ///
-/// Document 01 asks 1 to 19. A number that this crate does not know is kept as it is, so that a host understands the refusals
-/// of a later library as far as their number goes.
+/// A call asks 1 to 19 and 21; 20 is the program's, of its input's form. A number that this crate does not know is kept as it
+/// is, so that a host understands the refusals of a later library as far as their number goes.
 #[derive(Clone, Copy, Debug, PartialEq, Eq, PartialOrd, Ord, Hash)]
 pub struct Question(u32);
 
-/// The questions in document 01's own words, from the first on.
-const WORDS: [&str; 19] = [
-    "Has the script 1 to 1,024 words?",
-    "Does this word's kind and operand fit (VAR: any operand)?",
-    "Does VAR name a REC around it?",
-    "Is nesting at most 64?",
-    "Does the body end at the last word, no sooner or later?",
-    "At most 64 parts?",
-    "Has the rule 1 to 256 words?",
-    "Does it fit (variable: any index)?",
-    "Is the variable's SOME around it?",
-    "Are at most 64 rules around it, and at most 8 SOMEs counting itself?",
-    "Does the rule end at the last word?",
-    "Parts plus PLACED words at most 64?",
-    "Patience 1 to 16,777,216?",
-    "At most 4,096 moves?",
-    "Is it a move word, both numbers below n?",
-    "Can the plain machine make it now?",
-    "Depth at most 256?",
-    "Are visits left?",
-    "Does the tree that stands after the moves fit the output buffer, of which no more than the first 2^28 words count?",
+/// The questions that a call asks, by their numbers: 1 to 19 in document 01's own words, the later ones from document 02.
+const WORDS: [(u32, &str); 20] = [
+    (1, "Has the script 1 to 1,024 words?"),
+    (2, "Does this word's kind and operand fit (VAR: any operand)?"),
+    (3, "Does VAR name a REC around it?"),
+    (4, "Is nesting at most 64?"),
+    (5, "Does the body end at the last word, no sooner or later?"),
+    (6, "At most 64 parts?"),
+    (7, "Has the rule 1 to 256 words?"),
+    (8, "Does it fit (variable: any index)?"),
+    (9, "Is the variable's SOME around it?"),
+    (10, "Are at most 64 rules around it, and at most 8 SOMEs counting itself?"),
+    (11, "Does the rule end at the last word?"),
+    (12, "Parts plus PLACED words at most 64?"),
+    (13, "Patience 1 to 16,777,216?"),
+    (14, "At most 4,096 moves?"),
+    (15, "Is it a move word, both numbers below n?"),
+    (16, "Can the plain machine make it now?"),
+    (17, "Depth at most 256?"),
+    (18, "Are visits left?"),
+    (19, "Does the tree that stands after the moves fit the output buffer, of which no more than the first 2^28 words count?"),
+    (21, "Has the list buffer at least 256 words?"),
 ];
 
 impl Question {
@@ -36,15 +37,14 @@ impl Question {
         Question(number)
     }
 
-    /// Its number in document 01.
+    /// Its number in documents 01 and 02.
     pub const fn number(self) -> u32 {
         self.0
     }
 
-    /// What it asks, in document 01's words; `None` where this crate does not know the number.
+    /// What it asks; `None` where no call that this crate knows of asks a question of this number.
     pub fn words(self) -> Option<&'static str> {
-        let before = (self.0 as usize).checked_sub(1)?;
-        WORDS.get(before).copied()
+        WORDS.iter().find(|(number, _)| *number == self.0).map(|(_, words)| *words)
     }
 }
 
