@@ -3,8 +3,9 @@
 //! `VISITS=..` sets the patience of the walks, 16,777,216 without it, and `RUNS=..` how often each case is taken, three times
 //! without it; the least time counts.
 
-use second::{Answer, Call};
-use skycorbel::{Buffers, Request};
+use host::outcome::{compare, Outcome};
+use second::generate::{errand, Case};
+use second::LIST_WORDS;
 use std::time::{Duration, Instant};
 
 const AMB: u32 = 0x1000_0000;
@@ -19,17 +20,22 @@ const PATH: u32 = 0xE000_0000;
 
 const TRUE: u32 = 0;
 const NOT: u32 = 0x1000_0000;
+const VOID: u32 = 0x3000_0000;
+const AT: u32 = 0x4000_0000;
 const BESIDE: u32 = 0x5000_0000;
 const SOMETIME: u32 = 0x7000_0000;
 
-struct Case {
+struct Timed {
     name: &'static str,
-    script: Vec<u32>,
-    moves: Vec<u32>,
-    rule: Vec<u32>,
-    patience: u32,
+    case: Case,
     /// Whether full copying can answer it at all.
     copies: bool,
+}
+
+/// A case with the buffers that the program lends.
+fn timed(name: &'static str, (script, moves): (Vec<u32>, Vec<u32>), rule: &[u32], patience: u32) -> Timed {
+    let (buffer, list) = (vec![0; 4096], vec![0; LIST_WORDS]);
+    Timed { name, case: Case { script, moves, rule: rule.to_vec(), patience, buffer, list }, copies: true }
 }
 
 /// Ambients 1, 2, .. of which each can enter each other one.
@@ -76,21 +82,20 @@ fn beside(others: usize, (script, moves): (Vec<u32>, Vec<u32>)) -> (Vec<u32>, Ve
     ([body, &[AMB, NAME | 3, 0].repeat(others), &[0]].concat(), moves)
 }
 
-fn cases(visits: u32) -> Vec<Case> {
-    let walk = |name, script, rule: &[u32]| Case { name, script, moves: Vec::new(), rule: rule.to_vec(), patience: visits, copies: true };
+fn cases(visits: u32) -> Vec<Timed> {
+    let walk = |name, script, rule: &[u32]| timed(name, (script, Vec::new()), rule, visits);
+    let list = |name, listed| timed(name, listed, &[TRUE], 1);
     let parts = [[AMB, NAME | 1, 0].repeat(24), vec![0]].concat();
-    let (doubled, doubled_moves) = doubling(28);
-    let (long, long_moves) = long_list(11);
-    let (wide, wide_moves) = beside(36, long_list(11));
-    let (longest, longest_moves) = long_list(28);
     vec![
         walk("SOMETIME NOT TRUE, eight ambients", entering(8), &[SOMETIME, NOT, TRUE]),
         walk("BESIDE over 24 top parts", parts, &[BESIDE, NOT, TRUE, TRUE]),
         walk("BESIDE over NOT SOMETIME, six ambients", entering(6), &[BESIDE, NOT, SOMETIME, NOT, TRUE, NOT, TRUE]),
-        Case { name: "28 receipts that double", script: doubled, moves: doubled_moves, rule: vec![TRUE], patience: 1, copies: false },
-        Case { name: "4,096 moves, 11 receipts that double", script: long, moves: long_moves, rule: vec![TRUE], patience: 1, copies: true },
-        Case { name: "the same beside 36 ambients", script: wide, moves: wide_moves, rule: vec![TRUE], patience: 1, copies: true },
-        Case { name: "4,096 moves, 28 receipts that double", script: longest, moves: longest_moves, rule: vec![TRUE], patience: 1, copies: false },
+        walk("a yes and its itinerary, five ambients", entering(5), &[SOMETIME, AT | 1, TRUE]),
+        walk("the longest itinerary, 254 moves", errand(254).0, &[SOMETIME, VOID]),
+        Timed { copies: false, ..list("28 receipts that double", doubling(28)) },
+        list("4,096 moves, 11 receipts that double", long_list(11)),
+        list("the same beside 36 ambients", beside(36, long_list(11))),
+        Timed { copies: false, ..list("4,096 moves, 28 receipts that double", long_list(28)) },
     ]
 }
 
@@ -108,26 +113,22 @@ fn least<T>(runs: u32, mut run: impl FnMut() -> T) -> (Duration, T) {
     best.expect("at least one run")
 }
 
-fn report(case: &Case, runs: u32) {
-    let (script, moves, rule, patience) = (&case.script[..], &case.moves[..], &case.rule[..], case.patience);
-    let mut out = [0; 4096];
-    let request = Request { script, moves, rule, patience };
-    let (ours, answer) = least(runs, || host::as_second(skycorbel::call(&request, Buffers { tree: &mut out })));
-    let mut other = [0; 4096];
-    let (theirs, expected): (_, Option<Answer>) = least(runs, || second::call(&Call { script, moves, rule, patience }, &mut other));
+fn report(Timed { name, case, copies }: &Timed, runs: u32) {
+    let (mut out, mut list) = (case.buffer.clone(), case.list.clone());
+    let (ours, answer) = least(runs, || host::call(&case.call(), &mut out, &mut list));
+    let proved = Outcome { answer, out, list };
+    let (mut out, mut list) = (case.buffer.clone(), case.list.clone());
+    let (theirs, expected) = least(runs, || second::call(&case.call(), &mut out, &mut list));
     let unit = if answer.visits > 1 { ("visit", answer.visits) } else { ("move", answer.moves) };
     let each = |time: Duration| time.as_nanos() as f64 / unit.1.max(1) as f64;
-    print!("{:40} {:>10} {}s {:>10.3} ms {:>8.1} ns each", case.name, unit.1, unit.0, ours.as_secs_f64() * 1e3, each(ours));
-    match expected {
-        Some(expected) => {
-            assert!(case.copies && answer == expected && out == other, "the checkers disagree");
-            println!("   second {:>10.3} ms {:>8.1} ns each   {:>6.2} times", theirs.as_secs_f64() * 1e3, each(theirs), theirs.as_secs_f64() / ours.as_secs_f64());
-        }
-        None => {
-            assert!(!case.copies);
-            println!("   second gives up: too large for full copying");
-        }
-    }
+    print!("{name:40} {:>10} {}s {:>10.3} ms {:>8.1} ns each", unit.1, unit.0, ours.as_secs_f64() * 1e3, each(ours));
+    assert_eq!(expected.is_some(), *copies);
+    let Some(answer) = expected else {
+        return println!("   second gives up: too large for full copying");
+    };
+    assert_eq!(compare(case, &proved, &Outcome { answer, out, list }), Ok(()), "the checkers disagree");
+    let times = theirs.as_secs_f64() / ours.as_secs_f64();
+    println!("   second {:>10.3} ms {:>8.1} ns each   {times:>6.2} times", theirs.as_secs_f64() * 1e3, each(theirs));
 }
 
 fn setting(name: &str, otherwise: u32) -> u32 {

@@ -1,7 +1,9 @@
 //! What the source documents show: the families of 000 whose messages double, and the table of 002's section 5.
 
-use host::call;
-use second::{Answer, Call, Verdict};
+use host::outcome::{compare, has_itinerary, Outcome};
+use second::generate::Case;
+use second::itinerary::judge;
+use second::{Answer, Call, Verdict, LIST_WORDS};
 use std::time::Instant;
 
 const AMB: u32 = 0x1000_0000;
@@ -24,6 +26,21 @@ const SOMEWHERE: u32 = 0x8000_0000;
 
 fn move_word(actor: u32, target: u32) -> u32 {
     0x1000_0000 | actor << 8 | target
+}
+
+/// The proved call's answer. Where it has an itinerary, that one leads where it must, and no other word of the list changes.
+fn call(script: &[u32], moves: &[u32], rule: &[u32], patience: u32, out: &mut [u32]) -> Answer {
+    let c = Call { script, moves, rule, patience };
+    let mut list = [9; LIST_WORDS];
+    let answer = host::call(&c, out, &mut list);
+    let (itinerary, behind) = list.split_at(answer.itinerary as usize);
+    assert!(behind.iter().all(|word| *word == 9));
+    if has_itinerary(rule, &answer) {
+        assert_eq!(judge(&c, itinerary), Ok(()), "{itinerary:X?}");
+    } else {
+        assert!(itinerary.is_empty());
+    }
+    answer
 }
 
 /// A script in which a message is handed through receipts, each of which makes so many copies of it in one path, and its
@@ -70,7 +87,7 @@ const IN_AND_OUT: &[u32] = &[PATH, IN, NAME | 2, EXIT, NAME | 2];
 
 fn refused(question: u32, moves: u32, visits: u32) -> Answer {
     let verdict = Verdict::Refused { question, place: 0 };
-    Answer { verdict, moves, visits, deepest: 0, weight: 0, words: 0 }
+    Answer { verdict, moves, visits, deepest: 0, weight: 0, words: 0, itinerary: 0 }
 }
 
 /// 000, section 2: after k + 1 receipts and 2^(k + 1) moves p and q stand empty. All of k with at most 4,096 moves.
@@ -91,7 +108,7 @@ fn the_doubling_family_to_its_end() {
         let moves = family.moves.len() as u32 - 1;
         let verdict = Verdict::Refused { question: 16, place: moves };
         let more = call(&family.script, &family.moves, &[TRUE], 99, &mut out);
-        assert_eq!(more, Answer { verdict, moves, visits: 0, deepest: 0, weight: 0, words: 0 });
+        assert_eq!(more, Answer { verdict, moves, visits: 0, deepest: 0, weight: 0, words: 0, itinerary: 0 });
     }
 }
 
@@ -165,7 +182,7 @@ fn messages_of_many_leaves() {
     }
 }
 
-/// Where full copying can follow, both checkers agree on these families, the written tree too.
+/// Where full copying can follow, both checkers agree on these families, the written tree too; itineraries are replayed.
 #[test]
 fn both_agree_on_short_ones() {
     for bits in 0..=12 {
@@ -173,11 +190,10 @@ fn both_agree_on_short_ones() {
             let mut long = handed(message, &vec![2; bits], p_and_q);
             long.moves.extend(vec![move_word(long.part + 1, long.part + 2); 3]);
             for made in 0..=long.moves.len() {
-                let (mut ours, mut theirs) = (vec![9; 40_000], vec![9; 40_000]);
-                let (script, moves, rule, patience) = (&long.script[..], &long.moves[..made], &[SOMETIME, AT | 2, TRUE][..], 40);
-                let expected = second::call(&Call { script, moves, rule, patience }, &mut theirs).expect("short enough");
-                assert_eq!(call(script, moves, rule, patience, &mut ours), expected);
-                assert!(ours == theirs);
+                let (script, moves, rule) = (long.script.clone(), long.moves[..made].to_vec(), vec![SOMETIME, AT | 2, TRUE]);
+                let case = Case { script, moves, rule, patience: 40, buffer: vec![9; 40_000], list: vec![9; LIST_WORDS] };
+                let second = Outcome::second(&case).expect("short enough");
+                assert_eq!(compare(&case, &Outcome::proved(&case), &second), Ok(()), "{bits}: {made} moves of {message:X?}");
             }
         }
     }

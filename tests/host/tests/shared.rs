@@ -3,8 +3,8 @@
 mod checker {
     use second::{Answer, Call};
 
-    pub fn call(c: &Call, out: &mut [u32]) -> Option<Answer> {
-        Some(host::call(c.script, c.moves, c.rule, c.patience, out))
+    pub fn call(c: &Call, out: &mut [u32], list: &mut [u32]) -> Option<Answer> {
+        Some(host::call(c, out, list))
     }
 
     pub fn printed(input: &[u8]) -> Option<String> {
@@ -14,5 +14,7 @@ mod checker {
 
 #[path = "../../shared/examples.rs"]
 mod examples;
+#[path = "../../shared/itineraries.rs"]
+mod itineraries;
 #[path = "../../shared/refusals.rs"]
 mod refusals;

@@ -1,6 +1,9 @@
-//! The deepest walks, 256 visits one inside another, with 2 MiB of stack.
+//! The deepest walks, 256 visits one inside another, with 2 MiB of stack: the program's, and the call's with the longest
+//! itinerary.
 
 use host::program::{input, printed_on_stack};
+use second::generate::errand;
+use second::{Call, Verdict, LIST_WORDS};
 
 const AMB: u32 = 0x1000_0000;
 const ACT: u32 = 0x2000_0000;
@@ -34,6 +37,29 @@ fn deepest(rule: &[u32]) -> String {
 fn through_sometime() {
     assert_eq!(deepest(&[0x7000_0000, 0x3000_0000]), "refused 17 at 1\n");
     assert_eq!(deepest(&[0x7000_0000, 0x1000_0000, 0]), "refused 17 at 2\n");
+}
+
+/// A yes at depth 256, after 254 moves.
+#[test]
+fn to_a_yes() {
+    let (script, _) = errand(254);
+    let text = printed_on_stack(2048, &input(&script, &[], &[0x7000_0000, 0x3000_0000], 16_777_216));
+    assert!(text.starts_with("yes moves 0 visits 510 deepest 256 weight 4 words"), "{text}");
+}
+
+/// The same yes, on a thread of a host: the call with its itinerary of 254 moves.
+#[test]
+fn the_longest_itinerary() {
+    let on_thread = || {
+        let (script, moves) = errand(254);
+        let c = Call { script: &script, moves: &[], rule: &[0x7000_0000, 0x3000_0000], patience: 16_777_216 };
+        let (mut out, mut list) = (vec![0; 4096], vec![0; LIST_WORDS]);
+        let answer = host::call(&c, &mut out, &mut list);
+        assert_eq!((answer.verdict, answer.deepest), (Verdict::Accepted(true), 256));
+        assert_eq!(list[..answer.itinerary as usize], moves);
+    };
+    let thread = std::thread::Builder::new().stack_size(2 << 20).spawn(on_thread);
+    thread.expect("a thread").join().expect("2 MiB are enough");
 }
 
 /// As many words of each kind as may be around a SOMETIME, which then goes down to 256. The script has five parts, so that
