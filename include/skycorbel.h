@@ -22,7 +22,7 @@ enum {
     SKYCORBEL_DEEPEST = 5,   /* the greatest depth; 0 where refused, as the next three */
     SKYCORBEL_WEIGHT = 6,    /* parts in the tree plus twice the receipts made, at most 64 */
     SKYCORBEL_WORDS = 7,     /* words of the tree, which stand at the start of out */
-    SKYCORBEL_ITINERARY = 8, /* moves of the itinerary, which stand at the start of list, at most 254 */
+    SKYCORBEL_ITINERARY = 8, /* moves of the itinerary, which stand at the start of list, at most 256 */
     SKYCORBEL_ANSWER_WORDS = 9
 };
 

@@ -99,7 +99,7 @@ pub struct Answer<'b> {
     /// refused.
     pub tree: &'b [u32],
     /// Where the rule begins with SOMETIME and the verdict is yes: move words that lead from the tree that stands after the
-    /// moves to one that meets the rule inside SOMETIME. They are the words of the lent buffer that were written, at most 254,
+    /// moves to one that meets the rule inside SOMETIME. They are the words of the lent buffer that were written, at most 256,
     /// and none where that tree meets it as it stands. In every other case there are none.
     pub itinerary: &'b [u32],
 }
