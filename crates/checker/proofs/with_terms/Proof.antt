@@ -63,6 +63,11 @@ returns c =
     let l = ended-list (halted c) in
     list-refused (list-start l .pre) (began (list-lent l)) (l .run-list .ensures) _ _ (halted c .ended .given .1) (c .refused .ensures)
 
+returns-2 : tie.Need-returns-2
+returns-2 c =
+    let d = concluded c in let w = concluded-walked d in let b = walked-borrowed w in let l = borrowed-list b in
+    list-answered (list-start l .pre) (began (list-lent l)) (l .run-list .ensures) (made b .enum-told .given .1) (b .from-arrays .ensures) (w .walk-standing .result) (w .walk-standing .ensures) _ _ _ _ (d .conclude .ensures)
+
 walk-standing-requires : tie.Need-walk-standing-requires
 walk-standing-requires c κs =
     let b = found-borrowed c in let l = borrowed-list b in
@@ -72,11 +77,6 @@ conclude-requires : tie.Need-conclude-requires
 conclude-requires c κs =
     let w = asked-walked c in let b = walked-borrowed w in let l = borrowed-list b in
     list-concludable (list-start l .pre) (began (list-lent l)) (l .run-list .ensures) (made b .enum-told .given .1) (b .from-arrays .ensures) (w .walk-standing .result) (w .walk-standing .ensures)
-
-returns-2 : tie.Need-returns-2
-returns-2 c =
-    let d = concluded c in let w = concluded-walked d in let b = walked-borrowed w in let l = borrowed-list b in
-    list-answered (list-start l .pre) (began (list-lent l)) (l .run-list .ensures) (made b .enum-told .given .1) (b .from-arrays .ensures) (w .walk-standing .result) (w .walk-standing .ensures) _ _ _ _ (d .conclude .ensures)
 
 pub with-terms-spec : {M : Type 1} → statement M
 with-terms-spec =
