@@ -3,17 +3,17 @@
 -- Assumes nothing.
 use Prim.Native.Nat.{ℕ, _+_, _≤_, _<_}
 use mathlib.Core.Bool.{true}
-use mathlib.Core.List.{List, [], _++_}
+use mathlib.Core.List.{List, []}
 use mathlib.Core.Path.{_≡_, refl, sym, ap, _∙_, subst}
 use mathlib.Core.Logic.{_⊎_, inl, inr}
 use native.Mathlib.Omega.{arith}
 use lib.Dec.{eqb}
-use lib.ListN.{length, drop, getD}
+use lib.ListN.{getD}
 use borrow.Author.Tests.{eqb-true, eqb-false}
 use Rattle.read_messages.specs.Words.{kind}
 use Rattle.base_slices.proofs.Tests.{byTest}
 use Rattle.theory_machine.specs.PlainMachine.{Machine}
-use Rattle.theory_closures.specs.Closure.{ClosureMachine, unfolded, unfoldMachine}
+use Rattle.theory_closures.specs.Closure.{ClosureMachine, unfoldMachine}
 use Rattle.read_rule_words.specs.Rule.{Rule, sometime, Later}
 use Rattle.read_rule_words.proofs.Order.{rule-ordered}
 use Rattle.theory_calculus.proofs.Kept.{Good, good-move}
@@ -29,7 +29,7 @@ use Rattle.theory_call.specs.Call.{Call, completed, run, partsOf, settin
 use Rattle.theory_call.specs.ClosureCall.{closureRun, unfoldRan}
 use Rattle.theory_call.specs.ClosureCall as closures
 use Rattle.theory_call.specs.Standing.{Standing}
-use Rattle.theory_call.specs.Itinerary.{Leads, FirstSometime, Itinerary, Unlisted, Listed}
+use Rattle.theory_call.specs.Itinerary.{Leads, Unlisted, Listed}
 use Rattle.theory_call.proofs.Runs.{run-keeps}
 use Rattle.theory_call.proofs.ClosureRuns.{GoodMachine, run-unfolded}
 use Rattle.theory_call.proofs.Called.{Leaves, run-good}
@@ -82,20 +82,6 @@ module _ (c : Call) (s : Standing c) (q : Rule) (first : s .rule .0 ≡ sometime
     closure-leads left depth before after w =
         walk-leads ws (unfoldMachine l) run-made left depth before after
         (sym (walk-related Unfolds (closureSpace limit) (plainSpace limit) (closures-related limit) (setting c (s .start)) left depth [] q l (unfoldMachine l .tree) end-unfolds before) ∙ w)
-
-    -- THEOREM: so they are an itinerary, if they are written at the start of the list.
-    pub closure-itinerary : (left depth : ℕ) (before after : Count) → walk (closureSpace limit) (setting c (s .start)) left depth [] q l before ≡ says true after
-        → (count : ℕ) (list : List ℕ) → count ≡ length ws → count ≤ 256 → list ≡ ws ++ drop count (c .list) → Itinerary c count list
-    closure-itinerary left depth before after w count list e h d = record {
-      standing = s;
-      inner = q;
-      first = first;
-      moves = ws;
-      leads = closure-leads left depth before after w;
-      counted = e;
-      few = h;
-      written = d;
-    }
 
 -- ---- the count
 
