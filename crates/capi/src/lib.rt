@@ -6,7 +6,7 @@ ghost use lib.ListN.{getD};
 ghost use Rattle.call_answers.specs.Answering.{callOf};
 ghost use Rattle.theory_call.specs.Standing.{MovesBounded};
 ghost use Rattle.theory_call.specs.Itinerary.{Listed};
-ghost use Rattle.capi.specs.Told.{returned, answered, bufferAfter, Decided, WeighedBy, ReducedBy, ReturnedBy, ReadmittedBy, treeWords, countTold};
+ghost use Rattle.host_answer_words.specs.Buffers.{returned, answered, bufferAfter, Decided, WeighedBy, ReducedBy, ReturnedBy, ReadmittedBy, treeWords, countTold};
 
 // The whole call. Where `answer` has fewer than nine words, nothing is done.
 #[no_mangle]

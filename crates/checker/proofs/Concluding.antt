@@ -1,7 +1,7 @@
 -- The end of the call: the walk's answer on the state that stands is the call's, and so decided by the paper's own relation.
 -- Assumes nothing.
 use Prim.Native.Nat.{ℕ, _+_, _-_, _≤_}
-use mathlib.Core.Bool.{true, false}
+use mathlib.Core.Bool.{true}
 use mathlib.Core.List.{List, [], _++_}
 use mathlib.Core.Path.{_≡_, refl, sym, ap, _∙_, subst, transport}
 use native.Mathlib.Omega.{arith}
@@ -30,7 +30,7 @@ use Rattle.walk_stages.specs.declared.Limits.{Limits}
 use Rattle.walk_stages.specs.declared.Walked.{Walked}
 use Rattle.walk_stages.specs.declared.Walked.the-variants.{Yes, No, Stopped}
 use Rattle.read_rule_words.proofs.Order.{rule-ordered}
-use Rattle.theory_call.specs.Call.{Call, Verdict, accepted, refused, leftBy, refusal, roomy, finish, walked, startOf, setting, answer}
+use Rattle.theory_call.specs.Call.{Call, accepted, leftBy, refusal, roomy, finish, walked, startOf, setting, answer}
 use Rattle.theory_call.specs.Call as plain
 use Rattle.theory_call.specs.ClosureCall.{completed, closureRun, unfoldRan, begun}
 use Rattle.call_answers.specs.Answering.{verdictOf, answerOf, callOf, CallGives, Greatest}
@@ -47,27 +47,8 @@ use Rattle.theory_call.proofs.Reducing.{reduces}
 use Rattle.theory_call.proofs.Leaving.{returned, readmitted}
 use Rattle.theory_call.proofs.Called.{run-leaves-good, answers-walked}
 use Rattle.theory_call.proofs.Itineraries.{closure-leads}
-use Rattle.theory_call.proofs.Verdicts.{answer-stands, standing-good, verdict-yes, verdict-no}
+use Rattle.theory_call.proofs.Verdicts.{no-is-yes, refusal-is-yes, yes-or-not, standing-good, decides}
 use Rattle.checker.proofs.Calling.{number-is, enters, short}
-
--- ---- yes and other verdicts
-
-abbrev numberOf : Verdict → ℕ
-numberOf (accepted true) = 0
-numberOf (accepted false) = 1
-numberOf (refused q i) = 2
-
-no-is-yes : {B : Type 0} → accepted false ≡ accepted true → B
-no-is-yes e = let z : _≡_ {A = ℕ} 1 0 = ap numberOf e in absurd (let o : ⊥ = omega arith in o)
-
-refusal-is-yes : {B : Type 0} {q i : ℕ} → refused q i ≡ accepted true → B
-refusal-is-yes e = let z : _≡_ {A = ℕ} 2 0 = ap numberOf e in absurd (let o : ⊥ = omega arith in o)
-
--- a verdict is yes, or another
-pub yes-or-not : {B : Type 0} (v : Verdict) → (v ≡ accepted true → B) → (¬ (v ≡ accepted true) → B) → B
-yes-or-not (accepted true) f g = f refl
-yes-or-not (accepted false) f g = g (λ e. no-is-yes e)
-yes-or-not (refused q i) f g = g (λ e. refusal-is-yes e)
 
 -- ---- questions 17 to 19
 
@@ -211,13 +192,6 @@ pub walk-standing-says : (script moves words : List ℕ) (patience : ℕ) (list 
 walk-standing-says script moves words patience list t u s S g G w count found W R = walk-says S g G w count found W R
 
 -- ---- demand 2
-
--- THEOREM: what the call answers is decided by the paper's own relation.
-pub decides : (c : Call) (v : Verdict) → answer c .verdict ≡ v → Decides c v
-unfolding Decides
-decides c (accepted true) e = let s = answer-stands c true e in (s, verdict-yes c s e)
-decides c (accepted false) e = let s = answer-stands c false e in (s, verdict-no c s e)
-decides c (refused q i) e = tt
 
 -- THEOREM: an answer that is the plain machine's, with the buffer, is decided by the paper's own relation, keeps the bound and
 -- the weight, and its moves are the paper's reductions; the trees that they leave are read again as they are written.

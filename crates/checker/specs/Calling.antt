@@ -17,7 +17,7 @@ use Rattle.read_rules.specs.declared.RuleTable.{RuleTable}
 use Rattle.theory_closures.specs.Closure.{Closure, ClosureMachine, unfoldMachine}
 use Rattle.engine_states.specs.Represents.{boundIn, Ready, Represents}
 use Rattle.engine_states.specs.declared.State.{State}
-use Rattle.write_trees.specs.Bodies.{Scripted}
+use Rattle.write_heads.specs.Heads.{Scripted}
 use Rattle.theory_decision.specs.Walk.{walkFrom}
 use Rattle.theory_decision.specs.Walk as spec
 use Rattle.theory_decision.specs.ClosureWalk.{closureSpace}

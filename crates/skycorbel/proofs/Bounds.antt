@@ -16,7 +16,8 @@ use Rattle.call_answers.specs.Answering.{callOf}
 use Rattle.program_digits.specs.Digits.{digit, hexadecimal, line, lines, decimalBy, decimal, Puts}
 use Rattle.program_text.specs.Text.{refusedText, atText, movesText, visitsText, deepestText, weightText, wordsText, refusalText, unfitText, countsText, saidText, verdictText}
 use Rattle.program_replies.specs.Reply.{counted, replied, callReply, ruleReply, movesReply, scriptReply, wordsReply}
-use Rattle.skycorbel.specs.Input.{wordsOf, reply}
+use Rattle.program_words.specs.Words.{wordsOf}
+use Rattle.skycorbel.specs.Input.{reply}
 use Rattle.skycorbel.specs.Right.{Right}
 use Rattle.skycorbel.proofs.Deciding.{reply-right}
 

@@ -15,12 +15,13 @@ use Rattle.theory_call.specs.Call.{Call, Verdict, accepted, refused, Answer, an
 use Rattle.theory_call.specs.Standing.{Decides}
 use Rattle.theory_call.proofs.Answers.{refused≢accepted}
 use Rattle.call_answers.specs.Answering.{callOf}
-use Rattle.checker.proofs.Concluding.{decides}
+use Rattle.theory_call.proofs.Verdicts.{decides}
 use Rattle.program_text.specs.Text.{refusalText, unfitText, saidText, verdictText}
 use Rattle.program_replies.specs.Reply.{counted, replied, callReply, ruleReply, movesReply, scriptReply, wordsReply}
-use Rattle.skycorbel.specs.Input.{wordsOf, reply}
+use Rattle.program_words.specs.Words.{wordsOf}
+use Rattle.skycorbel.specs.Input.{reply}
 use Rattle.skycorbel.specs.Right.{counting, inputWords, Asks, Begins, Right}
-use Rattle.skycorbel.proofs.Reading.{length-words}
+use Rattle.program_words.proofs.Reading.{length-words}
 
 -- ---- the first byte of a text
 

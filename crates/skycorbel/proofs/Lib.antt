@@ -1,5 +1,4 @@
--- The laws of the program's input, of its replies, that they are right, and that they fit.
-pub mod Reading
+-- The laws of the program's replies, that they are right, and that they fit.
 pub mod Replies
 pub mod Deciding
 pub mod Bounds

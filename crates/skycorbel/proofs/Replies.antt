@@ -8,7 +8,8 @@ use Rattle.program_digits.specs.Digits.{Puts}
 use Rattle.program_digits.proofs.Putting.{puts-as}
 use Rattle.program_text.specs.Text.{unfitText}
 use Rattle.program_replies.specs.Reply.{wordsReply}
-use Rattle.skycorbel.specs.Input.{wordsOf, reply}
+use Rattle.program_words.specs.Words.{wordsOf}
+use Rattle.skycorbel.specs.Input.{reply}
 
 module _ {old new : List ℕ} {at next : ℕ} where
   pub puts-long : (s : List ℕ) → 24576 < length s → Puts old new at next unfitText → Puts old new at next (reply s)

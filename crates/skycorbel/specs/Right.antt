@@ -7,7 +7,7 @@ use lib.ListN.{length, take, replicate}
 use Rattle.theory_call.specs.Call.{Call}
 use Rattle.theory_call.specs.Standing.{Standing, Holds}
 use Rattle.program_text.specs.Text.{yesText, noText}
-use Rattle.skycorbel.specs.Input.{wordsOf}
+use Rattle.program_words.specs.Words.{wordsOf}
 
 -- a list behind its count
 abbrev pub counting : List ℕ → List ℕ

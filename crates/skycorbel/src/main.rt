@@ -3,45 +3,16 @@
 use base_slices::head;
 use program_replies::reply_to_words;
 use program_text::put_unfit;
+use program_words::unpack;
 ghost use mathlib.Core.Path.{_≡_};
-ghost use Prim.Native.Nat.{_+_, _*_, _≤_, _<_};
-ghost use lib.ListN.{length, take, drop};
+ghost use Prim.Native.Nat.{_*_, _≤_};
+ghost use lib.ListN.{length, take};
 ghost use Rattle.io.specs.Counts.{Counts};
 ghost use Rattle.program_digits.specs.Digits.{Puts};
 ghost use Rattle.program_replies.specs.Reply.{wordsReply};
-ghost use Rattle.skycorbel.specs.Input.{wordOf, wordsOf, reply as replyOf};
+ghost use Rattle.program_words.specs.Words.{wordsOf};
+ghost use Rattle.skycorbel.specs.Input.{reply as replyOf};
 ghost use Rattle.skycorbel.specs.Right.{Right};
-
-// A byte as a word.
-fn wide(x: u8) -> u32
-    ensures same { λ r. ⌜ r ≡ x ⌝ }
-    ensures small { λ r. ⌜ r < 256 ⌝ }
-{
-    x as u32
-}
-
-// The little-endian word at an index.
-fn word_at(input: &[u8], at: usize) -> u32
-    requires { ⌜ at + 4 ≤ length (now input) ⌝ }
-    ensures { λ r. ⌜ r ≡ wordOf (drop at (now (input .entry))) ⌝ }
-{
-    let low = wide(input[at]) + 256 * wide(input[at + 1]);
-    let high = wide(input[at + 2]) + 256 * wide(input[at + 3]);
-    low + 65536 * high
-}
-
-// The input's words.
-fn unpack(input: &[u8], count: usize, words: &mut [u32])
-    requires whole { ⌜ 4 * count ≤ length (now input) ⌝ }
-    requires room { ⌜ count ≤ length (now words) ⌝ }
-    ensures { λ _. ⌜ take count (now (words .exit)) ≡ wordsOf count (now (input .entry)) ⌝ }
-{
-    let mut i: usize = 0;
-    while i < count {
-        words[i] = word_at(input, 4 * i);
-        i += 1;
-    }
-}
 
 // The reply to an input of so many whole words.
 fn reply_to_bytes(input: &[u8], count: usize, text: &mut [u8]) -> usize

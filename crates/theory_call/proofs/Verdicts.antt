@@ -3,7 +3,7 @@
 use Prim.Native.Nat.{ℕ, _+_, _≤_, _<_}
 use mathlib.Core.Bool.{Bool, true, false}
 use mathlib.Core.List.{[]}
-use mathlib.Core.Path.{_≡_, subst}
+use mathlib.Core.Path.{_≡_, refl, ap, subst}
 use mathlib.Core.Logic.{_↔_}
 use native.Mathlib.Omega.{arith}
 use Rattle.read_messages.specs.Reading.{got}
@@ -16,8 +16,8 @@ use Rattle.theory_calculus.proofs.Kept.{Good, good-move}
 use Rattle.theory_calculus.proofs.Agreement.{agree}
 use Rattle.theory_decision.proofs.Fits.{Fits, fits-more, rule-more, move-fits}
 use Rattle.theory_decision.proofs.Deciding.{Known, walk-yes, walk-no}
-use Rattle.theory_call.specs.Call.{Call, accepted, answer, Start, partsOf, setting, starting}
-use Rattle.theory_call.specs.Standing.{Standing, Meets, Holds}
+use Rattle.theory_call.specs.Call.{Call, Verdict, accepted, refused, answer, Start, partsOf, setting, starting}
+use Rattle.theory_call.specs.Standing.{Standing, Meets, Holds, Decides}
 use Rattle.theory_call.proofs.Runs.{run-keeps}
 use Rattle.theory_call.proofs.Door.{script-fits, rule-fits}
 use Rattle.theory_call.proofs.Begun.{script-good}
@@ -87,3 +87,29 @@ verdict-yes c s e = meets-holds c s .0 (answer-yes c s e)
 
 pub verdict-no : (c : Call) (s : Standing c) → answer c .verdict ≡ accepted false → ¬ Holds c s
 verdict-no c s e h = answer-no c s e (meets-holds c s .1 h)
+
+-- THEOREM: what the call answers is decided by the paper's own relation.
+pub decides : (c : Call) (v : Verdict) → answer c .verdict ≡ v → Decides c v
+unfolding Decides
+decides c (accepted true) e = let s = answer-stands c true e in (s, verdict-yes c s e)
+decides c (accepted false) e = let s = answer-stands c false e in (s, verdict-no c s e)
+decides c (refused q i) e = tt
+
+-- ---- yes and other verdicts
+
+abbrev numberOf : Verdict → ℕ
+numberOf (accepted true) = 0
+numberOf (accepted false) = 1
+numberOf (refused q i) = 2
+
+pub no-is-yes : {B : Type 0} → accepted false ≡ accepted true → B
+no-is-yes e = let z : _≡_ {A = ℕ} 1 0 = ap numberOf e in absurd (let o : ⊥ = omega arith in o)
+
+pub refusal-is-yes : {B : Type 0} {q i : ℕ} → refused q i ≡ accepted true → B
+refusal-is-yes e = let z : _≡_ {A = ℕ} 2 0 = ap numberOf e in absurd (let o : ⊥ = omega arith in o)
+
+-- a verdict is yes, or another
+pub yes-or-not : {B : Type 0} (v : Verdict) → (v ≡ accepted true → B) → (¬ (v ≡ accepted true) → B) → B
+yes-or-not (accepted true) f g = f refl
+yes-or-not (accepted false) f g = g (λ e. no-is-yes e)
+yes-or-not (refused q i) f g = g (λ e. refusal-is-yes e)

@@ -1,4 +1,3 @@
 -- The laws of `write_trees` that its own proofs cite.
-pub mod Parts
 pub mod Writing
 pub mod Answers

@@ -11,8 +11,9 @@ use Rattle.theory_written_trees.specs.Write.{Indices, writeHead, within, write,
 use Rattle.theory_written_trees.proofs.Trees.{some-written}
 use Rattle.write_messages.specs.Buffer.{Wrote}
 use Rattle.write_messages.proofs.Lending.{lent, joined, Partly, partly-within, wrote-as, wrote-then, wrote-full}
-use Rattle.write_trees.specs.Bodies.{hasBody, Writes, WritesPart}
-use Rattle.write_trees.proofs.Parts.{no-tops, no-parts, part-body, part-only, by-first}
+use Rattle.write_heads.specs.Heads.{hasBody}
+use Rattle.write_heads.proofs.Parts.{no-tops, no-parts, part-body, part-only, by-first}
+use Rattle.write_trees.specs.Bodies.{Writes, WritesPart}
 
 module _ {ix : Indices} {σ : Bindings} {k : ℕ → List ℕ} {w : ℕ → ClosureHead} {left : List ℕ} {i fuel : ℕ} where
   -- a buffer of no words has no room for any body

@@ -1,5 +1,4 @@
 -- What the contracts of `write_trees` cite. Assumes nothing: these are definitions.
 pub mod Room
-pub mod Around
 pub mod Bodies
 pub mod Asked

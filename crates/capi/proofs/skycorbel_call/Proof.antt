@@ -1,6 +1,6 @@
 -- `skycorbel_call` meets its contract: where there is room the call is made and told, its numbers being words, else nothing
 -- is done. Assumes nothing.
-use Rattle.capi.proofs.Kept.{short, told-whole, tellable}
+use Rattle.host_answer_words.proofs.Kept.{short, told-whole, tellable}
 use borrow.Author.Needs.{needs}
 use Rattle.capi.proofs.skycorbel_call.Statement.{statement}
 use Rattle.capi.proofs.skycorbel_call.Tie as tie

@@ -15,11 +15,13 @@ use Rattle.engine_states.specs.Represents.{headOf}
 use Rattle.theory_written_trees.specs.Write.{Indices, writeHead, within}
 use Rattle.write_messages.specs.Buffer.{Wrote}
 use Rattle.write_messages.proofs.Lending.{lent, joined, Partly, partly-lent, lent-sum, partly-kept}
-use Rattle.write_trees.specs.Asked.{AroundAsked, PartAsked, BodyAsked}
-use Rattle.write_trees.specs.Around.{BodyAround}
-use Rattle.write_trees.specs.Bodies.{hasBody, Writes, WritesPart}
-use Rattle.write_trees.specs.declared.Around.{Around}
-use Rattle.write_trees.proofs.Parts.{part-placed, part-small}
+use Rattle.write_heads.specs.Asked.{AroundAsked}
+use Rattle.write_heads.specs.Around.{BodyAround}
+use Rattle.write_heads.specs.Heads.{hasBody}
+use Rattle.write_heads.specs.declared.Around.{Around}
+use Rattle.write_heads.proofs.Heads.{part-placed, part-small}
+use Rattle.write_trees.specs.Asked.{PartAsked, BodyAsked}
+use Rattle.write_trees.specs.Bodies.{Writes, WritesPart}
 use Rattle.write_trees.proofs.Writing.{writes-full, writes-none, writes-end, writes-more, writes-inside, writes-only}
 use borrow.Fn.Kinds.{In, Out}
 use borrow.Fn.PlainCycle.{Measures, is, falls, and}
@@ -31,9 +33,9 @@ use Rattle.write_trees.proofs.write_part.Kinds as part-kinds
 use Rattle.write_trees.proofs.+write_body+write_part.Lts-write_part as part-lts
 use Rattle.base_sets.proofs.first.Reads as first
 use Rattle.base_sets.proofs.rest.Reads as rest
-use Rattle.write_trees.proofs.around_body.Reads as around-body
-use Rattle.write_trees.proofs.has_body.Reads as has-body
-use Rattle.write_trees.proofs.write_head.Reads as write-head
+use Rattle.write_heads.proofs.around_body.Reads as around-body
+use Rattle.write_heads.proofs.has_body.Reads as has-body
+use Rattle.write_heads.proofs.write_head.Reads as write-head
 use Rattle.write_messages.proofs.write_word.Reads as write-word
 use Rattle.write_trees.proofs.+write_body+write_part.{statement}
 use Rattle.write_trees.proofs.+write_body+write_part.Tie.{close}

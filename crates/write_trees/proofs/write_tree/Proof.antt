@@ -10,10 +10,12 @@ use Rattle.read_scripts.specs.Represents.{Held}
 use Rattle.theory_closures.specs.Closure.{ClosureHead, Closure, Bindings, unfolded}
 use Rattle.theory_written_trees.specs.Write.{Indices, write}
 use Rattle.write_trees.specs.Room.{Fitted}
-use Rattle.write_trees.specs.Asked.{TreeAsked, BodyAsked}
-use Rattle.write_trees.specs.Around.{NoneAround}
-use Rattle.write_trees.specs.Bodies.{CountsBody, Writes}
-use Rattle.write_trees.specs.declared.Around.{Around}
+use Rattle.write_heads.specs.Around.{NoneAround}
+use Rattle.write_heads.specs.declared.Around.{Around}
+use Rattle.write_counts.specs.Asked.{TreeAsked}
+use Rattle.write_counts.specs.Counts.{CountsBody}
+use Rattle.write_trees.specs.Asked.{BodyAsked}
+use Rattle.write_trees.specs.Bodies.{Writes}
 use Rattle.write_trees.specs.declared.Fitting.the-variants.{Words, Refused}
 use Rattle.write_messages.proofs.Lending.{wrote-as}
 use Rattle.write_trees.proofs.Answers.{over-limit, over-buffer, fitted}

@@ -1,0 +1,2 @@
+-- The laws of the words that bytes spell.
+pub mod Reading

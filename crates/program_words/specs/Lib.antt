@@ -1,0 +1,2 @@
+-- What the contracts of `program_words` cite. Assumes nothing: these are definitions.
+pub mod Words

@@ -1,0 +1,2 @@
+-- How many words parts and bodies are written with.
+mod Counting
