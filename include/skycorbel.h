@@ -18,7 +18,7 @@ enum {
     SKYCORBEL_QUESTION = 1,  /* the number of the question that refuses, 1 to 19 or 21; else 0 */
     SKYCORBEL_PLACE = 2,     /* its place, at most 4096; else 0 */
     SKYCORBEL_MOVES = 3,     /* moves made, at most 4096 */
-    SKYCORBEL_VISITS = 4,    /* visits made; SOMETIME tries moves by rising target, then rising actor */
+    SKYCORBEL_VISITS = 4,    /* visits made */
     SKYCORBEL_DEEPEST = 5,   /* the greatest depth; 0 where refused, as the next three */
     SKYCORBEL_WEIGHT = 6,    /* parts in the tree plus twice the receipts made, at most 64 */
     SKYCORBEL_WORDS = 7,     /* words of the tree, which stand at the start of out */

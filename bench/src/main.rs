@@ -90,7 +90,7 @@ fn cases(visits: u32) -> Vec<Timed> {
         walk("SOMETIME NOT TRUE, eight ambients", entering(8), &[SOMETIME, NOT, TRUE]),
         walk("BESIDE over 24 top parts", parts, &[BESIDE, NOT, TRUE, TRUE]),
         walk("BESIDE over NOT SOMETIME, six ambients", entering(6), &[BESIDE, NOT, SOMETIME, NOT, TRUE, NOT, TRUE]),
-        walk("a yes and its itinerary, five ambients", entering(5), &[SOMETIME, AT | 2, TRUE]),
+        walk("a yes and its itinerary, five ambients", entering(5), &[SOMETIME, AT | 1, TRUE]),
         walk("the longest itinerary, 254 moves", errand(254).0, &[SOMETIME, VOID]),
         Timed { copies: false, ..list("28 receipts that double", doubling(28)) },
         list("4,096 moves, 11 receipts that double", long_list(11)),

@@ -126,7 +126,7 @@ fn it_begins_behind_the_list() {
     assert_eq!(judge(&c, LEFT), Err(Fault::NoMove(Refusal::new(16, 0))));
 }
 
-/// The walk tries the lower target first, comes to an end there and goes back: its moves are not in the list.
+/// The walk tries the lower actor first, comes to an end there and goes back: its moves are not in the list.
 #[test]
 fn a_way_that_was_given_up() {
     // 1 with "enter 2, exit 2, enter 2" and with "enter 3", beside 2 and 3.
@@ -177,23 +177,17 @@ fn inner_rules_with_variables_and_placed() {
 }
 
 /// The longest: its last visit is at depth 256. One move more is refused by 17, and one visit fewer by 18.
-///
-/// SOMETIME and VOID are visited before each of its moves and after the last, and so they are on the ways that are given
-/// up: wherever 1 stands beside the action that opens it and has steps left, 126 times, opening it is the move of the lower
-/// target. It is followed by the other openings, and the steps are left.
 #[test]
 fn of_254_moves() {
     let (script, list) = errand(254);
-    let visits = 2 * 255 + 126 * 2 * 2;
-    let c = Call { script: &script, moves: &[], rule: &[SOMETIME, VOID], patience: visits };
+    let c = Call { script: &script, moves: &[], rule: &[SOMETIME, VOID], patience: 510 };
     let (answer, itinerary) = asked(&c);
-    assert_eq!((answer.verdict, answer.visits, answer.deepest, answer.itinerary), (YES, visits, 256, 254));
+    assert_eq!((answer.verdict, answer.visits, answer.deepest, answer.itinerary), (YES, 510, 256, 254));
     assert_eq!(itinerary, list);
-    none(&Call { patience: visits - 1, ..c }, 18, 1, visits - 1);
-    // Three openings, and SOMETIME at depth 256.
+    none(&Call { patience: 509, ..c }, 18, 1, 509);
     let (script, list) = errand(255);
     let c = Call { script: &script, patience: 100_000, ..c };
-    none(&c, 17, 1, 2 * 255 + 1 + 126 * 2 * 3);
+    none(&c, 17, 1, 511);
     // After the first of its moves 254 are left.
     assert_eq!(leads(&Call { moves: &list[..1], ..c }), list[1..]);
 }
@@ -239,7 +233,7 @@ fn refused_by_19_after_the_yes() {
 #[test]
 fn lists_of_other_lengths_and_contents() {
     let (script, list) = errand(254);
-    let c = Call { script: &script, moves: &[], rule: &[SOMETIME, VOID], patience: 2000 };
+    let c = Call { script: &script, moves: &[], rule: &[SOMETIME, VOID], patience: 1000 };
     for length in [256, 257, 1000] {
         for content in [0, ENTER, MARK] {
             let mut lent = vec![content; length];

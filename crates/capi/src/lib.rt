@@ -3,7 +3,7 @@ ghost use Rattle.std.specs.Prelude.{◌≡◌, get_or};
 ghost use Rattle.call_answers.specs.Answering.{call_of};
 ghost use Rattle.theory_call.specs.Standing.{MovesBounded};
 ghost use Rattle.theory_call.specs.Itinerary.{Listed};
-ghost use Rattle.host_answer_words.specs.Buffers.{returned, answered, buffer_after, Decided, SteadyBy, WeighedBy, ReducedBy, ReturnedBy, ReadmittedBy, tree_words, count_told};
+ghost use Rattle.host_answer_words.specs.Buffers.{returned, answered, buffer_after, Decided, WeighedBy, ReducedBy, ReturnedBy, ReadmittedBy, tree_words, count_told};
 
 use checker::call;
 use host_answer_words::tell;
@@ -26,7 +26,6 @@ pub extern "C" fn skycorbel_call<'a, 'b, 'c, 'd>(
     ensures unwritten { result ≡ 0 → out.new ≡ out.old }
     ensures unlisted { result ≡ 0 → list.new ≡ list.old }
     ensures decided { result ≡ 1 → Decided (call_of script.now moves.now rule.now patience out.old list.old) (get_or answer.new 0 0) }
-    ensures steady { result ≡ 1 → SteadyBy (call_of script.now moves.now rule.now patience out.old list.old) (get_or answer.new 0 0) }
     ensures bounded { result ≡ 1 → MovesBounded script.now (get_or answer.new 3 0) }
     ensures weighed { WeighedBy (call_of script.now moves.now rule.now patience out.old list.old) result (get_or answer.new 6 0) }
     ensures reduced { result ≡ 1 → ReducedBy (call_of script.now moves.now rule.now patience out.old list.old) (get_or answer.new 0 0) (get_or answer.new 3 0) }

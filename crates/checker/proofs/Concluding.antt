@@ -38,7 +38,6 @@ use Rattle.call_answers.specs.declared.Answer.{Answer}
 use Rattle.checker.specs.Calling.{StateHeld, WalkSays, ComesTo}
 use Rattle.theory_call.specs.Standing.{Standing, Decides, Reduces, Returned, Readmitted, MovesBounded, WeightBounded, Weighed}
 use Rattle.theory_call.specs.Itinerary.{Leads, FirstSometime, Itinerary, Unlisted, Listed}
-use Rattle.theory_call.specs.Steady.{Steady}
 use Rattle.call_itineraries.specs.Showing.{ShowsMoves}
 use Rattle.theory_call.proofs.ClosureRuns.{started-unfolded, moves-bounded}
 use Rattle.theory_call.proofs.Runs.{weight-holds}
@@ -48,7 +47,7 @@ use Rattle.theory_call.proofs.Reducing.{reduces}
 use Rattle.theory_call.proofs.Leaving.{returned, readmitted}
 use Rattle.theory_call.proofs.Called.{run-leaves-good, answers-walked}
 use Rattle.theory_call.proofs.Itineraries.{closure-leads}
-use Rattle.theory_call.proofs.Verdicts.{no-is-yes, refusal-is-yes, yes-or-not, standing-good, decides, answer-steady}
+use Rattle.theory_call.proofs.Verdicts.{no-is-yes, refusal-is-yes, yes-or-not, standing-good, decides}
 use Rattle.checker.proofs.Calling.{number_is, enters, short}
 
 -- ---- questions 17 to 19
@@ -194,18 +193,16 @@ walk-standing-says script moves words patience list t u s S g G w count found W 
 
 -- ---- demand 2
 
--- THEOREM: an answer that is the plain machine's, with the buffer, is decided by the paper's own relation, is that of the former
--- order of moves where both are a yes or no, keeps the bound and the weight, and its moves are the paper's reductions; the trees
--- that they leave are read again as they are written.
+-- THEOREM: an answer that is the plain machine's, with the buffer, is decided by the paper's own relation, keeps the bound and
+-- the weight, and its moves are the paper's reductions; the trees that they leave are read again as they are written.
 pub call_kept : (c : Call) (r : Answer) (b l : List ℕ) → CallGives c r b l
     → (answer_of r b ≡ answer c)
     × (Decides c (verdict_of r.verdict)
-    × (Steady c (verdict_of r.verdict)
     × (MovesBounded c.script r.moves
     × (Weighed c r.weight
     × (Reduces c (verdict_of r.verdict) r.moves
     × (Returned c (verdict_of r.verdict) (take r.words b)
-    × (Readmitted (verdict_of r.verdict) (take r.words b) × Listed c (verdict_of r.verdict ≡ accepted true) r.count l)))))))
+    × (Readmitted (verdict_of r.verdict) (take r.words b) × Listed c (verdict_of r.verdict ≡ accepted true) r.count l))))))
 unfolding answer_of
 call_kept c r b l g =
     let e : answer_of r b ≡ answer c = g.answered in
@@ -213,4 +210,4 @@ call_kept c r b l g =
     let m : (answer c).moves ≡ r.moves = sym (ap (λ (a : plain.Answer). a.moves) e) in
     let w : (answer c).weight ≡ r.weight = sym (ap (λ (a : plain.Answer). a.weight) e) in
     let left : left_by (answer c) ≡ take r.words b = sym (ap (λ (a : plain.Answer). left_by a) e) in
-    (e, (decides c _ v, (answer-steady c _ v, (subst (MovesBounded c.script) m (moves-bounded c), (record { each = weight-holds c; told = subst (WeightBounded c.script) w (weight-bounded c) }, (reduces c _ _ v m, (returned c _ _ v left, (readmitted c _ _ v left, g.listed))))))))
+    (e, (decides c _ v, (subst (MovesBounded c.script) m (moves-bounded c), (record { each = weight-holds c; told = subst (WeightBounded c.script) w (weight-bounded c) }, (reduces c _ _ v m, (returned c _ _ v left, (readmitted c _ _ v left, g.listed)))))))

@@ -8,7 +8,6 @@ ghost use Rattle.write_trees.specs.Room.{Fitted};
 ghost use Rattle.theory_decision.specs.Walk.{says};
 ghost use Rattle.theory_call.specs.Call.{accepted, answer};
 ghost use Rattle.theory_call.specs.Itinerary.{Listed};
-ghost use Rattle.theory_call.specs.Steady.{Steady};
 ghost use Rattle.read_rules.specs.declared.RuleTable.{RuleTable};
 ghost use Rattle.call_answers.specs.Answering.{verdict_of, answer_of, call_of, CallGives};
 ghost use Rattle.theory_call.specs.Standing.{Decides, Reduces, Returned, Readmitted, MovesBounded, Weighed};
@@ -251,7 +250,6 @@ pub fn call<'a, 'b>(
 ) -> Answer
     ensures answered { answer_of result out.new ≡ answer (call_of script.now moves.now rule.now patience out.old list.old) }
     ensures decided { Decides (call_of script.now moves.now rule.now patience out.old list.old) (verdict_of result.verdict) }
-    ensures steady { Steady (call_of script.now moves.now rule.now patience out.old list.old) (verdict_of result.verdict) }
     ensures bounded { MovesBounded script.now result.moves }
     ensures weighed { Weighed (call_of script.now moves.now rule.now patience out.old list.old) result.weight }
     ensures reduced { Reduces (call_of script.now moves.now rule.now patience out.old list.old) (verdict_of result.verdict) result.moves }

@@ -13,8 +13,7 @@ use Rattle.call_answers.specs.Answering.{verdict_of, answer_of}
 use Rattle.call_answers.specs.declared.Answer as engine
 use Rattle.theory_call.specs.Standing.{Decides, Reduces, Returned, Readmitted, MovesBounded}
 use Rattle.theory_call.specs.Itinerary.{Listed}
-use Rattle.theory_call.specs.Steady.{Steady}
-use Rattle.theory_call.proofs.Verdicts.{yes-or-not, decides, answer-steady}
+use Rattle.theory_call.proofs.Verdicts.{yes-or-not, decides}
 use Rattle.theory_call.proofs.Itineraries.{listed-few}
 use Rattle.theory_call.proofs.ClosureRuns.{moves-bounded}
 use Rattle.theory_call.proofs.Runs.{weight-holds}
@@ -22,7 +21,7 @@ use Rattle.theory_call.proofs.Reducing.{reduces}
 use Rattle.theory_call.proofs.Leaving as leaving
 use Rattle.theory_call.proofs.Small.{PlaceWithin, Small, answer-small, weight-bounded}
 use Rattle.host_answer_words.specs.Told.{said_of, place_of, told, Tellable}
-use Rattle.host_answer_words.specs.Buffers.{returned, answered, buffer_after, Decided, SteadyBy, WeighedBy, ReducedBy, ReturnedBy, ReadmittedBy, tree_words, count_told}
+use Rattle.host_answer_words.specs.Buffers.{returned, answered, buffer_after, Decided, WeighedBy, ReducedBy, ReturnedBy, ReadmittedBy, tree_words, count_told}
 
 -- what is kept to where the call returns r, given words for its answer, and leaves these, and those in the output buffer and in
 -- the list
@@ -32,12 +31,11 @@ Keeps c r given words out list =
     × ((r ≡ 0 → out ≡ c.buffer)
     × ((r ≡ 0 → list ≡ c.list)
     × ((r ≡ 1 → Decided c (get_or words 0 0))
-    × ((r ≡ 1 → SteadyBy c (get_or words 0 0))
     × ((r ≡ 1 → MovesBounded c.script (get_or words 3 0))
     × (WeighedBy c r (get_or words 6 0)
     × ((r ≡ 1 → ReducedBy c (get_or words 0 0) (get_or words 3 0))
     × ((r ≡ 1 → ReturnedBy c (get_or words 0 0) (tree_words words out))
-    × ((r ≡ 1 → ReadmittedBy (get_or words 0 0) (tree_words words out)) × (r ≡ 1 → Listed c (get_or words 0 0 ≡ 2) (count_told words) list))))))))))
+    × ((r ≡ 1 → ReadmittedBy (get_or words 0 0) (tree_words words out)) × (r ≡ 1 → Listed c (get_or words 0 0 ≡ 2) (count_told words) list)))))))))
 
 one≢none : {B : Type 0} → ◌≡◌ {A = ℕ} 0 1 → B
 one≢none e = absurd (let z : ⊥ = omega arith in z)
@@ -47,7 +45,7 @@ pub short : (c : Call) (words : List ℕ) → length words < 9
     → (0 ≡ returned words) × ((words ≡ answered c (count_told words) words) × ((c.buffer ≡ buffer_after c words) × Keeps c 0 words words c.buffer c.list))
 short c words l =
     let none : Keeps c 0 words words c.buffer c.list =
-    (λ e. refl, (λ e. refl, (λ e. refl, (one≢none, (one≢none, (one≢none, (record { each = weight-holds c; told = one≢none }, (one≢none, (one≢none, (one≢none, one≢none)))))))))) in
+    (λ e. refl, (λ e. refl, (λ e. refl, (one≢none, (one≢none, (record { each = weight-holds c; told = one≢none }, (one≢none, (one≢none, (one≢none, one≢none))))))))) in
     rw (lt-leb 9 (length words) l) (refl, (refl, (refl, none)))
 
 -- what the first word says of a verdict
@@ -81,9 +79,6 @@ module _ (c : Call) where
   unfolding Decides
   decided = record { yes = by-yes (Decides c) (decides c); no = by-no (Decides c) (decides c) }
 
-  steady : SteadyBy c (said_of (answer c).verdict)
-  steady = record { yes = by-yes (Steady c) (answer-steady c); no = by-no (Steady c) (answer-steady c) }
-
   reduced : ReducedBy c (said_of (answer c).verdict) (answer c).moves
   unfolding Reduces
   reduced =
@@ -113,7 +108,7 @@ told-keeps : (c : Call) (given rest list : List ℕ) (k : ℕ) → Listed c ((an
 unfolding told
 told-keeps c given rest list k L = (
   λ e. one≢none (sym e),
-  (λ e. one≢none (sym e), (λ e. one≢none (sym e), (λ e. decided c, (λ e. steady c, (λ e. moves-bounded c, (record { each = weight-holds c; told = λ e. weight-bounded c }, (λ e. reduced c, (λ e. returning c, (λ e. readmitted c, λ e. listed-said c (answer c).verdict k list L))))))))),
+  (λ e. one≢none (sym e), (λ e. one≢none (sym e), (λ e. decided c, (λ e. moves-bounded c, (record { each = weight-holds c; told = λ e. weight-bounded c }, (λ e. reduced c, (λ e. returning c, (λ e. readmitted c, λ e. listed-said c (answer c).verdict k list L)))))))),
 )
 
 count-is : (a : Answer) (k : ℕ) (rest : List ℕ) → k ≡ count_told (told a k ++ rest)

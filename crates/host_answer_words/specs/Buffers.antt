@@ -1,10 +1,9 @@
 -- What the call for C and Rust does with the buffers that it is lent, for the nine words of an answer and for the tree; and what
--- the words that it wrote promise: demand 2, that the order of moves changes no answer, the moves as reductions, the tree read
--- again. Assumes nothing: these are definitions.
+-- the words that it wrote promise: demand 2, the moves as reductions, the tree read again. Assumes nothing: these are
+-- definitions.
 use Rattle.std.specs.Prelude.{ℕ, Bool, true, false, cond, List, ◌++◌, ◌≡◌, length, get_or, take, drop, leb}
 use Rattle.theory_call.specs.Call.{Call, accepted, refused, answer}
 use Rattle.theory_call.specs.Standing.{Standing, Holds, Reduces, Returned, Readmitted, WeightHolds, WeightBounded}
-use Rattle.theory_call.specs.Steady.{Steady}
 use Rattle.host_answer_words.specs.Told.{told}
 
 -- whether there is room for the nine words
@@ -29,12 +28,6 @@ answered c count words = cond (has_room words) (told (answer c) count ++ drop 9 
 pub record Decided (c : Call) (said : ℕ) : Type 0 where
   pub yes : said ≡ 2 → (s : Standing c) × Holds c s
   pub no : said ≡ 1 → (s : Standing c) × ¬ Holds c s
-
--- "a case that answered yes or no both before and after may not change its answer" (document 02, Req 02), of the first word: where
--- it is 2 or 1, the plain machine answered the same with the moves in the former order, if it answered yes or no
-pub record SteadyBy (c : Call) (said : ℕ) : Type 0 where
-  pub yes : said ≡ 2 → Steady c (accepted true)
-  pub no : said ≡ 1 → Steady c (accepted false)
 
 -- the moves in the paper's terms, of the first word and the fourth: 2 only where the whole list leads from the script as
 -- written to a process that satisfies the rule, 1 only where it leads to one that does not; and by 0 too the moves made are a

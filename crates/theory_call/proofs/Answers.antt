@@ -8,23 +8,18 @@ use lib.ListN.{length}
 use Rattle.read_messages.specs.Reading.{Cursor, Reading, refuse, got}
 use Rattle.read_messages.proofs.Readings.{got-inj}
 use Rattle.base_slices.proofs.Tests.{by_test}
-use Rattle.read_scripts.specs.Tree.{Plain}
 use Rattle.read_rule_words.specs.Rule.{Rule}
-use Rattle.theory_decision.specs.Walk.{Space, Count, Walked, stopped, says}
-use Rattle.theory_decision.specs.PlainWalk.{plain_space}
+use Rattle.theory_decision.specs.Walk.{Count, Walked, stopped, says}
 use Rattle.theory_call.specs.Call.{Call, Answer, accepted, refused, refusal, Ran, halted, completed, run, finish, walked, Start, parts_of, walked_on, rule_run, starting, door, opened, onward, begins, answer, roomy, accepting}
 use Rattle.theory_call.specs.Standing.{Standing}
 use Rattle.theory_call.proofs.Runs.{completed-is}
 
--- the walk of a call that stands, in whichever space
-abbrev pub walk_by : ((limit : ℕ) → Space Plain) → (c : Call) → Standing c → Walked
-walk_by space c s = walked_on space c s.start s.rule s.machine
-
+-- the walk of a call that stands
 abbrev pub walk_of : (c : Call) → Standing c → Walked
-walk_of = walk_by plain_space
+walk_of c s = walked_on c s.start s.rule s.machine
 
 -- P holds of every answer in which the call may end
-pub record Endings (space : (limit : ℕ) → Space Plain) (c : Call) (P : Answer → Type 0) : Type 0 where
+pub record Endings (c : Call) (P : Answer → Type 0) : Type 0 where
   -- questions 1 to 6
   pub unread : (q i : ℕ) → starting c ≡ refuse q i → P (refusal q i 0 0 c.buffer)
   -- questions 7 to 14
@@ -32,41 +27,41 @@ pub record Endings (space : (limit : ℕ) → Space Plain) (c : Call) (P : Answe
   -- questions 15 and 16
   pub stuck : (s : Start) → starting c ≡ got s → (r : Rule × Cursor) → door c s ≡ got r → (q i : ℕ) → run (parts_of s) 0 c.moves s.machine ≡ halted q i → P (refusal q i i 0 c.buffer)
   -- questions 17 and 18
-  pub tired : (s : Standing c) (q i v : ℕ) → walk_by space c s ≡ stopped q i v → P (refusal q i (length c.moves) v c.buffer)
+  pub tired : (s : Standing c) (q i v : ℕ) → walk_of c s ≡ stopped q i v → P (refusal q i (length c.moves) v c.buffer)
   -- question 19
-  pub unfit : (s : Standing c) (a : Bool) (n : Count) → walk_by space c s ≡ says a n → roomy c s.machine ≡ false → P (refusal 19 0 (length c.moves) n.visits c.buffer)
-  pub done : (s : Standing c) (a : Bool) (n : Count) → walk_by space c s ≡ says a n → roomy c s.machine ≡ true → P (accepting c s.machine a n)
+  pub unfit : (s : Standing c) (a : Bool) (n : Count) → walk_of c s ≡ says a n → roomy c s.machine ≡ false → P (refusal 19 0 (length c.moves) n.visits c.buffer)
+  pub done : (s : Standing c) (a : Bool) (n : Count) → walk_of c s ≡ says a n → roomy c s.machine ≡ true → P (accepting c s.machine a n)
 
-module _ (space : (limit : ℕ) → Space Plain) (c : Call) (P : Answer → Type 0) (E : Endings space c P) where
-  finish-ends : (s : Standing c) (a : Bool) (n : Count) → walk_by space c s ≡ says a n → P (finish c s.machine a n)
+module _ (c : Call) (P : Answer → Type 0) (E : Endings c P) where
+  finish-ends : (s : Standing c) (a : Bool) (n : Count) → walk_of c s ≡ says a n → P (finish c s.machine a n)
   unfolding finish
   finish-ends s a n e = by_test (roomy c s.machine) (λ t. rw t (E.done s a n e t)) (λ t. rw t (E.unfit s a n e t))
 
-  walked-ends : (s : Standing c) (w : Walked) → walk_by space c s ≡ w → P (walked c s.machine w)
+  walked-ends : (s : Standing c) (w : Walked) → walk_of c s ≡ w → P (walked c s.machine w)
   unfolding walked
   walked-ends s (stopped q i v) e = E.tired s q i v e
   walked-ends s (says a n) e = finish-ends s a n e
 
   module _ (s : Start) (es : starting c ≡ got s) where
-    run_ends : (r : Rule × Cursor) → door c s ≡ got r → (x : Ran) → run (parts_of s) 0 c.moves s.machine ≡ x → P (rule_run space c s r x)
+    run_ends : (r : Rule × Cursor) → door c s ≡ got r → (x : Ran) → run (parts_of s) 0 c.moves s.machine ≡ x → P (rule_run c s r x)
     unfolding rule_run
     run_ends r er (halted q i) e = E.stuck s es r er q i e
-    run_ends r er (completed m) e = walked-ends (record { start = s; rule = r; machine = m; starts = es; enters = er; moves-made = e }) (walked_on space c s r m) refl
+    run_ends r er (completed m) e = walked-ends (record { start = s; rule = r; machine = m; starts = es; enters = er; moves-made = e }) (walked_on c s r m) refl
 
-    opened-ends : (x : Reading (Rule × Cursor)) → door c s ≡ x → P (opened space c s x)
+    opened-ends : (x : Reading (Rule × Cursor)) → door c s ≡ x → P (opened c s x)
     unfolding opened
     opened-ends (refuse q i) e = E.shut s es q i e
     opened-ends (got r) e = run_ends r e (run (parts_of s) 0 c.moves s.machine) refl
 
-  pub begins-ends : (x : Reading Start) → starting c ≡ x → P (begins space c x)
+  begins-ends : (x : Reading Start) → starting c ≡ x → P (begins c x)
   unfolding begins onward
   begins-ends (refuse q i) e = E.unread q i e
   begins-ends (got s) e = opened-ends s e (door c s) refl
 
--- THEOREM: what holds of every end of a call holds of its answer.
-pub answer-ends : (c : Call) (P : Answer → Type 0) → Endings plain_space c P → P (answer c)
-unfolding answer
-answer-ends c P E = begins-ends plain_space c P E (starting c) refl
+  -- THEOREM: what holds of every end of a call holds of its answer.
+  pub answer-ends : P (answer c)
+  unfolding answer
+  answer-ends = begins-ends (starting c) refl
 
 -- ---- the other way round: a call that ends so answers so
 
@@ -80,14 +75,14 @@ module _ (c : Call) where
     unfolding answer begins onward opened
     answer-shut q i e = rw (es, e)
 
-    pub answer-run : (r : Rule × Cursor) → door c s ≡ got r → answer c ≡ rule_run plain_space c s r (run (parts_of s) 0 c.moves s.machine)
+    pub answer-run : (r : Rule × Cursor) → door c s ≡ got r → answer c ≡ rule_run c s r (run (parts_of s) 0 c.moves s.machine)
     unfolding answer begins onward opened
     answer-run r e = rw (es, e)
 
   -- what a call that stands answers is told by its walk
   pub answer-walked : (s : Standing c) → answer c ≡ walked c s.machine (walk_of c s)
   unfolding rule_run
-  answer-walked s = answer-run s.start s.starts s.rule s.enters ∙ ap (rule_run plain_space c s.start s.rule) s.moves-made
+  answer-walked s = answer-run s.start s.starts s.rule s.enters ∙ ap (rule_run c s.start s.rule) s.moves-made
 
 -- ---- an accepted call
 
@@ -98,27 +93,20 @@ accepted-is : {a b : Bool} → accepted a ≡ accepted b → a ≡ b
 accepted-is e = cc
 
 -- the walk of an accepted call
-abbrev pub SaysBy : ((limit : ℕ) → Space Plain) → (c : Call) → Standing c → Bool → Type 0
-SaysBy space c s a = (k : Count) × (walk_by space c s ≡ says a k)
-
 abbrev pub Says : (c : Call) → Standing c → Bool → Type 0
-Says = SaysBy plain_space
+Says c s a = (k : Count) × (walk_of c s ≡ says a k)
 
--- THEOREM: a call that is accepted stands, and its walk says its answer, whichever space that walk is in.
-pub accepted-inv : (space : (limit : ℕ) → Space Plain) (c : Call) (a : Bool) → (begins space c (starting c)).verdict ≡ accepted a → (s : Standing c) × SaysBy space c s a
+-- THEOREM: a call that is accepted stands, and its walk says its answer.
+pub answer-inv : (c : Call) (a : Bool) → (answer c).verdict ≡ accepted a → (s : Standing c) × Says c s a
 unfolding refusal
-accepted-inv space c a = begins-ends space c (λ r. r.verdict ≡ accepted a → (s : Standing c) × SaysBy space c s a) (record {
+answer-inv c a = answer-ends c (λ r. r.verdict ≡ accepted a → (s : Standing c) × Says c s a) (record {
   unread = λ q i e x. refused≢accepted x;
   shut = λ s e q i d x. refused≢accepted x;
   stuck = λ s e r d q i h x. refused≢accepted x;
   tired = λ s q i v e x. refused≢accepted x;
   unfit = λ s b n e l x. refused≢accepted x;
   done = λ s b n e l x. (s, (n, e ∙ ap (λ (y : Bool). says y n) (accepted-is x)));
-}) (starting c) refl
-
-pub answer-inv : (c : Call) (a : Bool) → (answer c).verdict ≡ accepted a → (s : Standing c) × Says c s a
-unfolding answer
-answer-inv = accepted-inv plain_space
+})
 
 -- THEOREM: the call determines what stands.
 pub record Same (c : Call) (s t : Standing c) : Type 0 where

@@ -13,7 +13,6 @@ use Rattle.theory_closures.proofs.Invariant.{move-good}
 use Rattle.theory_closures.proofs.Started.{started-good}
 use Rattle.read_rule_words.specs.Rule.{Rule}
 use Rattle.theory_decision.specs.Walk.{walk_from}
-use Rattle.theory_decision.specs.PlainWalk.{plain_space}
 use Rattle.theory_decision.specs.ClosureWalk.{closure_space}
 use Rattle.theory_decision.proofs.Closures.{walk-unfolded}
 use Rattle.theory_call.specs.Call.{Call, actor, target, move_fits, refusal, walked, Start, parts_of, start_of, setting, rule_run, door, answer}
@@ -63,8 +62,8 @@ module _ (c : Call) where
     answers-door q i e = answer-shut c s (starting-got c p es) q i e
 
     module _ (r : Rule × Cursor) (er : door c s ≡ got r) where
-      goes-run : answer c ≡ rule_run plain_space c s r (unfold_ran (closure_run n 0 c.moves (begun p.0)))
-      goes-run = answer-run c s (starting-got c p es) r er ∙ ap (rule_run plain_space c s r) (started-unfolded c.script p es n c.moves)
+      goes-run : answer c ≡ rule_run c s r (unfold_ran (closure_run n 0 c.moves (begun p.0)))
+      goes-run = answer-run c s (starting-got c p es) r er ∙ ap (rule_run c s r) (started-unfolded c.script p es n c.moves)
 
       pub answers-halted : (q i : ℕ) → closure_run n 0 c.moves (begun p.0) ≡ halted q i → answer c ≡ refusal q i i 0 c.buffer
       unfolding rule_run unfold_ran

@@ -125,7 +125,7 @@ module _ (c : Call) (p : ℕ) (b l : List ℕ) (less : c.patience ≤ p) (allowe
   lasts = answer-ends c (λ r. Wanting r.verdict ⊎ (answer (with c p b l) ≡ onto b r)) (record {
     unread = λ q i e. inr (answer-unread (with c p b l) q i e);
     shut = λ s e q i x. elim (door-patient c p b l less allowed longer s) [ inl y ↦ inl (lacks-wanting q i y.0 y.1 (same-question (sym x ∙ y.2))) | inr y ↦ inr (answer-shut (with c p b l) s e q i (y ∙ x)) ];
-    stuck = λ s e r x q i h. inr (answer-run (with c p b l) s e r (door-same c p b l less allowed longer s r x) ∙ ap (rule_run plain_space (with c p b l) s r) h);
+    stuck = λ s e r x q i h. inr (answer-run (with c p b l) s e r (door-same c p b l less allowed longer s r x) ∙ ap (rule_run (with c p b l) s r) h);
     tired = λ s q i v e. elim (answer-same c p b l less allowed longer s _ e) [ inl x ↦ inl (inr (inl (let y = x.2 in cc))) | inr x ↦ inr x ];
     unfit = λ s a n e t. inl (inr (inr (inl refl)));
     done = λ s a n e t. elim (answer-same c p b l less allowed longer s _ e) [ inl x ↦ tired-says x | inr x ↦ inr (x ∙ finish-roomy (with c p b l) s.machine a n (roomy-more c p b l s.machine room t) ∙ accepting-onto c p b l s.machine a n) ];

@@ -3,7 +3,7 @@
 use Prim.Native.Nat.{ℕ, ◌+◌, ◌≤◌, ◌<◌}
 use mathlib.Core.Bool.{Bool, true, false}
 use mathlib.Core.List.{[]}
-use mathlib.Core.Path.{◌≡◌, refl, sym, ap, ◌∙◌, subst}
+use mathlib.Core.Path.{◌≡◌, refl, ap, subst}
 use mathlib.Core.Logic.{◌↔◌}
 use native.Mathlib.Omega.{arith}
 use Rattle.read_messages.specs.Reading.{got}
@@ -15,17 +15,14 @@ use Rattle.theory_calculus.specs.Satisfaction.{Sat}
 use Rattle.theory_calculus.proofs.Kept.{Good, good-move}
 use Rattle.theory_calculus.proofs.Agreement.{agree}
 use Rattle.theory_decision.proofs.Fits.{Fits, fits_more, rule-more, move-fits}
-use Rattle.theory_decision.specs.Walk.{Count, says}
-use Rattle.theory_decision.specs.FormerOrder.{former_space}
-use Rattle.theory_decision.proofs.Deciding.{Known, walk-yes, walk_no, walk-steady}
-use Rattle.theory_call.specs.Call.{Call, Verdict, accepted, refused, answer, Start, parts_of, setting, starting, walked_on}
+use Rattle.theory_decision.proofs.Deciding.{Known, walk-yes, walk_no}
+use Rattle.theory_call.specs.Call.{Call, Verdict, accepted, refused, answer, Start, parts_of, setting, starting}
 use Rattle.theory_call.specs.Standing.{Standing, Meets, Holds, Decides}
-use Rattle.theory_call.specs.Steady.{former_answer, Steady}
 use Rattle.theory_call.proofs.Runs.{run-keeps}
 use Rattle.theory_call.proofs.Door.{script-fits, rule_fits}
 use Rattle.theory_call.proofs.Begun.{script-good}
 use Rattle.theory_call.proofs.Entering.{start-all, door-inv}
-use Rattle.theory_call.proofs.Answers.{Says, SaysBy, answer-inv, accepted-inv, same}
+use Rattle.theory_call.proofs.Answers.{Says, answer-inv, same}
 
 pub rule-read : (c : Call) (s : Standing c) → read_whole_rule (parts_of s.start) c.rule ≡ got s.rule
 rule-read c s = (door-inv c s.start s.rule s.enters).0
@@ -70,18 +67,6 @@ answer-no c s e = let x = answer-inv c false e in subst (λ (t : Type 0). ¬ t) 
 -- THEOREM: a call that is accepted stands.
 pub answer-stands : (c : Call) (a : Bool) → (answer c).verdict ≡ accepted a → Standing c
 answer-stands c a e = (answer-inv c a e).0
-
--- THEOREM: a call that was answered yes or no with the moves in the former order, and is answered yes or no, has one answer.
-pub answer-steady : (c : Call) (v : Verdict) → (answer c).verdict ≡ v → Steady c v
-unfolding Steady former_answer
-answer-steady c v ev x y f e =
-    let (s, (k, w)) = answer-inv c y (ev ∙ e) in
-    let (t, p) = accepted-inv former_space c x f in
-    let (l, u) = subst (λ (z : Type 0). z) (says_same c t s x) p in
-    sym (walk-steady (parts_of s.start + s.rule.1.number) (setting c s.start) 256 1 [] s.rule.0 s.machine.tree _ k l y x (known c s) w u)
-  where
-    says_same : (c : Call) (s t : Standing c) (a : Bool) → SaysBy former_space c s a ≡ SaysBy former_space c t a
-    says_same c s t a = let e = same c s t in λ i. (k : Count) × (walked_on former_space c (e.start i) (e.rule i) (e.machine i) ≡ says a k)
 
 -- the standing tree is good
 pub standing-good : (c : Call) (s : Standing c) → Good (parts_of s.start) s.machine.tree

@@ -6,14 +6,13 @@ use Rattle.read_messages.specs.Words.{kind, operand}
 use Rattle.read_messages.specs.Reading.{Cursor, Reading, refuse, got, ◌>>=◌, ask}
 use Rattle.read_messages.specs.Message.{Message}
 use Rattle.read_scripts.specs.Script.{Script, read_script, started}
-use Rattle.read_scripts.specs.Tree.{Plain}
 use Rattle.read_script_words.specs.ScriptWords.{greatest_name}
 use Rattle.theory_machine.specs.Moves.{MoveMade}
 use Rattle.theory_machine.specs.PlainMachine.{move, Machine, weight_of}
 use Rattle.theory_written_trees.specs.Write.{write}
 use Rattle.read_rule_words.specs.Rule.{Rule, greatest_rule_name}
 use Rattle.read_rule_words.specs.ReadRule.{read_whole_rule}
-use Rattle.theory_decision.specs.Walk.{Space, Count, Walked, stopped, says, Setting, walk_from}
+use Rattle.theory_decision.specs.Walk.{Count, Walked, stopped, says, Setting, walk_from}
 use Rattle.theory_decision.specs.PlainWalk.{plain_space}
 
 -- what a call is lent: "script, moves, rule, patience and the buffer as it was", and the list for an itinerary (document 02,
@@ -134,6 +133,15 @@ start_of ws p = record { words = ws; read = p; machine = begun p.0; made = 0 }
 abbrev pub setting : Call → Start → Setting
 setting c s = record { patience = c.patience; greatest = max (greatest_name s.words) (greatest_rule_name c.rule); parts = parts_of s }
 
+-- what the walk says of a machine; the parts of the rule's PLACED words are numbered from n on
+abbrev pub walked_on : Call → Start → Rule × Cursor → Machine → Walked
+walked_on c s r m = walk_from (plain_space (parts_of s + r.1.number)) (setting c s) r.0 m.tree
+
+-- after the moves
+unfoldable pub rule_run : Call → Start → Rule × Cursor → Ran → Answer
+rule_run c s r (halted q i) = refusal q i i 0 c.buffer
+rule_run c s r (completed m) = walked c m (walked_on c s r m)
+
 -- Questions 1 to 6.
 unfoldable pub starting : Call → Reading Start
 starting c = do
@@ -170,34 +178,22 @@ door c s = do
   _ ← asking (terms c.patience (s.made + length c.moves) (length c.list))
   got r
 
--- Whichever space the rule is walked in, of trees whose part numbers are below a limit: the order in which moves are tried is
--- the space's.
-module _ (space : (limit : ℕ) → Space Plain) where
-  -- what the walk says of a machine; the parts of the rule's PLACED words are numbered from n on
-  abbrev pub walked_on : Call → Start → Rule × Cursor → Machine → Walked
-  walked_on c s r m = walk_from (space (parts_of s + r.1.number)) (setting c s) r.0 m.tree
+-- behind the door
+unfoldable pub opened : Call → Start → Reading (Rule × Cursor) → Answer
+opened c s (refuse q i) = refusal q i 0 0 c.buffer
+opened c s (got r) = rule_run c s r (run (parts_of s) 0 c.moves s.machine)
 
-  -- after the moves
-  unfoldable pub rule_run : Call → Start → Rule × Cursor → Ran → Answer
-  rule_run c s r (halted q i) = refusal q i i 0 c.buffer
-  rule_run c s r (completed m) = walked c m (walked_on c s r m)
+-- From question 7 on.
+unfoldable pub onward : Call → Start → Answer
+onward c s = opened c s (door c s)
 
-  -- behind the door
-  unfoldable pub opened : Call → Start → Reading (Rule × Cursor) → Answer
-  opened c s (refuse q i) = refusal q i 0 0 c.buffer
-  opened c s (got r) = rule_run c s r (run (parts_of s) 0 c.moves s.machine)
-
-  -- From question 7 on.
-  unfoldable pub onward : Call → Start → Answer
-  onward c s = opened c s (door c s)
-
-  unfoldable pub begins : Call → Reading Start → Answer
-  begins c (refuse q i) = refusal q i 0 0 c.buffer
-  begins c (got s) = onward c s
+unfoldable pub begins : Call → Reading Start → Answer
+begins c (refuse q i) = refusal q i 0 0 c.buffer
+begins c (got s) = onward c s
 
 -- What the plain machine answers.
 unfoldable pub answer : Call → Answer
-answer c = begins plain_space c (starting c)
+answer c = begins c (starting c)
 
 -- To unfold this is to unfold every definition of this module: for a proof by computation.
 unfoldable pub computing : Unit {0}

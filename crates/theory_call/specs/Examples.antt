@@ -1,6 +1,5 @@
 -- The starred examples of document 01, as one table and one theorem: each row is a call, the whole answer, its buffer
--- included, and the bound on the moves that the script allows; and a call of document 02's Req 02. Buffers are lent with the word 7
--- throughout. Assumes nothing.
+-- included, and the bound on the moves that the script allows. Both buffers are lent with the word 7 throughout. Assumes nothing.
 use Rattle.std.specs.Prelude.{ℕ, ◌-◌, Bool, true, false, List, [], ◌∷◌, ◌++◌, map, ◌≡◌, refl, replicate}
 use Rattle.read_messages.specs.Words
 use Rattle.read_messages.specs.Reading
@@ -21,11 +20,8 @@ use Rattle.read_rule_words.specs.Rule
 use Rattle.read_rule_words.specs.ReadRule
 use Rattle.theory_decision.specs.Walk
 use Rattle.theory_decision.specs.PlainWalk
-use Rattle.theory_decision.specs.FormerOrder
 use Rattle.theory_call.specs.Call.{Call, Answer, accepted, refused, answer}
 use Rattle.theory_call.specs.Call
-use Rattle.theory_call.specs.Steady.{former_answer}
-use Rattle.theory_call.specs.Steady
 
 abbrev pub row : List ℕ → List ℕ → List ℕ → ℕ → Call
 row s m r p = record { script = s; moves = m; rule = r; patience = p; buffer = replicate 12 7; list = replicate 256 7 }
@@ -88,26 +84,3 @@ told e = (e.1, e.2)
 pub examples : map answered table ≡ map told table
 unfolding Words.computing Reading.computing Message.computing ReadMessage.computing ScriptWords.computing Tree.computing Script.computing Measures.computing Bodies.computing Moves.computing PlainMachine.computing Write.computing Rule.computing ReadRule.computing Walk.computing PlainWalk.computing Call.computing
 examples = refl
-
--- Document 02, Req 02: an example in which the visits differ. Each of two wallets can enter the other: part 1, in wallet 1 (part
--- 0), can move to part 2, and part 3, in wallet 2 (part 2), to part 0. Asked is SOMETIME, AT 1, TRUE. Two parts stand at the top,
--- so that the first two visits say no. By target, (3, 0) is tried first: wallet 1 is left alone at the top, and visits at
--- SOMETIME, AT and TRUE make five. By actor, (1, 2) was tried first: wallet 2 is left alone, in which nothing can move, and that
--- cost two visits more. Both say yes, at depth 4.
-abbrev wallets : Call
-wallets = record {
-  script = 0x10000000 ∷ 0x80000001 ∷ 0x20000000 ∷ 0xA0000000 ∷ 0x80000002 ∷ 0 ∷ 0 ∷ 0x10000000 ∷ 0x80000002 ∷ 0x20000000 ∷ 0xA0000000 ∷ 0x80000001 ∷ 0 ∷ 0 ∷ 0 ∷ [];
-  moves = [];
-  rule = 0x70000000 ∷ 0x40000001 ∷ 0 ∷ [];
-  patience = 100;
-  buffer = replicate 15 7;
-  list = replicate 256 7;
-}
-
-abbrev wallets_give : (visits : ℕ) → Answer
-wallets_give v = record { verdict = accepted true; moves = 0; visits = v; deepest = 4; weight = 4; words = 15; buffer = wallets.script }
-
--- THEOREM: so the definitions answer, in the walk's order and in the former one.
-pub orders : (answer wallets ≡ wallets_give 5) × (former_answer wallets ≡ wallets_give 7)
-unfolding Words.computing Reading.computing Message.computing ReadMessage.computing ScriptWords.computing Tree.computing Script.computing Bodies.computing Moves.computing PlainMachine.computing Write.computing Rule.computing ReadRule.computing Walk.computing PlainWalk.computing FormerOrder.computing Call.computing Steady.computing
-orders = (refl, refl)

@@ -21,10 +21,10 @@ use Rattle.theory_closures.proofs.Invariant.{Good, good-less, good-inside, good-
 use Rattle.theory_closures.proofs.Simulation.{unfold-move}
 use Rattle.theory_decision.specs.Divisions.{is_void, with_either, divisions}
 use Rattle.theory_decision.specs.Walk.{Setting, walk_from}
-use Rattle.theory_decision.specs.PlainWalk.{body_after, nexts_by, plain_space}
+use Rattle.theory_decision.specs.PlainWalk.{body_after, plain_space}
 use Rattle.theory_decision.specs.PlainWalk as plain_walk
 use Rattle.theory_decision.specs.ClosureWalk.{beside, only, insides, machine_after, nexts, shares, closure_space}
-use Rattle.theory_decision.proofs.Related.{Both, neither, found, RelatedLists, none_left, one_more, lists-map, lists-more, order-related, Related, walk-related}
+use Rattle.theory_decision.proofs.Related.{Both, neither, found, RelatedLists, none_left, one_more, lists-map, lists-more, order-lists, Related, walk-related}
 
 -- a closure with the invariant, and the tree that it unfolds to
 abbrev pub Unfolds : ClosureMachine → Plain → Type 0
@@ -95,8 +95,8 @@ after-unfolded σ none f = neither
 after-unfolded σ (some s) f = found (f s refl, refl)
 
 nexts-unfolded : (limit : ℕ) (σ : Bindings) (b : Closure) → Good σ b → RelatedLists Unfolds (nexts σ limit b) (plain_walk.nexts limit (unfolded σ b))
-unfolding nexts nexts_by
-nexts-unfolded limit σ b G = order-related Unfolds limit _ _
+unfolding nexts plain_walk.nexts
+nexts-unfolded limit σ b G = order-lists Unfolds limit _ _
     (λ a t. rw (unfold-move σ a t b G) (after-unfolded σ (closure_move σ a t b) (λ s e. move-good σ a t b s e G)))
 
 -- PLACED

@@ -21,12 +21,11 @@ use Rattle.theory_machine.proofs.Options.{some_is, none≢some}
 use Rattle.read_rule_words.specs.Rule.{Term, Rule, truth, negation, either, void, at, beside, some-name, sometime, somewhere, placed, Names, term_name}
 use Rattle.theory_calculus.specs.Satisfaction.{Within, here, deeper, Reaches, stay, go, wrapped, Sat}
 use Rattle.theory_decision.specs.Divisions.{is_void, divisions}
-use Rattle.theory_decision.specs.Walk.{Count, Walked, stopped, says, Setting, on_yes, on_no, turned, if_any, first_yes, last_name, look, counted, walk, in_order}
-use Rattle.theory_decision.specs.PlainWalk.{only, insides, Order, nexts_by, space_by, plain_space}
-use Rattle.theory_decision.specs.FormerOrder.{in_former_order, former_space}
+use Rattle.theory_decision.specs.Walk.{Count, Walked, stopped, says, Setting, on_yes, on_no, turned, if_any, first_yes, last_name, look, counted, walk}
+use Rattle.theory_decision.specs.PlainWalk.{only, insides, nexts, plain_space}
 use Rattle.theory_decision.proofs.Renaming.{rename_names, rename_rule, rename_tree, Permutation, Same, sat-rename}
 use Rattle.theory_decision.proofs.Fits.{Fits, NamesAll, RuleAll, move-fits, inside-fits, divided-fits, alone-fits, wrapped-fits, term-all, names_more, term-more, fits_more, tree-still, rule-still, names-still}
-use Rattle.theory_decision.proofs.Listed.{in_span, of-span, Next, Lists, order-lists, former-lists, of-nexts, in-nexts, in-divisions, of-divisions, of-insides, in-insides, of-only, in-only}
+use Rattle.theory_decision.proofs.Listed.{in_span, of-span, Next, of-nexts, in-nexts, in-divisions, of-divisions, of-insides, in-insides, of-only, in-only}
 
 -- the answer is right about P
 pub data Reflects (P : Type 0) : Bool → Type 0 where
@@ -38,13 +37,6 @@ elim_true (holds p) = p
 
 pub elim_false : {P : Type 0} → Reflects P false → ¬ P
 elim_false (fails n) = n
-
--- two right answers are one
-agreed : {P : Type 0} (a b : Bool) → Reflects P a → Reflects P b → a ≡ b
-agreed true true x y = refl
-agreed true false x y = absurd (elim_false y (elim_true x))
-agreed false true x y = absurd (elim_false x (elim_true y))
-agreed false false x y = refl
 
 iff : {P Q : Type 0} {a : Bool} → (P → Q) → (Q → P) → Reflects P a → Reflects Q a
 iff f g (holds p) = holds (f p)
@@ -215,60 +207,51 @@ module _ (limit : ℕ) (s : Setting) where
   unfoldable pub Good : (Names → Rule → Plain → Count → Walked) → Type 0
   Good v = (e : Names) (r : Rule) (b : Plain) → Known limit s e r b → (k : Count) → Right (Sat s.parts e r b) (v e r b k)
 
-  -- whichever order the moves are tried in, so long as none is missing
-  module _ (order : Order) (L : Lists limit order) where
-    look-right : (v : Names → Rule → Plain → Count → Walked) → Good v → Good (look (space_by order) s v)
-    unfolding look Sat Good
-    look-right v g e (truth i) b K k a m q = as_said q (holds tt)
-    look-right v g e (negation i r) b K k a m q = turned_right _ _ (g e r b (known-rule e _ r b K K.rule) k) a m q
-    look-right v g e (either i r p) b K k a m q =
-        on_no-right _ _ _ _ (g e r b (known-rule e _ r b K K.rule.0) k) (λ n. g e p b (known-rule e _ p b K K.rule.1) n) a m q
-    look-right v g e (void i) b K k a m q = as_said q (void-right b)
-    look-right v g e (at i t r) b K k a m q =
-        let K₁ = known-rule e _ r b K K.rule.1 in
-        iff (λ z. (z.0, of-only (term_name e t) b z.0 z.1, z.2)) (λ z. (z.0, in-only z.1, z.2))
-        (if_any-right (Sat s.parts e r) (only (term_name e t) b) _ _ (λ c p. g e r c (known-tree e r b c K₁ (alone-fits _ _ (of-only (term_name e t) b c p) K.tree)) k) a m q)
-    look-right v g e (beside i r p) b K k a m q =
-        iff (λ z. (z.0.0, z.0.1, of-divisions b z.0 z.1, z.2.0, z.2.1)) (λ z. ((z.0, z.1), in-divisions z.2, (z.3, z.4)))
-        (first_yes-right (λ d. Sat s.parts e r d.0 × Sat s.parts e p d.1) _ (divisions b)
-        (λ d w n. let y = divided-fits _ _ (of-divisions b d w) K.tree in
-        on_yes-right _ _ _ _ (g e r d.0 (known-tree e r b _ (known-rule e _ r b K K.rule.0) y.0) n) (λ n₁. g e p d.1 (known-tree e p b _ (known-rule e _ p b K K.rule.1) y.1) n₁)) k a m q)
-    look-right v g e (some-name i r) b K k a m q =
-        let K₁ = known-rule e _ r b K K.rule in
-        iff (λ z. (z.0, (of-span 1 _ z.0 z.1).0, z.2)) (λ z. fresh e r b K₁ i z.0 z.1 z.2)
-        (first_yes-right (λ x. Sat s.parts ((i, x) ∷ e) r b) _ (numbers_from 1 (last_name s e)) (λ x w n. g ((i, x) ∷ e) r b (known-chosen e i r b K₁ x w) n) k a m q)
-    look-right v g e (sometime i r) b K k a m q =
-        iff (λ z. elim z [ inl x ↦ (b, stay, x) | inr y ↦ (y.2.0, of-next (of-nexts limit order L b y.0 y.1) y.2.1, y.2.2) ])
-        (λ z. reach-cases (Sat s.parts e r) (nexts_by order) (in-nexts limit order L _ b K.tree) z.1 z.2)
-        (on_no-right _ _ _ _ (g e r b (known-rule e _ r b K K.rule) k)
-        (λ n. first_yes-right (λ c. Sat s.parts e (sometime i r) c) _ (nexts_by order b) (λ c w n₁. g e (sometime i r) c (known_next e _ b c K (of-nexts limit order L b c w)) n₁) n) a m q)
-    look-right v g e (somewhere i r) b K k a m q =
-        iff (λ z. elim z [ inl x ↦ (b, here, x) | inr y ↦ (y.2.0, deeper (of-insides b y.0 y.1) y.2.1, y.2.2) ])
-        (λ z. within-cases (Sat s.parts e r) z.1 z.2)
-        (on_no-right _ _ _ _ (g e r b (known-rule e _ r b K K.rule) k)
-        (λ n. first_yes-right (λ c. Sat s.parts e (somewhere i r) c) _ (insides b) (λ c w n₁. g e (somewhere i r) c (known-tree e _ b c K (inside-fits _ _ (of-insides b c w) K.tree)) n₁) n) a m q)
-    look-right v g e (placed i j t r) b K k a m q = g e r _ (known-placed e i j t r b K) k a m q
+  look-right : (v : Names → Rule → Plain → Count → Walked) → Good v → Good (look (plain_space limit) s v)
+  unfolding look Sat Good
+  look-right v g e (truth i) b K k a m q = as_said q (holds tt)
+  look-right v g e (negation i r) b K k a m q = turned_right _ _ (g e r b (known-rule e _ r b K K.rule) k) a m q
+  look-right v g e (either i r p) b K k a m q =
+      on_no-right _ _ _ _ (g e r b (known-rule e _ r b K K.rule.0) k) (λ n. g e p b (known-rule e _ p b K K.rule.1) n) a m q
+  look-right v g e (void i) b K k a m q = as_said q (void-right b)
+  look-right v g e (at i t r) b K k a m q =
+      let K₁ = known-rule e _ r b K K.rule.1 in
+      iff (λ z. (z.0, of-only (term_name e t) b z.0 z.1, z.2)) (λ z. (z.0, in-only z.1, z.2))
+      (if_any-right (Sat s.parts e r) (only (term_name e t) b) _ _ (λ c p. g e r c (known-tree e r b c K₁ (alone-fits _ _ (of-only (term_name e t) b c p) K.tree)) k) a m q)
+  look-right v g e (beside i r p) b K k a m q =
+      iff (λ z. (z.0.0, z.0.1, of-divisions b z.0 z.1, z.2.0, z.2.1)) (λ z. ((z.0, z.1), in-divisions z.2, (z.3, z.4)))
+      (first_yes-right (λ d. Sat s.parts e r d.0 × Sat s.parts e p d.1) _ (divisions b)
+      (λ d w n. let y = divided-fits _ _ (of-divisions b d w) K.tree in
+      on_yes-right _ _ _ _ (g e r d.0 (known-tree e r b _ (known-rule e _ r b K K.rule.0) y.0) n) (λ n₁. g e p d.1 (known-tree e p b _ (known-rule e _ p b K K.rule.1) y.1) n₁)) k a m q)
+  look-right v g e (some-name i r) b K k a m q =
+      let K₁ = known-rule e _ r b K K.rule in
+      iff (λ z. (z.0, (of-span 1 _ z.0 z.1).0, z.2)) (λ z. fresh e r b K₁ i z.0 z.1 z.2)
+      (first_yes-right (λ x. Sat s.parts ((i, x) ∷ e) r b) _ (numbers_from 1 (last_name s e)) (λ x w n. g ((i, x) ∷ e) r b (known-chosen e i r b K₁ x w) n) k a m q)
+  look-right v g e (sometime i r) b K k a m q =
+      iff (λ z. elim z [ inl x ↦ (b, stay, x) | inr y ↦ (y.2.0, of-next (of-nexts limit b y.0 y.1) y.2.1, y.2.2) ])
+      (λ z. reach-cases (Sat s.parts e r) (nexts limit) (in-nexts limit _ b K.tree) z.1 z.2)
+      (on_no-right _ _ _ _ (g e r b (known-rule e _ r b K K.rule) k)
+      (λ n. first_yes-right (λ c. Sat s.parts e (sometime i r) c) _ (nexts limit b) (λ c w n₁. g e (sometime i r) c (known_next e _ b c K (of-nexts limit b c w)) n₁) n) a m q)
+  look-right v g e (somewhere i r) b K k a m q =
+      iff (λ z. elim z [ inl x ↦ (b, here, x) | inr y ↦ (y.2.0, deeper (of-insides b y.0 y.1) y.2.1, y.2.2) ])
+      (λ z. within-cases (Sat s.parts e r) z.1 z.2)
+      (on_no-right _ _ _ _ (g e r b (known-rule e _ r b K K.rule) k)
+      (λ n. first_yes-right (λ c. Sat s.parts e (somewhere i r) c) _ (insides b) (λ c w n₁. g e (somewhere i r) c (known-tree e _ b c K (inside-fits _ _ (of-insides b c w) K.tree)) n₁) n) a m q)
+  look-right v g e (placed i j t r) b K k a m q = g e r _ (known-placed e i j t r b K) k a m q
 
-    -- THEOREM: what the walk says is so.
-    pub walk-right : (left depth : ℕ) → Good (walk (space_by order) s left depth)
-    unfolding walk Good
-    walk-right zero depth e r b K k a m q = stopped≢says q
-    walk-right (suc l) depth e r b K k a m q =
-        by_test (ltb k.visits s.patience)
-        (λ t. look-right _ (λ e₁ r₁ b₁ K₁ k₁. walk-right l (suc depth) e₁ r₁ b₁ K₁ k₁) e r b K (counted (space_by order) s depth k) a m (rw t at q))
-        (λ t. stopped≢says (rw t at q))
+  -- THEOREM: what the walk says is so.
+  pub walk-right : (left depth : ℕ) → Good (walk (plain_space limit) s left depth)
+  unfolding walk Good
+  walk-right zero depth e r b K k a m q = stopped≢says q
+  walk-right (suc l) depth e r b K k a m q =
+      by_test (ltb k.visits s.patience)
+      (λ t. look-right _ (λ e₁ r₁ b₁ K₁ k₁. walk-right l (suc depth) e₁ r₁ b₁ K₁ k₁) e r b K (counted (plain_space limit) s depth k) a m (rw t at q))
+      (λ t. stopped≢says (rw t at q))
 
   pub walk-yes : (left depth : ℕ) (e : Names) (r : Rule) (b : Plain) (n m : Count) → Known limit s e r b → walk (plain_space limit) s left depth e r b n ≡ says true m → Sat s.parts e r b
   unfolding Good
-  walk-yes left depth e r b n m K q = elim_true (walk-right (in_order limit) (order-lists limit) left depth e r b K n true m q)
+  walk-yes left depth e r b n m K q = elim_true (walk-right left depth e r b K n true m q)
 
   pub walk_no : (left depth : ℕ) (e : Names) (r : Rule) (b : Plain) (n m : Count) → Known limit s e r b → walk (plain_space limit) s left depth e r b n ≡ says false m → ¬ Sat s.parts e r b
   unfolding Good
-  walk_no left depth e r b n m K q = elim_false (walk-right (in_order limit) (order-lists limit) left depth e r b K n false m q)
-
-  -- THEOREM: where the walk says yes or no in both orders, it says the same.
-  pub walk-steady : (left depth : ℕ) (e : Names) (r : Rule) (b : Plain) (n m k : Count) (x y : Bool) → Known limit s e r b
-      → walk (plain_space limit) s left depth e r b n ≡ says x m → walk (former_space limit) s left depth e r b n ≡ says y k → x ≡ y
-  unfolding Good
-  walk-steady left depth e r b n m k x y K p q =
-      agreed x y (walk-right (in_order limit) (order-lists limit) left depth e r b K n x m p) (walk-right (in_former_order limit) (former-lists limit) left depth e r b K n y k q)
+  walk_no left depth e r b n m K q = elim_false (walk-right left depth e r b K n false m q)

@@ -1,6 +1,5 @@
--- That the walk tries moves by rising target, then actor; that it decides satisfaction, and what it needs; that it is the same on closures; that the trees it meets rise, and
+-- That the walk decides satisfaction, and what it needs; that it is the same on closures; that the trees it meets rise, and
 -- that the names it looks up were chosen; that more patience changes nothing but a stop for want of it. Assumes nothing.
-pub mod Ordering
 pub mod Renaming
 pub mod Fits
 pub mod Listed

@@ -20,9 +20,8 @@ use Rattle.theory_machine.proofs.Options.{some_is, none≢some, cond-inv}
 use Rattle.theory_machine.proofs.Inversion.{is_named-inv, same_name-inv}
 use Rattle.theory_calculus.specs.Satisfaction.{Divided, nothing, to_left, to_right, Inside, first, later, Alone}
 use Rattle.theory_decision.specs.Divisions.{with_either, divisions}
-use Rattle.theory_decision.specs.Walk.{keep, made_inner, made_outer, in_order}
-use Rattle.theory_decision.specs.PlainWalk.{only, insides, body_after, Order, nexts_by}
-use Rattle.theory_decision.specs.FormerOrder.{in_former_order}
+use Rattle.theory_decision.specs.Walk.{keep, moves_to, moves_from, in_order}
+use Rattle.theory_decision.specs.PlainWalk.{only, insides, body_after, nexts}
 use Rattle.theory_decision.proofs.Fits.{Fits, move-fits}
 
 -- ranges
@@ -57,55 +56,43 @@ module _ {S : Type 0} where
   in-keep (some y) l c (inl e) = Memᴰ.head (sym (some_is e))
   in-keep (some y) l c (inr m) = Memᴰ.tail m
 
-  of_inner : (make : ℕ → Option S) (ts : List ℕ) (c : S) → Memᴰ c (made_inner make ts) → (t : ℕ) × (make t ≡ some c)
-  unfolding made_inner
-  of_inner make [] c m = absurd (Memᴰ.not-nil m)
-  of_inner make (t ∷ ts) c m = elim (of-keep (make t) (made_inner make ts) c m) [ inl e ↦ (t, e) | inr u ↦ of_inner make ts c u ]
+  of-moves-to : (make : ℕ → Option S) (ts : List ℕ) (c : S) → Memᴰ c (moves_to make ts) → (t : ℕ) × (make t ≡ some c)
+  unfolding moves_to
+  of-moves-to make [] c m = absurd (Memᴰ.not-nil m)
+  of-moves-to make (t ∷ ts) c m = elim (of-keep (make t) (moves_to make ts) c m) [ inl e ↦ (t, e) | inr u ↦ of-moves-to make ts c u ]
 
-  in_inner : (make : ℕ → Option S) (t : ℕ) (ts : List ℕ) (c : S) → make t ≡ some c → Memᴰ t ts → Memᴰ c (made_inner make ts)
-  unfolding made_inner
-  in_inner make t [] c e i = absurd (Memᴰ.not-nil i)
-  in_inner make t (u ∷ us) c e i = in-keep (make u) (made_inner make us) c (elim (Memᴰ.cases_cons i) [
+  in-moves-to : (make : ℕ → Option S) (t : ℕ) (ts : List ℕ) (c : S) → make t ≡ some c → Memᴰ t ts → Memᴰ c (moves_to make ts)
+  unfolding moves_to
+  in-moves-to make t [] c e i = absurd (Memᴰ.not-nil i)
+  in-moves-to make t (u ∷ us) c e i = in-keep (make u) (moves_to make us) c (elim (Memᴰ.cases_cons i) [
     | inl q ↦ inl (ap make (sym q) ∙ e)
-    | inr j ↦ inr (in_inner make t us c e j)
+    | inr j ↦ inr (in-moves-to make t us c e j)
   ])
 
-  of-outer : (make : ℕ → ℕ → Option S) (l ts : List ℕ) (c : S) → Memᴰ c (made_outer make l ts) → (a : ℕ) × (t : ℕ) × (make a t ≡ some c)
-  unfolding made_outer
-  of-outer make [] ts c m = absurd (Memᴰ.not-nil m)
-  of-outer make (a ∷ l) ts c m = elim (Memᴰ.append_cases (made_inner (make a) ts) m) [
-    | inl u ↦ (let x = of_inner (make a) ts c u in (a, x.0, x.1))
-    | inr u ↦ of-outer make l ts c u
+  of-moves-from : (make : ℕ → ℕ → Option S) (l ts : List ℕ) (c : S) → Memᴰ c (moves_from make l ts) → (a : ℕ) × (t : ℕ) × (make a t ≡ some c)
+  unfolding moves_from
+  of-moves-from make [] ts c m = absurd (Memᴰ.not-nil m)
+  of-moves-from make (a ∷ l) ts c m = elim (Memᴰ.append_cases (moves_to (make a) ts) m) [
+    | inl u ↦ (let x = of-moves-to (make a) ts c u in (a, x.0, x.1))
+    | inr u ↦ of-moves-from make l ts c u
   ]
 
-  in-outer : (make : ℕ → ℕ → Option S) (a t : ℕ) (l ts : List ℕ) (c : S) → make a t ≡ some c → Memᴰ a l → Memᴰ t ts → Memᴰ c (made_outer make l ts)
-  unfolding made_outer
-  in-outer make a t [] ts c e i j = absurd (Memᴰ.not-nil i)
-  in-outer make a t (u ∷ us) ts c e i j = elim (Memᴰ.cases_cons i) [
-    | inl q ↦ Memᴰ.append_left (made_outer make us ts) (in_inner (make u) t ts c (ap (λ (z : ℕ). make z t) (sym q) ∙ e) j)
-    | inr k ↦ Memᴰ.append_right (made_inner (make u) ts) (in-outer make a t us ts c e k j)
+  in-moves-from : (make : ℕ → ℕ → Option S) (a t : ℕ) (l ts : List ℕ) (c : S) → make a t ≡ some c → Memᴰ a l → Memᴰ t ts → Memᴰ c (moves_from make l ts)
+  unfolding moves_from
+  in-moves-from make a t [] ts c e i j = absurd (Memᴰ.not-nil i)
+  in-moves-from make a t (u ∷ us) ts c e i j = elim (Memᴰ.cases_cons i) [
+    | inl q ↦ Memᴰ.append_left (moves_from make us ts) (in-moves-to (make u) t ts c (ap (λ (z : ℕ). make z t) (sym q) ∙ e) j)
+    | inr k ↦ Memᴰ.append_right (moves_to (make u) ts) (in-moves-from make a t us ts c e k j)
   ]
 
-  -- both numbers below a limit
-  in_all : (limit : ℕ) (make : ℕ → ℕ → Option S) (o i : ℕ) (c : S) → make o i ≡ some c → o < limit → i < limit → Memᴰ c (made_outer make (numbers_from 0 limit) (numbers_from 0 limit))
-  in_all limit make o i c e h k = in-outer make o i _ _ c e (in_span _ _ o (omega arith) (omega arith)) (in_span _ _ i (omega arith) (omega arith))
+  pub of-order : (limit : ℕ) (make : ℕ → ℕ → Option S) (c : S) → Memᴰ c (in_order limit make) → (a : ℕ) × (t : ℕ) × (make a t ≡ some c)
+  unfolding in_order
+  of-order limit make c m = of-moves-from make _ _ c m
 
--- An order has what is made of moves and nothing else, and all that is made of those of part numbers below the limit.
-pub record Lists (limit : ℕ) (order : Order) : Type 0 where
-  pub made : (make : ℕ → ℕ → Option Plain) (c : Plain) → Memᴰ c (order make) → (a : ℕ) × (t : ℕ) × (make a t ≡ some c)
-  pub all : (make : ℕ → ℕ → Option Plain) (a t : ℕ) (c : Plain) → make a t ≡ some c → a < limit → t < limit → Memᴰ c (order make)
-
--- THEOREM: so have the walk's order and the former one.
-pub order-lists : (limit : ℕ) → Lists limit (in_order limit)
-unfolding in_order
-order-lists limit = record {
-  made = λ make c m. let x = of-outer _ _ _ c m in (_, _, x.2);
-  all = λ make a t c e i j. in_all limit _ _ _ c e (omega arith) (omega arith);
-}
-
-pub former-lists : (limit : ℕ) → Lists limit (in_former_order limit)
-unfolding in_former_order
-former-lists limit = record { made = λ make c m. of-outer make _ _ c m; all = in_all limit }
+  pub in_order_lem : (limit : ℕ) (make : ℕ → ℕ → Option S) (a t : ℕ) (c : S) → make a t ≡ some c → a < limit → t < limit → Memᴰ c (in_order limit make)
+  unfolding in_order
+  in_order_lem limit make a t c e i j =
+      in-moves-from make a t _ _ c e (in_span _ _ a (omega arith) (omega arith)) (in_span _ _ t (omega arith) (omega arith))
 
 -- what stands after one move
 
@@ -116,20 +103,19 @@ body-after : (x : Option (MoveMade (List Message))) (c : Plain) → body_after x
 body-after none c e = none≢some e
 body-after (some m) c e = (m, refl, sym (some_is e))
 
-module _ (limit : ℕ) (order : Order) (L : Lists limit order) where
-  pub of-nexts : (b c : Plain) → Memᴰ c (nexts_by order b) → Next b c
-  unfolding nexts_by
-  of-nexts b c i =
-      let x = L.made (λ a t. body_after (move a t b)) c i in
-      let y = body-after (move x.0 x.1 b) c x.2 in
-      (x.0, x.1, y.0, y.1, y.2)
+pub of-nexts : (limit : ℕ) (b c : Plain) → Memᴰ c (nexts limit b) → Next b c
+unfolding nexts
+of-nexts limit b c i =
+    let x = of-order limit _ c i in
+    let y = body-after (move x.0 x.1 b) c x.2 in
+    (x.0, x.1, y.0, y.1, y.2)
 
-  -- Where every number is below the limit, every move is in the list.
-  pub in-nexts : (P : ℕ → Type 0) (b : Plain) → Fits (λ (k : ℕ). k < limit) P b → (a t : ℕ) (m : MoveMade (List Message)) → move a t b ≡ some m → Memᴰ m.body (nexts_by order b)
-  unfolding nexts_by
-  in-nexts P b x a t m e =
-      let z = move-fits (λ (k : ℕ). k < limit) P a t b m e x in
-      L.all (λ c d. body_after (move c d b)) a t m.body (ap body_after e) z.0 z.1
+-- Where every number is below the limit, every move is in the list.
+pub in-nexts : (limit : ℕ) (P : ℕ → Type 0) (b : Plain) → Fits (λ (k : ℕ). k < limit) P b → (a t : ℕ) (m : MoveMade (List Message)) → move a t b ≡ some m → Memᴰ m.body (nexts limit b)
+unfolding nexts
+in-nexts limit P b x a t m e =
+    let z = move-fits (λ (k : ℕ). k < limit) P a t b m e x in
+    in_order_lem limit (λ c d. body_after (move c d b)) a t m.body (ap body_after e) z.0 z.1
 
 -- divisions
 

@@ -9,7 +9,7 @@ use lib.Dec.{ltb}
 use Rattle.base_sets.specs.Sets.{numbers_from}
 use Rattle.read_rule_words.specs.Rule.{Names, term_name, Rule, truth, negation, either, void, at, beside, some-name, sometime, somewhere, placed}
 use Rattle.base_slices.proofs.Tests.{by_test}
-use Rattle.theory_decision.specs.Walk.{Space, Count, Walked, stopped, says, Setting, on_yes, on_no, turned, if_any, first_yes, last_name, look, counted, walk, keep, made_inner, made_outer, in_order}
+use Rattle.theory_decision.specs.Walk.{Space, Count, Walked, stopped, says, Setting, on_yes, on_no, turned, if_any, first_yes, last_name, look, counted, walk, keep, moves_to, moves_from, in_order}
 
 -- nothing beside nothing, or related things
 pub data Both {A B : Type 0} (R : A → B → Type 0) : Option A → Option B → Type 0 where
@@ -39,20 +39,20 @@ module _ {A B : Type 0} (R : A → B → Type 0) where
   keep-lists neither p = p
   keep-lists (found r) p = one_more r p
 
-  to-lists : (f : ℕ → Option A) (g : ℕ → Option B) → ((t : ℕ) → Both R (f t) (g t)) → (ts : List ℕ) → RelatedLists R (made_inner f ts) (made_inner g ts)
-  unfolding made_inner
+  to-lists : (f : ℕ → Option A) (g : ℕ → Option B) → ((t : ℕ) → Both R (f t) (g t)) → (ts : List ℕ) → RelatedLists R (moves_to f ts) (moves_to g ts)
+  unfolding moves_to
   to-lists f g h [] = none_left
   to-lists f g h (t ∷ ts) = keep-lists (h t) (to-lists f g h ts)
 
-  from-lists : (f : ℕ → ℕ → Option A) (g : ℕ → ℕ → Option B) → ((a t : ℕ) → Both R (f a t) (g a t)) → (l ts : List ℕ) → RelatedLists R (made_outer f l ts) (made_outer g l ts)
-  unfolding made_outer
+  from-lists : (f : ℕ → ℕ → Option A) (g : ℕ → ℕ → Option B) → ((a t : ℕ) → Both R (f a t) (g a t)) → (l ts : List ℕ) → RelatedLists R (moves_from f l ts) (moves_from g l ts)
+  unfolding moves_from
   from-lists f g h [] ts = none_left
   from-lists f g h (a ∷ l) ts = lists-append (to-lists (f a) (g a) (h a) ts) (from-lists f g h l ts)
 
   -- moves that are listed in the walk's order
-  pub order-related : (limit : ℕ) (f : ℕ → ℕ → Option A) (g : ℕ → ℕ → Option B) → ((a t : ℕ) → Both R (f a t) (g a t)) → RelatedLists R (in_order limit f) (in_order limit g)
+  pub order-lists : (limit : ℕ) (f : ℕ → ℕ → Option A) (g : ℕ → ℕ → Option B) → ((a t : ℕ) → Both R (f a t) (g a t)) → RelatedLists R (in_order limit f) (in_order limit g)
   unfolding in_order
-  order-related limit f g h = from-lists _ _ (λ o i. h _ _) _ _
+  order-lists limit f g h = from-lists f g h (numbers_from 0 limit) (numbers_from 0 limit)
 
 -- the same done one after another
 on_no-same : (x : Walked) (k l : Count → Walked) → ((n : Count) → k n ≡ l n) → on_no x k ≡ on_no x l

@@ -25,7 +25,7 @@ use Rattle.theory_calculus.specs.Satisfaction.{Divided, nothing, to_left, to_rig
 use Rattle.theory_decision.specs.Divisions.{with_either, divisions}
 use Rattle.theory_decision.specs.PlainWalk.{only, insides, nexts}
 use Rattle.theory_decision.specs.Rising.{Rises, sum_of, share_sums}
-use Rattle.theory_decision.proofs.Listed.{Next, order-lists, of-nexts, of-divisions, of-insides, of-only}
+use Rattle.theory_decision.proofs.Listed.{Next, of-nexts, of-divisions, of-insides, of-only}
 
 -- ---- the operations
 
@@ -254,7 +254,7 @@ pub all-rise : (limit : ℕ) (b : Plain) → Rises 0 b → Taken limit b
 all-rise limit b x = record {
   only = λ n c e. alone-rises n b c (of-only n b c e) x;
   shares = λ d i. divided-rises (of-divisions b d i) 0 x;
-  nexts = λ c i. next-rises b c (of-nexts limit _ (order-lists limit) b c i) x;
+  nexts = λ c i. next-rises b c (of-nexts limit b c i) x;
   insides = λ c i. inside-rises (of-insides b c i) 0 x;
   wrap = λ k n. placed-rises k n b x;
   order = divisions-rise b x;

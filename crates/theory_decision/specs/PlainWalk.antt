@@ -25,26 +25,14 @@ abbrev pub body_after : Option (MoveMade (List Message)) → Option Plain
 body_after none = none
 body_after (some m) = some m.body
 
--- An order of moves: what is made of them, as a list.
-abbrev pub Order : Type 0
-Order = (make : (actor target : ℕ) → Option Plain) → List Plain
-
--- what stands after one move, in that order
-unfoldable pub nexts_by : Order → Plain → List Plain
-nexts_by order b = order (λ a t. body_after (move a t b))
-
--- plain trees, with the moves tried in that order
-abbrev pub space_by : Order → Space Plain
-space_by order = record { is_void = is_void; only = only; divisions = divisions; nexts = nexts_by order; insides = insides; wrap = wrapped }
-
--- in the walk's order, all part numbers being below `limit`: the script's parts and the PLACED words
-abbrev pub nexts : (limit : ℕ) → Plain → List Plain
-nexts limit = nexts_by (in_order limit)
+-- what stands after one move, all part numbers being below `limit`: the script's parts and the PLACED words
+unfoldable pub nexts : (limit : ℕ) → Plain → List Plain
+nexts limit b = in_order limit (λ a t. body_after (move a t b))
 
 abbrev pub plain_space : (limit : ℕ) → Space Plain
-plain_space limit = space_by (in_order limit)
+plain_space limit = record { is_void = is_void; only = only; divisions = divisions; nexts = nexts limit; insides = insides; wrap = wrapped }
 
 -- To unfold this is to unfold every definition of this module: for a proof by computation.
 unfoldable pub computing : Unit {0}
-unfolding is_void only with_either divisions insides nexts_by
+unfolding is_void only with_either divisions insides nexts
 computing = tt

@@ -89,25 +89,24 @@ module _ {S : Type 0} (space : Space S) (s : Setting) where
   abbrev pub walk_from : Rule → S → Walked
   walk_from r b = walk 256 1 [] r b (record { visits = 0; deepest = 0 })
 
--- What is made of pairs of an outer number and an inner one, by the outer numbers in turn and, of each, by the inner ones in turn.
+-- "SOMETIME after each move by rising actor, then target": what `make` makes of the moves of part numbers below `limit`.
+-- Everything that lists moves lists them here.
 unfoldable pub keep : {S : Type 0} → Option S → List S → List S
 keep none l = l
 keep (some c) l = c ∷ l
 
-unfoldable pub made_inner : {S : Type 0} → (make : (inner : ℕ) → Option S) → (inners : List ℕ) → List S
-made_inner make [] = []
-made_inner make (i ∷ is) = keep (make i) (made_inner make is)
+unfoldable pub moves_to : {S : Type 0} → (make : ℕ → Option S) → (targets : List ℕ) → List S
+moves_to make [] = []
+moves_to make (t ∷ ts) = keep (make t) (moves_to make ts)
 
-unfoldable pub made_outer : {S : Type 0} → (make : (outer inner : ℕ) → Option S) → (outers inners : List ℕ) → List S
-made_outer make [] is = []
-made_outer make (o ∷ os) is = made_inner (make o) is ++ made_outer make os is
+unfoldable pub moves_from : {S : Type 0} → (make : ℕ → ℕ → Option S) → (actors targets : List ℕ) → List S
+moves_from make [] ts = []
+moves_from make (a ∷ l) ts = moves_to (make a) ts ++ moves_from make l ts
 
--- "SOMETIME tries moves by rising target, then rising actor": what `make` makes of the moves of part numbers below `limit`.
--- Everything that lists moves lists them here.
 unfoldable pub in_order : {S : Type 0} → (limit : ℕ) → (make : (actor target : ℕ) → Option S) → List S
-in_order limit make = made_outer (λ target actor. make actor target) (numbers_from 0 limit) (numbers_from 0 limit)
+in_order limit make = moves_from make (numbers_from 0 limit) (numbers_from 0 limit)
 
 -- To unfold this is to unfold every definition of this module: for a proof by computation.
 unfoldable pub computing : Unit {0}
-unfolding numbers_from on_yes on_no turned if_any first_yes look counted walk keep made_inner made_outer in_order
+unfolding numbers_from on_yes on_no turned if_any first_yes look counted walk keep moves_to moves_from in_order
 computing = tt

@@ -1,22 +1,25 @@
 -- What a visit at SOMETIME answers, by how it begins and by its moves, and where they lead. Assumes nothing.
-use Prim.Native.Nat.{ℕ, suc, ◌+◌, ◌-◌, ◌≤◌, ◌<◌, max}
+use Prim.Native.Nat.{ℕ, suc, ◌+◌, ◌-◌, ◌^◌, ◌≤◌, ◌<◌, max}
 use mathlib.Core.List.{List, ◌∷◌}
 use mathlib.Core.Path.{◌≡◌, refl, sym, ap, ap₂, ◌∙◌, subst}
 use native.Mathlib.Omega.{arith}
 use lib.ListN.{get_or, set, length}
+use Rattle.base_sets.specs.Sets.{members, head_or}
 use Rattle.read_messages.specs.Words.{kind}
+use Rattle.read_scripts.specs.Represents.{body_in}
 use Rattle.read_rule_words.specs.Rule.{Rule, sometime, Later}
 use Rattle.read_rules.specs.Ruled.{Ruled}
 use Rattle.theory_closures.specs.Closure.{Bindings}
+use Rattle.engine_states.specs.Searches.{Located}
 use Rattle.engine_states.specs.Represents.{bound_in}
 use Rattle.engine_states.specs.declared.State.{State}
+use Rattle.engine_targets.specs.Targets.{TargetsOf}
 use Rattle.engine_targets.specs.Makes.{Moves}
 use Rattle.base_arrays.specs.Stretches.{stretch}
 use Rattle.engine_state_arrays.specs.Lent.{kinds_in, starts_in, state_in}
 use Rattle.theory_decision.specs.Walk.{Count, on_no, look}
 use Rattle.theory_decision.specs.Walk as spec
 use Rattle.theory_call.specs.ClosureCall.{closure_run}
-use Rattle.walk_stages.specs.Order.{FirstMove, ActorsFound}
 use Rattle.walk_stages.specs.Visits.{count_of, walked_of, indices, Lendable, Scene, here, visits, Visits}
 use Rattle.walk_stages.specs.declared.Counts.{Counts}
 use Rattle.walk_stages.specs.declared.Limits.{Limits}
@@ -122,8 +125,8 @@ module _ (program script sets numbers choices : List ℕ) (top somes left index 
 
   -- the moves are tried
   module _ (begun : Walked) (B : Begun begun) (d : Counts) (eb : begun ≡ No d) where
-    abbrev Trial : (actors : List ℕ) (now : Counts) (u rest others : ℕ) → Type 0
-    Trial actors now u rest others = Trying program script sets numbers choices top somes (left - 1) index limits actors d now u rest others
+    abbrev Trial : (targets : List ℕ) (now : Counts) (from rest : ℕ) → Type 0
+    Trial targets now from rest = Trying program script sets numbers choices top somes (left - 1) index limits targets d now from rest
 
     depth-left : 0 < left
     depth-left = B.depths d eb
@@ -132,18 +135,19 @@ module _ (program script sets numbers choices : List ℕ) (top somes left index 
     tried-told q X = B.goes q X ∙ no-goes begun (walked_of begun) refl (tried q X) d eb
 
     -- none leads to a yes
-    pub leads-none : (actors : List ℕ) (now : Counts) (u rest others : ℕ) → Trial actors now u rest others → rest ≡ 0 → (list : List ℕ) → Led (No now) 0 list
-    leads-none actors now u rest others N z list = record {
-      answers = λ q X. trying-ends program script sets numbers choices top somes (left - 1) index limits actors d now u rest others N z (deeper q depth-left X) q X.is ∙ sym (tried-told q X);
+    pub leads-none : (targets : List ℕ) (now : Counts) (from rest : ℕ) → Trial targets now from rest → rest ≡ 0 → (list : List ℕ) → Led (No now) 0 list
+    leads-none targets now from rest N z list = record {
+      answers = λ q X. trying-ends program script sets numbers choices top somes (left - 1) index limits targets d now from rest N z (deeper q depth-left X) q X.is ∙ sym (tried-told q X);
       few = omega arith;
       moves = λ q X f n e. absurd (no-yes now n e);
     }
 
     -- one of them does, or a visit behind it stops
-    module _ (homes actors : List ℕ) (targets : ℕ) (F : ActorsFound state limits.limit homes actors targets)
-        (now : Counts) (u rest others a t : ℕ) (N : Trial actors now u rest others) (first : FirstMove u rest others a t)
+    module _ (homes targets : List ℕ) (P : Located (members (get_or sets 129 0)) (body_in state.kids) (λ i. get_or homes i 0))
+        (T : (a : ℕ) → a < limits.limit → TargetsOf (body_in state.kids) (get_or state.notes.acts a 0) (members (get_or state.notes.aims a 0)) (λ i. get_or homes i 0) a (members (get_or targets a 0)))
+        (now : Counts) (from rest t : ℕ) (N : Trial targets now from rest) (small : rest < 2 ^ 64) (some-turns : rest ≡ 0 → ⊥) (et : t ≡ head_or 64 (members rest))
         (sets' numbers' : List ℕ) (top' : ℕ) (L : Lendable script sets' numbers' top') (ek : kinds_in numbers' ≡ kinds_in numbers) (es : starts_in numbers' ≡ starts_in numbers)
-        (M : Moves script (kinds_in numbers) (starts_in numbers) state (state_in sets' numbers' top') (λ i. get_or homes i 0) a t)
+        (M : Moves script (kinds_in numbers) (starts_in numbers) state (state_in sets' numbers' top') (λ i. get_or homes i 0) (from - 1) t)
         (x : Walked) (count : ℕ) (list : List ℕ) (Z : Leads program script sets' numbers' choices top' somes (left - 1) index limits now x count list) where
       -- the words from the visit's own index on
       words-on : (w : ℕ) → left ≤ 256 → length list ≡ 256 → stretch (256 - left) (count + 1) (set list (256 - left) w) ≡ w ∷ stretch (256 - (left - 1)) count list
@@ -156,25 +160,25 @@ module _ (program script sets numbers choices : List ℕ) (top somes left index 
 
       -- where the move leads
       moved : (q : Rule) (X : Here q) → X.scene.from ≡ 0 → (n : Counts) → x ≡ Yes n
-          → LeadsTo limits X.scene.names q (here script sets numbers top X.scene.tree) (move_word a t ∷ stretch (256 - (left - 1)) count list)
+          → LeadsTo limits X.scene.names q (here script sets numbers top X.scene.tree) (move_word (from - 1) t ∷ stretch (256 - (left - 1)) count list)
       moved q X f n e =
           let Y = deeper q depth-left X in
-          let (m, em, R, bound) = turn_moved program script sets numbers choices top somes (left - 1) index limits homes actors targets F d now u rest others a t N first sets' numbers' top' L ek es M Y q X.is in
-          let S = scene-moved program script sets numbers choices top somes (left - 1) index limits Y sets' numbers' top' L ek es a t m em R in
+          let (m, em, R, bound) = turn_moved program script sets numbers choices top somes (left - 1) index limits homes targets P T d now from rest t N small some-turns et sets' numbers' top' L ek es M Y q X.is in
+          let S = scene-moved program script sets numbers choices top somes (left - 1) index limits Y sets' numbers' top' L ek es (from - 1) t m em R in
           let D = Z.moves q (record { scene = S; is = X.is }) f n e in
-          let low = move-low σ limits.parts a t X.scene.tree m (λ i h. X.scene.stage.below i (omega (arith, f))) em in
-          leads-before limits X.scene.names q (here script sets numbers top X.scene.tree) a t m (stretch (256 - (left - 1)) count list) em low.0 low.1 (omega (arith, X.scene.stage.within, X.scene.stage.few))
+          let low = move-low σ limits.parts (from - 1) t X.scene.tree m (λ i h. X.scene.stage.below i (omega (arith, f))) em in
+          leads-before limits X.scene.names q (here script sets numbers top X.scene.tree) (from - 1) t m (stretch (256 - (left - 1)) count list) em low.0 low.1 (omega (arith, X.scene.stage.within, X.scene.stage.few))
           (subst (λ (τ : Bindings). LeadsTo limits X.scene.names q (record { tree = m.body; bindings = τ }) (stretch (256 - (left - 1)) count list)) bound D)
 
       -- with the move's word in the list before those that lead on from it
-      pub leads-move : NotNo x → left ≤ 256 → length list ≡ 256 → (k : ℕ) (list' : List ℕ) → list' ≡ set list (256 - left) (move_word a t) → k ≡ count + 1 → Led x k list'
+      pub leads-move : NotNo x → left ≤ 256 → length list ≡ 256 → (k : ℕ) (list' : List ℕ) → list' ≡ set list (256 - left) (move_word (from - 1) t) → k ≡ count + 1 → Led x k list'
       leads-move h l long k list' el em = record {
         answers = λ q X.
-            turn-stops program script sets numbers choices top somes (left - 1) index limits homes actors targets F d now u rest others a t N first sets' numbers' top' L ek es M x (leads-there Z) h (deeper q depth-left X) q X.is
+            turn-stops program script sets numbers choices top somes (left - 1) index limits homes targets P T d now from rest t N small some-turns et sets' numbers' top' L ek es M x (leads-there Z) h (deeper q depth-left X) q X.is
             ∙ sym (tried-told q X);
         few = omega (arith, Z.few, depth-left);
         moves = λ q X f n e.
-            let w = move_word a t in
+            let w = move_word (from - 1) t in
             let ws : stretch (256 - left) k list' ≡ w ∷ stretch (256 - (left - 1)) count list =
             ap₂ (λ (m : ℕ) (y : List ℕ). stretch (256 - left) m y) em el ∙ words-on w l long in
             subst (LeadsTo limits X.scene.names q (here script sets numbers top X.scene.tree)) (sym ws) (moved q X f n e);

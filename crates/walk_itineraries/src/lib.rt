@@ -6,8 +6,7 @@ ghost use Rattle.walk_itineraries.specs.Leading.{move_word, Begins, Leads as Gui
 
 use walk_rule_answers::next_count;
 use walk_stages::{Counts, Limits, Walked};
-use walk_states::{Spot, Step, next_state};
-use walk_turns::{all_moves, first_move, next_turn};
+use walk_states::{Spot, Step, all_targets, next_state, next_turn};
 use walk_visits::visit;
 
 // Where a visit is made, and the counts before it.
@@ -89,16 +88,14 @@ pub fn lead<'a, 'b>(
         return Led { walked, count: 0 };
     };
     let spot = arrival.spot;
-    let mut homes: [usize; 64] = [65; 64];
-    let mut actors: [u64; 64] = [0; 64];
-    let top = spot.top;
-    let limit = limits.limit;
-    let before = all_moves(sets, numbers, top, limit, &mut homes, &mut actors);
+    let mut targets: [u64; 64] = [0; 64];
+    let homes = all_targets(sets, numbers, spot.top, limits.limit, &mut targets);
     let mut now = c;
-    let mut turn = next_turn(&actors, before);
+    let mut turn = next_turn(&targets, 0, 0, limits.limit);
     while turn.rest != 0 {
-        let pair = first_move(turn);
-        let step = Step::Move(pair.actor, pair.target);
+        let a = turn.from - 1;
+        let t = base_sets::first(turn.rest);
+        let step = Step::Move(a, t);
         // The move is made on a copy of the state.
         let mut s = *sets;
         let mut n = *numbers;
@@ -112,12 +109,12 @@ pub fn lead<'a, 'b>(
         let led = lead(program, script, &s, &n, chosen, next, limits, list);
         let walked = led.walked;
         let Walked::No(c2) = walked else {
-            note_move(list, spot.left, pair.actor, pair.target);
+            note_move(list, spot.left, a, t);
             let count = led.count + 1;
             return Led { walked, count };
         };
         now = c2;
-        turn = next_turn(&actors, turn);
+        turn = next_turn(&targets, turn.from, turn.rest, limits.limit);
     }
     let walked = Walked::No(now);
     Led { walked, count: 0 }

@@ -1,5 +1,5 @@
--- SOMETIME: what stands after each move to a target, as a loop over the members of the set of its actors meets them; and whose
--- moves a closure allows. Assumes nothing.
+-- SOMETIME: what stands after each move, actor by actor and, of an actor, target by target, as a loop over the members of the
+-- set of its targets meets them. Assumes nothing.
 use Prim.Native.Nat.{ℕ, zero, suc, ◌+◌, ◌-◌, ◌≤◌, ◌<◌}
 use mathlib.Core.Bool.{Bool, true, false, true≢false}
 use mathlib.Core.List.{List, [], ◌∷◌, ◌++◌}
@@ -19,32 +19,32 @@ use Rattle.theory_machine.proofs.Everywhere.{Everywhere, settle-everywhere, Keep
 use Rattle.theory_closures.specs.Closure.{Action, ClosureHead, Closure, Bindings, view_under, all_spent, closure_move, ClosureMachine}
 use Rattle.engine_targets.specs.Targets.{is_some}
 use Rattle.theory_closures.proofs.Tallies.{closure-inv}
-use Rattle.theory_decision.specs.Walk.{keep, made_inner}
+use Rattle.theory_decision.specs.Walk.{keep, moves_to}
 use Rattle.theory_decision.specs.ClosureWalk.{machine_after}
 
--- ---- what is made of numbers, each by itself
+-- ---- any moves of one actor
 
 module _ {S : Type 0} (make : ℕ → Option S) where
-  pub to_none : (t : ℕ) (l : List ℕ) → is_some (make t) ≡ false → made_inner make (t ∷ l) ≡ made_inner make l
-  unfolding made_inner keep is_some
+  to_none : (t : ℕ) (l : List ℕ) → is_some (make t) ≡ false → moves_to make (t ∷ l) ≡ moves_to make l
+  unfolding moves_to keep is_some
   to_none t l e = is_none (make t) e
     where
-      is_none : (x : Option S) → is_some x ≡ false → keep x (made_inner make l) ≡ made_inner make l
+      is_none : (x : Option S) → is_some x ≡ false → keep x (moves_to make l) ≡ moves_to make l
       is_none none e = refl
       is_none (some c) e = absurd (true≢false e)
 
-  to_same : (t : ℕ) (l k : List ℕ) → made_inner make l ≡ made_inner make k → made_inner make (t ∷ l) ≡ made_inner make (t ∷ k)
-  unfolding made_inner
+  to_same : (t : ℕ) (l k : List ℕ) → moves_to make l ≡ moves_to make k → moves_to make (t ∷ l) ≡ moves_to make (t ∷ k)
+  unfolding moves_to
   to_same t l k e = ap (keep (make t)) e
 
-  -- something is made of each
+  -- each of the targets makes something
   abbrev pub Each : List ℕ → Type 0
   Each [] = Unit {0}
   Each (t ∷ l) = (is_some (make t) ≡ true) × Each l
 
   -- those that pass a test which says what makes something
   module _ (p : ℕ → Bool) where
-    to-kept : (b d : ℕ) → ((t : ℕ) → b ≤ t → t < b + d → p t ≡ is_some (make t)) → (made_inner make (numbers_from b d) ≡ made_inner make (sets.keep p (numbers_from b d))) × Each (sets.keep p (numbers_from b d))
+    to-kept : (b d : ℕ) → ((t : ℕ) → b ≤ t → t < b + d → p t ≡ is_some (make t)) → (moves_to make (numbers_from b d) ≡ moves_to make (sets.keep p (numbers_from b d))) × Each (sets.keep p (numbers_from b d))
     unfolding numbers_from sets.keep
     to-kept b zero h = (refl, tt)
     to-kept b (suc d) h =
@@ -54,27 +54,27 @@ module _ {S : Type 0} (make : ℕ → Option S) where
         (λ t. rw t (to_same b (numbers_from (suc b) d) _ e, (sym s ∙ t, a)))
         (λ t. rw t (to_none b (numbers_from (suc b) d) (sym s ∙ t) ∙ e, a))
 
-  -- numbers of which nothing is made
-  to-nothing : (b d : ℕ) → ((t : ℕ) → b ≤ t → is_some (make t) ≡ false) → made_inner make (numbers_from b d) ≡ made_inner make []
+  -- targets that make nothing
+  to-nothing : (b d : ℕ) → ((t : ℕ) → b ≤ t → is_some (make t) ≡ false) → moves_to make (numbers_from b d) ≡ moves_to make []
   unfolding numbers_from
   to-nothing b zero h = refl
   to-nothing b (suc d) h = to_none b (numbers_from (suc b) d) (h b (omega arith)) ∙ to-nothing (suc b) d (λ t u. h t (omega arith))
 
-  to-limit : (b d more : ℕ) → ((t : ℕ) → b + d ≤ t → is_some (make t) ≡ false) → made_inner make (numbers_from b (d + more)) ≡ made_inner make (numbers_from b d)
+  to-limit : (b d more : ℕ) → ((t : ℕ) → b + d ≤ t → is_some (make t) ≡ false) → moves_to make (numbers_from b (d + more)) ≡ moves_to make (numbers_from b d)
   unfolding numbers_from
-  to-limit b zero more h = let e : 0 + more ≡ more = omega arith in ap (λ (n : ℕ). made_inner make (numbers_from b n)) e ∙ to-nothing b more (λ t u. h t (omega arith))
+  to-limit b zero more h = let e : 0 + more ≡ more = omega arith in ap (λ (n : ℕ). moves_to make (numbers_from b n)) e ∙ to-nothing b more (λ t u. h t (omega arith))
   to-limit b (suc d) more h =
       let e : suc d + more ≡ suc (d + more) = omega arith in
-      ap (λ (n : ℕ). made_inner make (numbers_from b n)) e ∙ to_same b (numbers_from (suc b) (d + more)) (numbers_from (suc b) d) (to-limit (suc b) d more (λ t u. h t (omega arith)))
+      ap (λ (n : ℕ). moves_to make (numbers_from b n)) e ∙ to_same b (numbers_from (suc b) (d + more)) (numbers_from (suc b) d) (to-limit (suc b) d more (λ t u. h t (omega arith)))
 
-  -- THEOREM: what is made of all numbers is what is made of the members of the set.
+  -- THEOREM: what the moves to all targets make is what those to the members of the set make.
   pub to-members : (m limit : ℕ) → limit ≤ 64 → ((t : ℕ) → t < 64 → elem t (members m) ≡ is_some (make t)) → ((t : ℕ) → limit ≤ t → is_some (make t) ≡ false)
-      → (made_inner make (numbers_from 0 limit) ≡ made_inner make (members m)) × Each (members m)
+      → (moves_to make (numbers_from 0 limit) ≡ moves_to make (members m)) × Each (members m)
   unfolding members
   to-members m limit low told high =
       let e : 64 ≡ limit + (64 - limit) = omega arith in
       let (q, a) = to-kept (has m) 0 64 (λ t u v. sym (has-elem m t (omega arith)) ∙ told t (omega arith)) in
-      (sym (to-limit 0 limit (64 - limit) (λ t u. high t (omega arith))) ∙ ap (λ (n : ℕ). made_inner make (numbers_from 0 n)) (sym e) ∙ q, a)
+      (sym (to-limit 0 limit (64 - limit) (λ t u. high t (omega arith))) ∙ ap (λ (n : ℕ). moves_to make (numbers_from 0 n)) (sym e) ∙ q, a)
 
 -- ---- the closure's moves
 
@@ -118,13 +118,13 @@ move-low σ limit a t b m l e =
     let (x, y, u) = makes-everywhere (view_under σ) (λ (i : ℕ) (h : ClosureHead). i < limit) K a t M.makes (low-under limit b l) in
     (x.1, y.1, under_low limit m.body (rw M.settled (settle-everywhere (λ (i : ℕ) (h : ClosureHead). i < limit) (all_spent (m.news ++ σ)) M.unsettled u)))
 
-pub move-high : (σ : Bindings) (limit a t : ℕ) (b : Closure) → Low limit b → (a < limit → t < limit → ⊥) → is_some (closure_move σ a t b) ≡ false
+pub move-high : (σ : Bindings) (limit a t : ℕ) (b : Closure) → Low limit b → limit ≤ t → is_some (closure_move σ a t b) ≡ false
 unfolding is_some
 move-high σ limit a t b l g = go (closure_move σ a t b) refl
   where
     go : (x : Option (MoveMade Action)) → closure_move σ a t b ≡ x → is_some x ≡ false
     go none e = refl
-    go (some m) e = let z = move-low σ limit a t b m l e in absurd (g z.0 z.1)
+    go (some m) e = absurd (let z = move-low σ limit a t b m l e in let n : t < limit = z.1 in let w : ⊥ = omega arith in w)
 
 -- a target of the set is one of a move that is made
 pub after-made : (σ : Bindings) (b : Closure) (a t : ℕ) → is_some (after σ b a t) ≡ true → is_some (closure_move σ a t b) ≡ true

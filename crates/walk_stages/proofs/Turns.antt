@@ -19,10 +19,10 @@ use Rattle.read_rule_words.specs.Rule.{Names, Rule, beside, some-name, sometime,
 use Rattle.read_rules.specs.Ruled.{Ruled}
 use Rattle.read_rules.proofs.Inversion.{Told}
 use Rattle.theory_closures.specs.Closure.{Closure, ClosureHead, ClosureMachine, Bindings, closure_move}
-use Rattle.engine_states.specs.Searches.{home}
+use Rattle.engine_states.specs.Searches.{home, Located}
 use Rattle.engine_states.specs.Represents.{heads, bound_in}
 use Rattle.engine_states.specs.declared.State.{State}
-use Rattle.engine_targets.specs.Targets.{is_some}
+use Rattle.engine_targets.specs.Targets.{is_some, TargetsOf}
 use Rattle.engine_targets.specs.Makes.{Makes, Moves}
 use Rattle.engine_targets.proofs.Aiming.{state-homes, state-targets}
 use Rattle.base_arrays.specs.Stretches.{stretch}
@@ -33,7 +33,7 @@ use Rattle.theory_decision.specs.Walk.{Count, on_yes, first_yes, look, last_name
 use Rattle.theory_decision.specs.Walk as spec
 use Rattle.theory_decision.specs.ClosureWalk.{closure_space, shares, insides, nexts}
 use Rattle.theory_decision.specs.ClosureWalk as over
-use Rattle.walk_stages.specs.Order.{pairs_left, pairs_behind, Turns, FirstMove, targets_in, ActorsFound}
+use Rattle.walk_stages.specs.Order.{pairs_left, pairs_behind, Turns}
 use Rattle.walk_stages.specs.Visits.{count_of, walked_of, setting_of, indices, Lendable, Scene, here, visits, Visits, Looks, Splits}
 use Rattle.walk_stages.specs.declared.Counts.{Counts}
 use Rattle.walk_stages.specs.declared.Limits.{Limits}
@@ -44,7 +44,7 @@ use Rattle.walk_stages.proofs.Focused.{top-told, lent-told}
 use Rattle.walk_stages.proofs.Divided.{Shared, shared_last, shared-next, remaining, remaining-all, remaining-first, remaining-none}
 use Rattle.walk_stages.proofs.Rooms.{Rooms, rooms-first, rooms-none, rooms-told}
 use Rattle.walk_stages.proofs.Targeted.{after, after-made, after_is}
-use Rattle.walk_stages.proofs.Trials.{turns-fewer, behind-none, made_of, AllMade, Tried, tried-holds, tried-makes, tried-again, tried-stops, tried-ends, nexts-made}
+use Rattle.walk_stages.proofs.Trials.{turns-first, turns-fewer, Tried, tried-holds, tried-makes, tried-again, tried-stops, tried-ends, nexts-made}
 use Rattle.walk_stages.proofs.Scenes.{scene-told, scene-piece, scene-inner, scene-chosen, scene-moved, Inside}
 
 -- a loop over the members of a set: those behind its first are fewer
@@ -318,44 +318,45 @@ module _ (program script sets numbers choices : List ℕ) (top somes left index 
   low_told : (X : Here) (i : ℕ) → limits.limit ≤ i → times_in i X.tree ≡ 0
   low_told X i h = X.stage.below i (omega (arith, X.stage.within))
 
-  -- the turn of the target u with the actors of `rest`, before the targets of `others`
-  pub record Trying (actors : List ℕ) (c now : Counts) (u rest others : ℕ) : Type 0 where
+  -- the turn before `from` with the members of `rest`
+  pub record Trying (targets : List ℕ) (c now : Counts) (from rest : ℕ) : Type 0 where
     pub pairs : List (ℕ × ℕ)
-    pub turn : Turns actors u rest others pairs
+    pub turn : Turns targets limits.limit from rest pairs
     pub tried : (X : Here) (q : Rule) → X.rule ≡ sometime index q → Tried (after σ X.tree) (trying X q) (nexts σ limits.limit X.tree) c now pairs
 
   -- the turn behind has fewer
-  module _ (actors : List ℕ) (c now : Counts) (u rest others a t : ℕ) (N : Trying actors c now u rest others) (first : FirstMove u rest others a t) where
-    pub trying-less : (u' rest' others' : ℕ) → Turns actors u' rest' others' (pairs_behind actors u rest others) → length (pairs_left actors u' rest' others') < length (pairs_left actors u rest others)
-    trying-less u' rest' others' next = turns-fewer actors u rest others a t first N.pairs N.turn u' rest' others' next
+  module _ (targets : List ℕ) (c now : Counts) (from rest : ℕ) (N : Trying targets c now from rest) (small : rest < 2 ^ 64) (some_left : rest ≡ 0 → ⊥) where
+    pub trying-less : (from' rest' : ℕ) → Turns targets limits.limit from' rest' (pairs_behind targets limits.limit from rest)
+        → length (pairs_left targets limits.limit from' rest') < length (pairs_left targets limits.limit from rest)
+    trying-less from' rest' next = turns-fewer targets limits.limit from rest small some_left N.pairs N.turn from' rest' next
 
-  -- the homes, and the actors of the moves to each target, that are found
-  module _ (homes actors : List ℕ) (targets : ℕ) (F : ActorsFound state limits.limit homes actors targets) where
+  -- the homes and the targets that are found
+  module _ (homes targets : List ℕ) (P : Located (members (get_or sets 129 0)) (body_in state.kids) (λ i. get_or homes i 0))
+      (T : (a : ℕ) → a < limits.limit → TargetsOf (body_in state.kids) (get_or state.notes.acts a 0) (members (get_or state.notes.aims a 0)) (λ i. get_or homes i 0) a (members (get_or targets a 0))) where
     placed : (X : Here) (i : ℕ) → i < 64 → get_or homes i 0 ≡ home σ i X.tree
-    placed X = state-homes script (kinds_in numbers) (starts_in numbers) X.weight X.spent state X.tree X.stage.ready (few X) X.stage.represents (λ i. get_or homes i 0) F.located
+    placed X = state-homes script (kinds_in numbers) (starts_in numbers) X.weight X.spent state X.tree X.stage.ready (few X) X.stage.represents (λ i. get_or homes i 0) P
 
-    aimed : (X : Here) (a : ℕ) → a < limits.limit → (t : ℕ) → t < 64 → elem t (targets_in actors a) ≡ is_some (closure_move σ a t X.tree)
+    aimed : (X : Here) (a : ℕ) → a < limits.limit → (t : ℕ) → t < 64 → elem t (members (get_or targets a 0)) ≡ is_some (closure_move σ a t X.tree)
     aimed X a h =
         let low : a < 64 = omega (arith, X.stage.few) in
-        state-targets script (kinds_in numbers) (starts_in numbers) X.weight X.spent state X.tree X.stage.ready (few X) X.stage.represents (λ i. get_or homes i 0) F.located a low (targets_in actors a) (F.moves a h)
+        state-targets script (kinds_in numbers) (starts_in numbers) X.weight X.spent state X.tree X.stage.ready (few X) X.stage.represents (λ i. get_or homes i 0) P a low (members (get_or targets a 0)) (T a h)
 
-    pub trying-holds : (c : Counts) (s r u rest others : ℕ) → r ≡ 0 → Turns actors u rest others (pairs_behind actors s r targets) → Trying actors c c u rest others
-    trying-holds c s r u rest others z U =
-        let all : List (ℕ × ℕ) = pairs_behind actors s r targets in
-        record {
-          pairs = all;
-          turn = U;
-          tried = λ X q e. tried-holds (after σ X.tree) (trying X q) all (nexts σ limits.limit X.tree)
-              (subst (λ (l : List (ℕ × ℕ)). (nexts σ limits.limit X.tree ≡ made_of (after σ X.tree) l) × AllMade (after σ X.tree) l) (sym (behind-none actors s r targets z))
-              (nexts-made σ limits.limit X.tree X.stage.few (low_told X) actors targets (aimed X) F.others F.unaimed)) c;
-        }
+    pub trying-holds : (c : Counts) (from rest : ℕ) → Turns targets limits.limit from rest (pairs_behind targets limits.limit 0 0) → Trying targets c c from rest
+    trying-holds c from rest U = record {
+      pairs = pairs_behind targets limits.limit 0 0;
+      turn = U;
+      tried = λ X q e. tried-holds (after σ X.tree) (trying X q) (pairs_behind targets limits.limit 0 0) (nexts σ limits.limit X.tree) (nexts-made σ limits.limit X.tree X.stage.few (low_told X) targets (aimed X)) c;
+    }
 
-    module _ (c now : Counts) (u rest others a t : ℕ) (N : Trying actors c now u rest others) (first : FirstMove u rest others a t) where
-      abbrev behind : List (ℕ × ℕ)
-      behind = pairs_behind actors u rest others
+    module _ (c now : Counts) (from rest t : ℕ) (N : Trying targets c now from rest) (small : rest < 2 ^ 64) (some_left : rest ≡ 0 → ⊥) (et : t ≡ head_or 64 (members rest)) where
+      abbrev a : ℕ
+      a = from - 1
 
-      tried-first : (X : Here) (q : Rule) → X.rule ≡ sometime index q → Tried (after σ X.tree) (trying X q) (nexts σ limits.limit X.tree) c now ((a, t) ∷ behind)
-      tried-first X q e = subst (λ (l : List (ℕ × ℕ)). Tried (after σ X.tree) (trying X q) (nexts σ limits.limit X.tree) c now l) (first actors N.pairs N.turn) (N.tried X q e)
+      abbrev others : List (ℕ × ℕ)
+      others = pairs_behind targets limits.limit from rest
+
+      tried-first : (X : Here) (q : Rule) → X.rule ≡ sometime index q → Tried (after σ X.tree) (trying X q) (nexts σ limits.limit X.tree) c now ((a, t) ∷ others)
+      tried-first X q e = subst (λ (l : List (ℕ × ℕ)). Tried (after σ X.tree) (trying X q) (nexts σ limits.limit X.tree) c now l) (turns-first N.turn small some_left t et) (N.tried X q e)
 
       -- the move leads to the next state
       module _ (sets' numbers' : List ℕ) (top' : ℕ) (L : Lendable script sets' numbers' top') (ek : kinds_in numbers' ≡ kinds_in numbers) (es : starts_in numbers' ≡ starts_in numbers)
@@ -363,7 +364,7 @@ module _ (program script sets numbers choices : List ℕ) (top somes left index 
         -- which represents what the move makes of the closure
         pub turn_moved : (X : Here) (q : Rule) → X.rule ≡ sometime index q → Makes script (kinds_in numbers) (starts_in numbers) state (state_in sets' numbers' top') X.weight (X.spent + 1) a t X.tree
         turn_moved X q e =
-            let is = tried-makes (after σ X.tree) (trying X q) (nexts σ limits.limit X.tree) c now a t behind (tried-first X q e) in
+            let is = tried-makes (after σ X.tree) (trying X q) (nexts σ limits.limit X.tree) c now a t others (tried-first X q e) in
             M X.weight X.spent X.tree (omega (arith, X.stage.slack)) X.stage.represents (placed X, after-made σ X.tree a t is)
 
         -- the visit of SOMETIME that is made there
@@ -377,19 +378,19 @@ module _ (program script sets numbers choices : List ℕ) (top somes left index 
                 visited (scene-moved program script sets numbers choices top somes left index limits X sets' numbers' top' L ek es a t m em R) q e,
               )
 
-          pub turn-again : (d : Counts) → x ≡ No d → (u' rest' others' : ℕ) → Turns actors u' rest' others' behind → Trying actors c d u' rest' others'
-          turn-again d ex u' rest' others' next = record {
-            pairs = behind;
+          pub turn-again : (d : Counts) → x ≡ No d → (from' rest' : ℕ) → Turns targets limits.limit from' rest' others → Trying targets c d from' rest'
+          turn-again d ex from' rest' next = record {
+            pairs = others;
             turn = next;
             tried = λ X q e.
                 let (m, is, v) = turn-tried X q e in
-                tried-again (after σ X.tree) (trying X q) (nexts σ limits.limit X.tree) c now a t behind (tried-first X q e) m is x v d ex;
+                tried-again (after σ X.tree) (trying X q) (nexts σ limits.limit X.tree) c now a t others (tried-first X q e) m is x v d ex;
           }
 
           pub turn-stops : NotNo x → (X : Here) (q : Rule) → X.rule ≡ sometime index q → walked_of x ≡ first_yes (trying X q) (nexts σ limits.limit X.tree) (count_of c)
           turn-stops h X q e =
               let (m, is, v) = turn-tried X q e in
-              tried-stops (after σ X.tree) (trying X q) (nexts σ limits.limit X.tree) c now a t behind (tried-first X q e) m is x v h
+              tried-stops (after σ X.tree) (trying X q) (nexts σ limits.limit X.tree) c now a t others (tried-first X q e) m is x v h
 
         -- any visit that is made there is one of SOMETIME
         module _ (x : Walked) (visited : Visits program script sets' numbers' choices top' somes left index limits now x) where
@@ -397,11 +398,11 @@ module _ (program script sets numbers choices : List ℕ) (top somes left index 
               → walked_of x ≡ visits limits left Y.names (sometime index q) (here script sets' numbers' top' Y.tree) (count_of now)
           as-sometime Y q e = visited Y ∙ ap (λ (y : Rule). visits limits left Y.names y (here script sets' numbers' top' Y.tree) (count_of now)) e
 
-          pub trying-again : (d : Counts) → x ≡ No d → (u' rest' others' : ℕ) → Turns actors u' rest' others' behind → Trying actors c d u' rest' others'
+          pub trying-again : (d : Counts) → x ≡ No d → (from' rest' : ℕ) → Turns targets limits.limit from' rest' others → Trying targets c d from' rest'
           trying-again = turn-again x as-sometime
 
           pub trying-stops : NotNo x → (X : Here) (q : Rule) → X.rule ≡ sometime index q → walked_of x ≡ first_yes (trying X q) (nexts σ limits.limit X.tree) (count_of c)
           trying-stops = turn-stops x as-sometime
 
-  pub trying-ends : (actors : List ℕ) (c now : Counts) (u rest others : ℕ) → Trying actors c now u rest others → rest ≡ 0 → (X : Here) (q : Rule) → X.rule ≡ sometime index q → walked_of (No now) ≡ first_yes (trying X q) (nexts σ limits.limit X.tree) (count_of c)
-  trying-ends actors c now u rest others N z X q e = tried-ends (after σ X.tree) (trying X q) (nexts σ limits.limit X.tree) c now N.pairs (N.tried X q e) (N.turn.ends z)
+  pub trying-ends : (targets : List ℕ) (c now : Counts) (from rest : ℕ) → Trying targets c now from rest → rest ≡ 0 → (X : Here) (q : Rule) → X.rule ≡ sometime index q → walked_of (No now) ≡ first_yes (trying X q) (nexts σ limits.limit X.tree) (count_of c)
+  trying-ends targets c now from rest N z X q e = tried-ends (after σ X.tree) (trying X q) (nexts σ limits.limit X.tree) c now N.pairs (N.tried X q e) (N.turn.ends z)

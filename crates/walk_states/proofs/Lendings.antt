@@ -3,13 +3,16 @@
 use Prim.Native.Nat.{ℕ, ◌+◌, ◌<◌}
 use mathlib.Core.Bool.{true, false}
 use mathlib.Core.List.{List}
-use mathlib.Core.Path.{◌≡◌, sym, ap, subst}
+use mathlib.Core.Path.{◌≡◌, sym, ap, ◌∙◌, subst}
 use native.Mathlib.Omega.{arith}
 use lib.Dec.{eqb}
-use lib.ListN.{get_or}
+use lib.ListN.{get_or, set, length, length-set}
+use lib.Seq.{get_or-set_same, get_or-set_other}
+use borrow.Author.Tests.{eqb-true, eqb-false}
 use Rattle.read_messages.specs.declared.Named.TheVariants.{Called}
 use Rattle.base_sets.specs.Sets.{members, elem}
 use Rattle.theory_machine.specs.Moves.{same_name}
+use Rattle.base_slices.proofs.Tests.{by_test}
 use Rattle.engine_states.specs.Seen.{name_in}
 use Rattle.engine_states.specs.declared.State.{State}
 use Rattle.base_arrays.specs.Stretches.{stretch}
@@ -25,6 +28,13 @@ module _ (named : ℕ) (numbers : List ℕ) (i n : ℕ) where
   pub called-none : elem i (members named) ≡ false → false ≡ same_name (Called n) (name_in named (stretch 192 64 numbers) i)
   unfolding name_in same_name
   called-none e = rw e
+
+-- one more entry of a list that is filled
+pub filled_more : (P : ℕ → ℕ → Type 0) (l : List ℕ) (a v : ℕ) → a < length l → ((b : ℕ) → b < a → P b (get_or l b 0)) → P a v → (b : ℕ) → b < a + 1 → P b (get_or (set l a v) b 0)
+filled_more P l a v h old new b low =
+    by_test (eqb b a)
+    (λ t. let e : a ≡ b = sym (eqb-true b a t) in subst (λ (x : ℕ). P x (get_or (set l a v) x 0)) e (subst (P a) (sym (get_or-set_same l a v 0 h)) new))
+    (λ t. let n : b ≡ a → ⊥ = eqb-false b a t in subst (P b) (sym (get_or-set_other l a b v 0 n)) (old b (omega arith)))
 
 -- what holds of a state and its part table holds of equal ones
 pub carried : (P : List ℕ → List ℕ → State → Type 0) (k k₁ l l₁ : List ℕ) (s s₁ : State) → k₁ ≡ k → l₁ ≡ l → s₁ ≡ s → P k l s → P k₁ l₁ s₁

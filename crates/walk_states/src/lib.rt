@@ -1,24 +1,30 @@
 // What the words of a rule ask of the process that a state represents (document 01, "The rule and its walk"), a state
 // being lent as two arrays and made only where a move or PLACED changes it.
-ghost use Rattle.std.specs.Prelude.{◌≡◌, ℕ, ◌+◌, ◌≤◌, ◌<◌, length, get_or};
+ghost use Rattle.std.specs.Prelude.{◌≡◌, ℕ, ◌+◌, ◌-◌, ◌≤◌, ◌<◌, length, get_or};
 ghost use Rattle.read_messages.specs.Message.{name as called};
 ghost use Rattle.read_messages.specs.declared.Named.TheVariants.{Called};
+ghost use Rattle.base_sets.specs.Sets.{members};
 ghost use Rattle.read_scripts.specs.Tree.{ambient, close, part, times_in};
+ghost use Rattle.read_scripts.specs.Represents.{body_in};
 ghost use Rattle.theory_machine.specs.Moves.{same_name};
 ghost use Rattle.theory_closures.specs.Closure.{Closure};
 ghost use Rattle.engine_states.specs.Seen.{name_in};
+ghost use Rattle.engine_states.specs.Searches.{Located};
 ghost use Rattle.engine_states.specs.Represents.{bound_in, Represents};
+ghost use Rattle.engine_targets.specs.Targets.{TargetsOf};
 ghost use Rattle.engine_targets.specs.Makes.{Moves};
 ghost use Rattle.base_arrays.specs.Stretches.{stretch};
 ghost use Rattle.engine_state_arrays.specs.Lent.{Small, kinds_in, starts_in, state_in};
 ghost use Rattle.walk_states.specs.declared.Step.TheVariants.{Move, Place};
+ghost use Rattle.walk_stages.specs.Order.{pairs_behind, TurnWithin, Turns};
 ghost use Rattle.walk_stages.specs.Visits.{Lendable};
 
 use base_arrays::{put_numbers, put_sets};
 use engine_moves::make_move;
 use engine_settling::place_part;
-use engine_state_arrays::{from_arrays, to_arrays};
+use engine_state_arrays::{bodies, from_arrays, to_arrays};
 use engine_states::State;
+use engine_targets::{put_homes, targets};
 
 // Where a visit is made: the word's index, the set of the top parts, the SOMEs around, and the depths left.
 #[derive(Drop)]
@@ -27,6 +33,14 @@ pub struct Spot {
     pub top: u64,
     pub somes: usize,
     pub left: usize,
+}
+
+// The moves still to be tried: those of the outer number before `from` with the inner ones that are left, then those of the
+// outer numbers from `from` on; none where none of the inner ones is left.
+#[derive(Drop)]
+pub struct Turn {
+    pub from: usize,
+    pub rest: u64,
 }
 
 // A state and its part table for lending, beside the set of its top parts.
@@ -55,6 +69,50 @@ pub fn is_called<'a>(sets: &'a [u64; 131], numbers: &'a [u32; 481], i: usize, na
         return numbers[192 + i] == name;
     }
     false
+}
+
+// The homes of all parts of the state that is lent; the targets of each actor below the limit are put into `found`, which is
+// lent since to hand it up would cost a copy.
+pub fn all_targets<'a, 'b>(
+    sets: &'a [u64; 131],
+    numbers: &'a [u32; 481],
+    top: u64,
+    limit: usize,
+    found: &'b mut [u64; 64],
+) -> [usize; 64]
+    requires { (limit ≤ 64) × (length found.old ≡ 64) }
+    ensures homes { Located (members (get_or sets.now 129 0)) (body_in (state_in sets.now numbers.now top).kids) (λ i. get_or result i 0) }
+    ensures targets { (a : ℕ) → a < limit → TargetsOf (body_in (state_in sets.now numbers.now top).kids) (get_or (state_in sets.now numbers.now top).notes.acts a 0) (members (get_or (state_in sets.now numbers.now top).notes.aims a 0)) (λ i. get_or result i 0) a (members (get_or found.new a 0)) }
+{
+    let kids = bodies(sets, top);
+    let mut homes: [usize; 64] = [65; 64];
+    put_homes(&mut homes, &kids, sets[129]);
+    let mut a: usize = 0;
+    while a < limit {
+        found[a] = targets(&kids, numbers[256 + a], sets[65 + a], &homes, a);
+        a += 1;
+    }
+    homes
+}
+
+// The turn behind the first move of the turn before `start` with the inner ones `left`; of all turns the first is behind 0 with none.
+pub fn next_turn<'a>(inner: &'a [u64; 64], start: usize, left: u64, limit: usize) -> Turn
+    requires { (limit ≤ 64) × TurnWithin limit start left }
+    ensures { Turns inner.now limit result.from result.rest (pairs_behind inner.now limit start left) }
+{
+    let mut from = start;
+    let mut rest = left;
+    if rest != 0 {
+        rest = base_sets::rest(rest);
+    }
+    while from < limit {
+        if rest != 0 {
+            return Turn { from, rest };
+        }
+        rest = inner[from];
+        from += 1;
+    }
+    Turn { from, rest }
 }
 
 // The state for lending.

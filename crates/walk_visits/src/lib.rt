@@ -7,8 +7,7 @@ use walk_rule_answers::{
     last_name, name_said, next_count, placing, right_rule, turned, void_rule, with_name,
 };
 use walk_stages::{Counts, Limits, Walked};
-use walk_states::{Spot, Step, is_called, next_state};
-use walk_turns::{all_moves, first_move, next_turn};
+use walk_states::{Spot, Step, all_targets, is_called, next_state, next_turn};
 
 // A visit at the word of the spot, whose depth is among the depths left.
 #[cycle(at_name_beside_either_negation_placed_in_some_name_sometime_somewhere_split_visit)]
@@ -230,7 +229,7 @@ fn some_name<'a>(
     Walked::No(now)
 }
 
-// SOMETIME: the inner rule; on no, SOMETIME after each move, in the order of turns.
+// SOMETIME: the inner rule; on no, SOMETIME after each move by rising actor, then target.
 #[cycle(at_name_beside_either_negation_placed_in_some_name_sometime_somewhere_split_visit)]
 fn sometime<'a>(
     program: &'a [u32; 768],
@@ -252,21 +251,14 @@ fn sometime<'a>(
     let Walked::No(c2) = w else {
         return w;
     };
-    let mut homes: [usize; 64] = [65; 64];
-    let mut actors: [u64; 64] = [0; 64];
-    let before = all_moves(
-        sets,
-        numbers,
-        spot.top,
-        limits.limit,
-        &mut homes,
-        &mut actors,
-    );
+    let mut targets: [u64; 64] = [0; 64];
+    let homes = all_targets(sets, numbers, spot.top, limits.limit, &mut targets);
     let mut now = c2;
-    let mut turn = next_turn(&actors, before);
+    let mut turn = next_turn(&targets, 0, 0, limits.limit);
     while turn.rest != 0 {
-        let pair = first_move(turn);
-        let step = Step::Move(pair.actor, pair.target);
+        let a = turn.from - 1;
+        let t = base_sets::first(turn.rest);
+        let step = Step::Move(a, t);
         // The move is made on a copy of the state.
         let mut s = *sets;
         let mut n = *numbers;
@@ -277,7 +269,7 @@ fn sometime<'a>(
             return w2;
         };
         now = c3;
-        turn = next_turn(&actors, turn);
+        turn = next_turn(&targets, turn.from, turn.rest, limits.limit);
     }
     Walked::No(now)
 }

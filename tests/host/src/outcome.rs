@@ -2,7 +2,7 @@
 
 use second::generate::Case;
 use second::itinerary::{judge, Fault};
-use second::{Answer, Call, Order, Verdict};
+use second::{Answer, Call, Verdict};
 
 const SOMETIME: u32 = 0x7000_0000;
 
@@ -30,11 +30,6 @@ impl Outcome {
     /// What the second checker says that a call leaves.
     pub fn second(case: &Case) -> Option<Outcome> {
         Outcome::of(case, second::call)
-    }
-
-    /// What it says that a call left before request 02, when SOMETIME tried moves by rising actor, then target.
-    pub fn second_before(case: &Case) -> Option<Outcome> {
-        Outcome::of(case, |c, out, list| second::call_in(Order::ByActor, c, out, list))
     }
 }
 

@@ -16,7 +16,5 @@ mod checker {
 mod examples;
 #[path = "../../shared/itineraries.rs"]
 mod itineraries;
-#[path = "../../shared/orders.rs"]
-mod orders;
 #[path = "../../shared/refusals.rs"]
 mod refusals;

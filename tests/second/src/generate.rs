@@ -1,15 +1,11 @@
 //! Random calls, the same ones from the same seed: scripts that move, lists of moves that can be made, rules that fit what
 //! stands, half of them with SOMETIME first, patience that just suffices and just does not; then damaged words, and every
-//! limit at and one beyond; and calls in which the order of moves tells.
-
-mod crossing;
-
-pub use crossing::crossing_case;
+//! limit at and one beyond.
 
 use crate::itinerary::MOST_MOVES;
 use crate::machine::{ambient_name, make_move, possible_moves, settle, Move};
 use crate::script::{read_script, Body};
-use crate::{call_in, Answer, Call, Order, LIST_WORDS};
+use crate::{call, Answer, Call, LIST_WORDS};
 
 /// A call with both buffers as they are before.
 #[derive(Clone, Debug, PartialEq, Eq)]
@@ -712,7 +708,7 @@ const SOON: u32 = 200;
 
 /// A rule that begins with SOMETIME: mostly one that is met after some more moves and not before, if such a one is found soon.
 fn looking_ahead(random: &mut Random, names: &[u32], size: Size) -> Case {
-    let mut tries = *random.pick(&[1, 1, 6, 6, 6]);
+    let mut tries = *random.pick(&[1, 6, 6]);
     loop {
         let played = play_unfinished(random, names, size);
         let rule = random_rule(random, names, &played, size, true);
@@ -732,12 +728,7 @@ fn asked(played: Played, rule: Vec<u32>, patience: u32) -> Case {
 
 /// The answer with buffers in which there is room for every tree of this checker and for an itinerary.
 fn answer(case: &Case) -> Option<Answer> {
-    answer_in(Order::ByTarget, case)
-}
-
-/// The same where moves are tried in this order.
-fn answer_in(order: Order, case: &Case) -> Option<Answer> {
-    call_in(order, &case.call(), &mut vec![0; 1 << 18], &mut [0; LIST_WORDS])
+    call(&case.call(), &mut vec![0; 1 << 18], &mut [0; LIST_WORDS])
 }
 
 /// What a walk needs, one less, one more, less, more, the limit; never so much that a walk takes more visits than asked.
@@ -1046,8 +1037,8 @@ fn long_itinerary(random: &mut Random, beyond: usize, case: &mut Case) {
     (case.script, case.moves) = errand(moves);
     case.moves.truncate(if random.one_in(2) { 0 } else { random.below(moves) });
     case.rule = vec![SOMETIME, VOID];
-    case.patience = 5_000;
-    let visits = answer(case).map_or(5_000, |answer| answer.visits);
+    // SOMETIME and VOID are visited before each move and after the last.
+    let visits = 2 * (moves - case.moves.len() + 1) as u32;
     case.patience = *random.pick(&[visits, visits, visits + 1, visits - 1, 5_000]);
 }
 
@@ -1069,7 +1060,7 @@ pub fn errand(moves: usize) -> (Vec<u32>, Vec<u32>) {
 }
 
 /// A path of these messages, its PATHs as flat as can be.
-pub fn flat_path(messages: &[[u32; 2]]) -> Vec<u32> {
+fn flat_path(messages: &[[u32; 2]]) -> Vec<u32> {
     match messages {
         [only] => only.to_vec(),
         _ => {

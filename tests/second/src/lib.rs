@@ -15,8 +15,6 @@ pub mod slip;
 pub mod walk;
 pub mod writer;
 
-pub use machine::Order;
-
 use machine::{count_parts, make_move, possible_moves, settle};
 use rule::Kind;
 use script::Body;
@@ -78,17 +76,11 @@ impl Refusal {
 /// `None` where a tree would become too large for full copying (`machine::MOST_MESSAGE_WORDS`): such a call has an answer,
 /// but not from this checker. Neither buffer is then written.
 pub fn call(c: &Call, out: &mut [u32], list: &mut [u32]) -> Option<Answer> {
-    call_in(Order::ByTarget, c, out, list)
-}
-
-/// The same where SOMETIME tries moves in this order. By actor it is the answer of before request 02: "a case that answered
-/// yes or no both before and after may not change its answer".
-pub fn call_in(order: Order, c: &Call, out: &mut [u32], list: &mut [u32]) -> Option<Answer> {
     let start = match door(c, list.len()) {
         Ok(start) => start,
         Err(refusal) => return Some(refusal.answer(0, 0)),
     };
-    let mut walk = Walk { order, ..start.walk };
+    let mut walk = start.walk;
     let moved = match make_list(start.tree, c.moves, walk.parts) {
         Ok(moved) => moved,
         Err((Stop::Refused(refusal), moves)) => return Some(refusal.answer(moves, 0)),
@@ -166,8 +158,6 @@ fn door(c: &Call, list_words: usize) -> Result<Start, Refusal> {
         patience: c.patience,
         greatest_name: script.greatest_name.max(read.greatest_name),
         parts: script.parts,
-        // Request 02: "From now on SOMETIME tries moves by rising target, then rising actor."
-        order: Order::ByTarget,
         visits: 0,
         deepest: 0,
         names: Vec::new(),

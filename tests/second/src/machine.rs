@@ -45,28 +45,11 @@ pub fn ambient_name(part: &Part) -> Option<u32> {
     }
 }
 
-/// An order of moves.
-#[derive(Clone, Copy, Debug, PartialEq, Eq)]
-pub enum Order {
-    /// Request 02: "by rising target, then rising actor".
-    ByTarget,
-    /// Document 01's, which held before: "by rising actor, then target".
-    ByActor,
-}
-
-/// The moves that can be made now, in the order in which SOMETIME tries them.
+/// The moves that can be made now, by rising actor, then target.
 pub fn possible_moves(tree: &Body) -> Vec<Move> {
-    moves_in(Order::ByTarget, tree)
-}
-
-/// The moves that can be made now, in such an order.
-pub fn moves_in(order: Order, tree: &Body) -> Vec<Move> {
     let mut moves = Vec::new();
     gather(tree, &[], &mut moves);
-    match order {
-        Order::ByTarget => moves.sort_by_key(|(actor, target)| (*target, *actor)),
-        Order::ByActor => moves.sort_by_key(|(actor, target)| (*actor, *target)),
-    }
+    moves.sort();
     moves
 }
 

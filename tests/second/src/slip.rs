@@ -21,12 +21,6 @@ pub enum Slip {
     ItineraryFromTheScript,
     /// Request 01: an itinerary that is written though question 19 refuses the call.
     ItineraryThoughRefused,
-    /// Request 02: moves tried by actor, then target, as before.
-    MovesByActor,
-    /// Request 02: the same by the SOMETIMEs alone that do not begin the rule.
-    InnerMovesByActor,
-    /// Request 02: targets that PLACED made tried before the script's.
-    PlacedTargetsFirst,
 }
 
 #[cfg(feature = "slips")]

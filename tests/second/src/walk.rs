@@ -1,6 +1,6 @@
 //! "The rule and its walk": the visits, with questions 17 and 18.
 
-use crate::machine::{ambient_name, make_move, moves_in, Move, Order, TooLarge};
+use crate::machine::{ambient_name, make_move, possible_moves, Move, TooLarge};
 use crate::rule::{Kind, Name, Rule};
 use crate::script::{Body, Head, Message, Part};
 use crate::slip::{made, Slip};
@@ -25,8 +25,6 @@ pub struct Walk {
     pub greatest_name: u32,
     /// n: "the script's parts".
     pub parts: u32,
-    /// The order in which SOMETIME tries moves.
-    pub order: Order,
     pub visits: u32,
     /// "the greatest depth".
     pub deepest: u32,
@@ -108,13 +106,13 @@ impl Walk {
         Ok(false)
     }
 
-    /// "the inner rule; on no, SOMETIME after each move"; request 02: "by rising target, then rising actor".
+    /// "the inner rule; on no, SOMETIME after each move by rising actor, then target".
     fn sometime(&mut self, rule: &Rule, inner: &Rule, process: &Body, deeper: u32) -> Result<bool, Stop> {
         if self.visit(inner, process, deeper)? {
             return Ok(true);
         }
         let is_first = rule.index == 0;
-        for next in self.moves(rule, process) {
+        for next in possible_moves(process) {
             let (moved, _) = make_move(process.clone(), next)?;
             self.way.extend(is_first.then_some(next));
             if self.visit(rule, &moved, deeper)? {
@@ -125,18 +123,6 @@ impl Walk {
             }
         }
         Ok(false)
-    }
-
-    /// The moves as a SOMETIME tries them, the rule's first word or an inner one; parts that PLACED made come behind the
-    /// script's, as their numbers do.
-    fn moves(&self, rule: &Rule, process: &Body) -> Vec<Move> {
-        let is_inner = rule.index > 0;
-        let by_actor = made(Slip::MovesByActor) || made(Slip::InnerMovesByActor) && is_inner;
-        let mut moves = moves_in(if by_actor { Order::ByActor } else { self.order }, process);
-        if made(Slip::PlacedTargetsFirst) {
-            moves.sort_by_key(|(_, target)| *target < self.parts);
-        }
-        moves
     }
 
     /// "the inner rule; on no, SOMEWHERE inside each named top AMB by rising number".

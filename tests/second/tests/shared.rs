@@ -9,7 +9,5 @@ mod checker {
 mod examples;
 #[path = "../../shared/itineraries.rs"]
 mod itineraries;
-#[path = "../../shared/orders.rs"]
-mod orders;
 #[path = "../../shared/refusals.rs"]
 mod refusals;

@@ -3,27 +3,18 @@
 //! free in part, and is judged as the proved call's is.
 
 use host::outcome::{compare, Difference, Outcome};
-use second::generate::{case, crossing_case, Case};
+use second::generate::{case, Case};
 use second::slip::{make, Slip};
 use std::sync::LazyLock;
 
 /// The first cases, made once for all tests, and without a slip.
 fn cases(count: usize) -> &'static [Case] {
-    static ALL: LazyLock<Vec<Case>> = LazyLock::new(|| four_times(1000, case));
+    static ALL: LazyLock<Vec<Case>> = LazyLock::new(|| {
+        let quarter = |k: u64| std::thread::spawn(move || (1000 * k..1000 * (k + 1)).map(case).collect::<Vec<Case>>());
+        let quarters: Vec<_> = (0..4).map(quarter).collect();
+        quarters.into_iter().flat_map(|quarter| quarter.join().expect("cases")).collect()
+    });
     &ALL[..count]
-}
-
-/// A thousand in which the order of moves tells, made in the same way.
-fn crossings() -> &'static [Case] {
-    static ALL: LazyLock<Vec<Case>> = LazyLock::new(|| four_times(250, crossing_case));
-    &ALL
-}
-
-/// Four times so many cases.
-fn four_times(count: u64, made: fn(u64) -> Case) -> Vec<Case> {
-    let quarter = |k: u64| std::thread::spawn(move || (count * k..count * (k + 1)).map(made).collect::<Vec<Case>>());
-    let quarters: Vec<_> = (0..4).map(quarter).collect();
-    quarters.into_iter().flat_map(|quarter| quarter.join().expect("cases")).collect()
 }
 
 /// What the second checker leaves with the slip.
@@ -41,11 +32,7 @@ fn alike(case: &Case, slip: Option<Slip>) -> bool {
 
 /// How many of the first cases differ.
 fn seen(slip: Option<Slip>, count: usize) -> usize {
-    seen_among(cases(count), slip)
-}
-
-fn seen_among(cases: &[Case], slip: Option<Slip>) -> usize {
-    cases.iter().filter(|case| !alike(case, slip)).count()
+    cases(count).iter().filter(|case| !alike(case, slip)).count()
 }
 
 /// In how many of the first cases what the second checker leaves with the slip is found wrong, and each time in such a way.
@@ -107,25 +94,4 @@ fn an_itinerary_from_the_script_s_own_tree() {
 #[test]
 fn an_itinerary_written_though_19_refuses() {
     assert!(judged(Slip::ItineraryThoughRefused, 1000, |fault| fault == Difference::List) > 3);
-}
-
-#[test]
-fn no_slip_is_not_seen_where_the_order_tells() {
-    assert_eq!(seen_among(crossings(), None), 0);
-}
-
-#[test]
-fn moves_by_actor_then_target() {
-    assert!(seen(Some(Slip::MovesByActor), 1000) > 20);
-    assert!(seen_among(crossings(), Some(Slip::MovesByActor)) > 300);
-}
-
-#[test]
-fn moves_by_actor_then_target_of_inner_sometimes() {
-    assert!(seen_among(crossings(), Some(Slip::InnerMovesByActor)) > 200);
-}
-
-#[test]
-fn targets_that_placed_made_before_the_script_s() {
-    assert!(seen_among(crossings(), Some(Slip::PlacedTargetsFirst)) > 20);
 }

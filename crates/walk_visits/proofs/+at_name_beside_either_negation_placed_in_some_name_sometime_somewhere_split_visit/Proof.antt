@@ -43,7 +43,7 @@ pub +at-name-beside-either-negation-placed-in-some-name-sometime-somewhere-split
     (λ t. negation-lts.spec (negation-claims t) (negation-at t) negation.Post (NegationWord.add-inner t) (NegationWord.visit-requires t) (NegationWord.turned-requires t) (NegationWord.returns t))
     (λ t. placed-in-lts.spec (placed-in-claims t) (placed-in-at t) placed-in.Post (PlacedInWord.placing-requires t) (PlacedInWord.returns t) (PlacedInWord.add-i t) (PlacedInWord.mul-name-said t) (PlacedInWord.element-copy-out-name-said t) (PlacedInWord.name-said-requires t) (PlacedInWord.returns-2 t) (PlacedInWord.returns-3 t) (PlacedInWord.add-inner t) (PlacedInWord.next-state-requires t) (PlacedInWord.visit-requires t) (PlacedInWord.returns-4 t))
     (λ t. some-name-lts.spec (some-name-claims t) (some-name-at t) some-name.Post SomeNameWord.Inv-loop SomeNameWord.μ-loop (SomeNameWord.returns t) (SomeNameWord.last-name-requires t) (SomeNameWord.loop-holds t) (SomeNameWord.with-name-requires t) (SomeNameWord.add-inner t) (SomeNameWord.add-inner-2 t) (SomeNameWord.visit-requires t) (SomeNameWord.enum-known-w t) (SomeNameWord.returns-2 t) (SomeNameWord.add-n t) (SomeNameWord.loop-less t) (SomeNameWord.loop-again t) (SomeNameWord.returns-3 t))
-    (λ t. sometime-lts.spec (sometime-claims t) (sometime-at t) sometime.Post SometimeWord.Inv-loop SometimeWord.μ-loop (SometimeWord.add-there t) (SometimeWord.visit-requires t) (SometimeWord.enum-known-w t) (SometimeWord.returns t) (SometimeWord.all-moves-requires t) (SometimeWord.next-turn-requires t) (SometimeWord.loop-holds t) (SometimeWord.first-move-requires t) (SometimeWord.next-state-requires t) (SometimeWord.visit-requires-2 t) (SometimeWord.enum-known-w2 t) (SometimeWord.returns-2 t) (SometimeWord.next-turn-requires-2 t) (SometimeWord.loop-less t) (SometimeWord.loop-again t) (SometimeWord.returns-3 t))
+    (λ t. sometime-lts.spec (sometime-claims t) (sometime-at t) sometime.Post SometimeWord.Inv-loop SometimeWord.μ-loop (SometimeWord.add-there t) (SometimeWord.visit-requires t) (SometimeWord.enum-known-w t) (SometimeWord.returns t) (SometimeWord.all-targets-requires t) (SometimeWord.next-turn-requires t) (SometimeWord.loop-holds t) (SometimeWord.sub-a t) (SometimeWord.first-requires t) (SometimeWord.next-state-requires t) (SometimeWord.visit-requires-2 t) (SometimeWord.enum-known-w2 t) (SometimeWord.returns-2 t) (SometimeWord.next-turn-requires-2 t) (SometimeWord.loop-less t) (SometimeWord.loop-again t) (SometimeWord.returns-3 t))
     (λ t. somewhere-lts.spec (somewhere-claims t) (somewhere-at t) somewhere.Post SomewhereWord.Inv-loop SomewhereWord.μ-loop (SomewhereWord.add-inner t) (SomewhereWord.visit-requires t) (SomewhereWord.enum-known-w t) (SomewhereWord.returns t) (SomewhereWord.element-copy-out-intersection t) (SomewhereWord.intersection-requires t) (SomewhereWord.loop-holds t) (SomewhereWord.first-requires t) (SomewhereWord.rest-requires t) (SomewhereWord.mul-inside t) (SomewhereWord.element-copy-out-inside t) (SomewhereWord.visit-requires-2 t) (SomewhereWord.enum-known-w2 t) (SomewhereWord.returns-2 t) (SomewhereWord.loop-less t) (SomewhereWord.loop-again t) (SomewhereWord.returns-3 t))
     (λ t. split-lts.spec (split-claims t) (split-point t) split.Post (SplitWord.add-side t) (SplitWord.visit-requires t) (SplitWord.enum-known-w t) (SplitWord.returns t) (SplitWord.right-rule-requires t) (SplitWord.difference-requires t) (SplitWord.visit-requires-2 t) (SplitWord.returns-2 t))
     (λ t. visit-lts.spec (visit-claims t) (visit-at t) visit.Post (VisitWord.returns t) (VisitWord.returns-2 t) (VisitWord.returns-3 t) (VisitWord.mul-kind t) (VisitWord.element-copy-out-kind t) (VisitWord.next-count-requires t) (VisitWord.sub-below t) (VisitWord.negation-requires t) (VisitWord.either-requires t) (VisitWord.void-rule-requires t) (VisitWord.at-name-requires t) (VisitWord.beside-requires t) (VisitWord.some-name-requires t) (VisitWord.sometime-requires t) (VisitWord.somewhere-requires t) (VisitWord.placed-in-requires t) (VisitWord.returns-4 t) (VisitWord.returns-5 t) (VisitWord.returns-6 t) (VisitWord.returns-7 t) (VisitWord.returns-8 t) (VisitWord.returns-9 t) (VisitWord.returns-10 t) (VisitWord.returns-11 t) (VisitWord.returns-12 t) (VisitWord.returns-13 t) (VisitWord.returns-14 t))

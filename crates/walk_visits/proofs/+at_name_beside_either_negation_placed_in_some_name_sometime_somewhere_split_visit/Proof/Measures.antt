@@ -29,11 +29,10 @@ use Rattle.base_sets.proofs.intersection.Reads as intersection-reads
 use Rattle.base_sets.proofs.is_single.Reads as is-single-reads
 use Rattle.base_shares.proofs.next_share.Reads as next-share-reads
 use Rattle.base_sets.proofs.rest.Reads as rest-reads
+use Rattle.walk_states.proofs.all_targets.Reads as all-targets-reads
 use Rattle.walk_states.proofs.is_called.Reads as is-called-reads
 use Rattle.walk_states.proofs.next_state.Reads as next-state-reads
-use Rattle.walk_turns.proofs.all_moves.Reads as all-moves-reads
-use Rattle.walk_turns.proofs.first_move.Reads as first-move-reads
-use Rattle.walk_turns.proofs.next_turn.Reads as next-turn-reads
+use Rattle.walk_states.proofs.next_turn.Reads as next-turn-reads
 use Rattle.walk_visits.proofs.+at_name_beside_either_negation_placed_in_some_name_sometime_somewhere_split_visit.Lts-at_name as at-name-lts
 use Rattle.walk_visits.proofs.+at_name_beside_either_negation_placed_in_some_name_sometime_somewhere_split_visit.Lts-beside as beside-lts
 use Rattle.walk_visits.proofs.+at_name_beside_either_negation_placed_in_some_name_sometime_somewhere_split_visit.Lts-either as either-lts
@@ -111,7 +110,7 @@ abbrev pub some-name-claims : ℕ → some-name-lts.Claims
 some-name-claims t = (last-name-reads.Asked, last-name-reads.Learnt, with-name-reads.Asked, with-name-reads.Learnt, below_measure 0 visit.Pre t, visit.Post)
 
 abbrev pub sometime-claims : ℕ → sometime-lts.Claims
-sometime-claims t = (below_measure 0 visit.Pre t, visit.Post, all-moves-reads.Asked, all-moves-reads.Learnt, next-turn-reads.Asked, next-turn-reads.Learnt, first-move-reads.Asked, first-move-reads.Learnt, next-state-reads.Asked, next-state-reads.Learnt)
+sometime-claims t = (below_measure 0 visit.Pre t, visit.Post, all-targets-reads.Asked, all-targets-reads.Learnt, next-turn-reads.Asked, next-turn-reads.Learnt, first_reads.Asked, first_reads.Learnt, next-state-reads.Asked, next-state-reads.Learnt)
 
 abbrev pub somewhere-claims : ℕ → somewhere-lts.Claims
 somewhere-claims t = (below_measure 0 visit.Pre t, visit.Post, intersection-reads.Asked, intersection-reads.Learnt, first_reads.Asked, first_reads.Learnt, rest-reads.Asked, rest-reads.Learnt)
