@@ -1,5 +1,7 @@
 // Copies between arrays, and small numbers as bytes: an array is put into a stretch of a longer one, and a stretch is
 // read out again.
+#![tactic(auto)]
+
 ghost use Rattle.std.specs.Prelude.{◌≡◌, ℕ, ◌+◌, ◌≤◌, ◌<◌, length, get_or};
 ghost use Rattle.base_arrays.specs.Stretches.{stretch, Put, PutAsked, Widened};
 

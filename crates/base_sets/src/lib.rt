@@ -1,5 +1,7 @@
 // Part sets: sets of numbers below 64, each held in the digits of a u64, where number i is in the set if digit i is 1.
 // A contract speaks of a set as the list of its members, in rising order.
+#![tactic(auto)]
+
 ghost use Rattle.std.specs.Prelude.{◌≡◌, cond, ◌<◌, length};
 ghost use mathlib.Core.List.{[], ◌∷◌, tail};
 ghost use Rattle.base_sets.specs.Sets.{members, elem, inserted, removed, joined, in_both, but, head_or, is_none, is_one};

@@ -1,4 +1,6 @@
 // The shares of a part set: its subsets, in the order in which BESIDE tries them.
+#![tactic(auto)]
+
 ghost use Rattle.std.specs.Prelude.{◌≡◌, ℕ, suc, ◌^◌, ◌<◌, [], length};
 ghost use Rattle.base_sets.specs.Sets.{members};
 ghost use Rattle.base_shares.specs.Shares.{picked};

@@ -1,4 +1,6 @@
 // Parts of slices, words as indices, and sums that stop at 2^32 - 1: what the other layers share.
+#![tactic(auto)]
+
 ghost use Rattle.std.specs.Prelude.{◌≡◌, ◌+◌, take, drop};
 ghost use Rattle.base_slices.specs.Sums.{capped};
 

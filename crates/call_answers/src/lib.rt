@@ -1,4 +1,6 @@
 // What a call answers, and what it asks of numbers and names alone: questions 13, 14 and 21, and G.
+#![tactic(auto)]
+
 ghost use Rattle.std.specs.Prelude.{◌≡◌};
 ghost use Rattle.theory_call.specs.Call.{accepted, refusal, asking, terms};
 ghost use Rattle.call_answers.specs.Answering.{verdict_of, asked_of, refused_by, Refusing, Greatest};

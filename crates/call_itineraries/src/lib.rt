@@ -1,4 +1,6 @@
 // The itinerary of a yes (document 02, Req 01), put into the list that a call is lent.
+#![tactic(auto)]
+
 ghost use Rattle.std.specs.Prelude.{◌≡◌, ◌++◌, take, drop};
 ghost use Rattle.call_itineraries.specs.Showing.{Listable, WithCount, ShowsMoves};
 

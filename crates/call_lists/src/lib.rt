@@ -1,5 +1,7 @@
 // The list of moves (document 01, "Questions at the door"): each word is asked questions 15 and 16 and its move is
 // made, on a state that is lent.
+#![tactic(auto)]
+
 ghost use Rattle.std.specs.Prelude.{◌≡◌};
 ghost use Rattle.theory_call.specs.Call.{actor, target, move_fits};
 ghost use Rattle.call_lists.specs.Running.{Runnable, ListRan};

@@ -1,4 +1,6 @@
 // The call for C and Rust.
+#![tactic(auto)]
+
 ghost use Rattle.std.specs.Prelude.{◌≡◌, get_or};
 ghost use Rattle.call_answers.specs.Answering.{call_of};
 ghost use Rattle.theory_call.specs.Standing.{MovesBounded};

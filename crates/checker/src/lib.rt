@@ -1,4 +1,6 @@
 // The call.
+#![tactic(auto)]
+
 ghost use Rattle.std.specs.Prelude.{◌≡◌, List, [], ℕ, length, take, true};
 ghost use Rattle.theory_closures.specs.Closure.{Closure, unfolded};
 ghost use Rattle.engine_states.specs.Represents.{bound_in, Represents};

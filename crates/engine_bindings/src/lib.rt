@@ -2,6 +2,8 @@
 // of the script. Bindings are lent newest first, in slices: the variables, the indices of the messages' first words,
 // and the number of items that was counted of each message when it was bound. What is older than a binding is the tail
 // behind it. Each operation is one pass over words, since a variable's count is at hand; counts stop at 2^32 - 1.
+#![tactic(auto)]
+
 ghost use Rattle.std.specs.Prelude.{◌≡◌, ℕ, ◌+◌, ◌-◌, ◌<◌, ◌^◌, List, length, drop};
 ghost use Rattle.read_messages.specs.Message.{items, name_of};
 ghost use Rattle.read_messages.specs.Spelling.{spelled, message_at};

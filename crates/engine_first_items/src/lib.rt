@@ -1,4 +1,6 @@
 // The first item of an action under bindings.
+#![tactic(auto)]
+
 ghost use Rattle.std.specs.Prelude.{◌≡◌, ◌-◌, drop};
 ghost use Rattle.read_messages.specs.Message.{items, first_item};
 ghost use Rattle.read_messages.specs.Spelling.{message_at};

@@ -1,6 +1,8 @@
 // How many words messages under bindings are written with, and the holder of the bindings with what was counted of each
 // message when it was bound: its items, its words, and the words of its items with one PATH each. So a new binding,
 // too, is counted in one pass over words; counts stop at 2^32 - 1.
+#![tactic(auto)]
+
 ghost use Rattle.std.specs.Prelude.{◌≡◌, ℕ, List, length, drop};
 ghost use Rattle.read_messages.specs.Message.{items};
 ghost use Rattle.read_messages.specs.Spelling.{spelled, message_at};

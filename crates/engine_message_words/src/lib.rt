@@ -1,5 +1,7 @@
 // The first word of a message: how it begins the message, what it is by itself, and which binding it has where it is a
 // variable. Bindings are lent newest first, in slices: the variables, and the indices of the messages' first words.
+#![tactic(auto)]
+
 ghost use Rattle.std.specs.Prelude.{◌≡◌, ◌<◌, length, drop, get_or};
 ghost use Rattle.engine_message_words.specs.Words.{newest_binding, first_word, shape_with, shape_of, arity_of, bound_at, plain_name, plain_item};
 

@@ -1,4 +1,6 @@
 // The moves, made on a state that is lent.
+#![tactic(auto)]
+
 ghost use Rattle.std.specs.Prelude.{◌≡◌, true, false, ◌<◌, get_or};
 ghost use Rattle.engine_targets.specs.Makes.{Opens, Enters, Exits, Receives, Moves, MakesOrLeaves};
 ghost use Rattle.engine_state_arrays.specs.Lent.{kinds_in, starts_in, own_state, LentReady};

@@ -1,5 +1,7 @@
 // What a move leaves of a state: an item is spent or a message received, and what has no items left is gone; the first
 // state of a script, and the state inside a new ambient (PLACED).
+#![tactic(auto)]
+
 ghost use Rattle.std.specs.Prelude.{◌≡◌, List, [], ℕ, ◌+◌, ◌≤◌, ◌<◌, length, get_or, set};
 ghost use Rattle.base_sets.specs.Sets.{members};
 ghost use Rattle.read_messages.specs.Message.{name as named};

@@ -1,4 +1,6 @@
 // A state as two arrays, for lending: written into them and read out again.
+#![tactic(auto)]
+
 ghost use Rattle.std.specs.Prelude.{◌≡◌, ℕ, ◌+◌, ◌≤◌, get_or, set};
 ghost use Rattle.base_arrays.specs.Stretches.{stretch};
 ghost use Rattle.engine_state_arrays.specs.Lent.{kinds_in, starts_in, state_in, own_state, Small};

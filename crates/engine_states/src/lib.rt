@@ -1,4 +1,6 @@
 // What the engine keeps of a closure: its state, what is asked of the parts again and again, and the weight.
+#![tactic(auto)]
+
 ghost use Rattle.std.specs.Prelude.{◌≡◌, Bool, true, false, cond, List, ℕ, ◌+◌, ◌*◌, ◌-◌, ◌≤◌, ◌<◌, eqb, length, get_or};
 ghost use Rattle.base_sets.specs.Sets.{members, elem};
 ghost use Rattle.read_scripts.specs.Tree.{parts};

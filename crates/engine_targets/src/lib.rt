@@ -1,5 +1,7 @@
 // Where the parts of a closure stand, and the targets of an actor's moves, by the part sets and what is kept of the
 // actor.
+#![tactic(auto)]
+
 ghost use Rattle.std.specs.Prelude.{◌≡◌, ℕ, ◌<◌, length, get_or, replicate};
 ghost use Rattle.base_sets.specs.Sets.{members, elem};
 ghost use Rattle.read_scripts.specs.Represents.{body_in};

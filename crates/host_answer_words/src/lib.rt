@@ -1,4 +1,6 @@
 // An answer as nine words.
+#![tactic(auto)]
+
 ghost use Rattle.std.specs.Prelude.{◌≡◌, List, ◌++◌, ℕ, drop};
 ghost use Rattle.call_answers.specs.Answering.{verdict_of, answer_of};
 ghost use Rattle.host_answer_words.specs.Told.{said_of, question_of, place_of, told, Tellable};

@@ -1,5 +1,7 @@
 // Bytes, numbers and words as text, put into a lent buffer piece by piece. Each function is given the index behind the
 // text so far and answers the index behind its own piece; a piece that does not fit is cut short.
+#![tactic(auto)]
+
 ghost use Rattle.std.specs.Prelude.{◌≡◌, [], ◌∷◌, ℕ, suc, ◌<◌, ◌^◌};
 ghost use Rattle.program_digits.specs.Digits.{digit, hexadecimal, line, lines, decimal_by, Puts};
 

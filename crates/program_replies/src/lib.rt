@@ -1,5 +1,7 @@
 // From the words of an input to the text of the reply: the lists that it counts, lent to the call, and the call's
 // answer, or that the input does not fit.
+#![tactic(auto)]
+
 ghost use Rattle.std.specs.Prelude.{◌≡◌};
 ghost use Rattle.program_digits.specs.Digits.{Puts};
 ghost use Rattle.program_replies.specs.Reply.{counted, counted_by, call_reply, rule_reply, moves_reply, script_reply, words_reply};

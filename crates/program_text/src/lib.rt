@@ -1,4 +1,6 @@
 // Answers as text, put into a lent buffer piece by piece, as the functions of program_digits put them.
+#![tactic(auto)]
+
 ghost use Rattle.std.specs.Prelude.{◌++◌, take};
 ghost use Rattle.call_answers.specs.Answering.{answer_of};
 ghost use Rattle.program_digits.specs.Digits.{lines, decimal, Puts};

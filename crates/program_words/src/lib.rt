@@ -1,4 +1,6 @@
 // The words that the program's input spells, byte by byte.
+#![tactic(auto)]
+
 ghost use Rattle.std.specs.Prelude.{◌≡◌, ◌+◌, ◌*◌, ◌≤◌, ◌<◌, length, take, drop};
 ghost use Rattle.program_words.specs.Words.{word_of, words_of};
 

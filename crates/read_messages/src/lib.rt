@@ -1,4 +1,6 @@
 // The reader of one message of a script: questions 2, 3, 4 and 5 of document 01.
+#![tactic(auto)]
+
 ghost use Rattle.std.specs.Prelude.{◌≡◌, ℕ, length};
 ghost use Rattle.read_messages.specs.Words.{member};
 ghost use Rattle.read_messages.specs.Reading.{cursor, outcome};

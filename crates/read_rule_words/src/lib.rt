@@ -1,5 +1,7 @@
 // The words of a rule: the questions that one word is asked, the term that it says and the greatest name. Questions 8,
 // 9 and 10 of document 01.
+#![tactic(auto)]
+
 ghost use Rattle.std.specs.Prelude.{◌≡◌, ◌+◌, ◌≤◌, ◌<◌, length};
 ghost use Rattle.read_messages.specs.Words.{operand};
 ghost use Rattle.read_rule_words.specs.Rule.{rule_name, greatest_rule_name};

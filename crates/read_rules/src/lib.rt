@@ -1,4 +1,6 @@
 // The reader of a rule and the table that it fills: questions 7 to 12 of document 01.
+#![tactic(auto)]
+
 ghost use Rattle.std.specs.Prelude.{◌≡◌, ◌<◌, length, drop};
 ghost use Rattle.base_slices.specs.Fronts.{Fronted};
 ghost use Rattle.read_messages.specs.Reading.{cursor};

@@ -1,5 +1,7 @@
 // The words of a script: the questions that a word is asked where a part is expected, and the greatest name. Questions 2 and
 // 4 of document 01.
+#![tactic(auto)]
+
 ghost use Rattle.std.specs.Prelude.{◌≡◌};
 ghost use Rattle.read_script_words.specs.ScriptWords.{part_word, asked_part, greatest_name};
 

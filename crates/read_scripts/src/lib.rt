@@ -1,5 +1,7 @@
 // The script: body reader and part reader above the message reader, and the part table they fill. Questions 1 to 6 of
 // document 01.
+#![tactic(auto)]
+
 ghost use Rattle.std.specs.Prelude.{◌≡◌, suc, ◌+◌, ◌-◌, ◌<◌, length, drop};
 ghost use Rattle.base_slices.specs.Fronts.{Fronted};
 ghost use Rattle.read_messages.specs.Reading.{cursor};

@@ -1,5 +1,7 @@
 // The program: the words that standard input spells, and the reply to them as text. Everything between the bytes read
 // and the bytes written is `reply`.
+#![tactic(auto)]
+
 ghost use Rattle.std.specs.Prelude.{◌≡◌, ◌*◌, ◌≤◌, length, take};
 ghost use Rattle.io.specs.Counts.{IsPrefixLen};
 ghost use Rattle.program_digits.specs.Digits.{Puts};

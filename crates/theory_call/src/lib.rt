@@ -1,1 +1,2 @@
 // The call as the plain machine answers it: definitions and theorems, no code.
+#![tactic(auto)]

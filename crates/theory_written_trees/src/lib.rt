@@ -1,1 +1,2 @@
 // The written form of a tree: definitions and laws, and no code.
+#![tactic(auto)]

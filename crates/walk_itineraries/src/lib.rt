@@ -1,5 +1,7 @@
 // A visit at SOMETIME that keeps the moves by which it comes to its yes (document 02, Req 01). It answers as the walk's cycle
 // does there, and stands outside of it: no other visit pays for what is kept.
+#![tactic(auto)]
+
 ghost use Rattle.std.specs.Prelude.{◌≡◌, ◌-◌, ◌≤◌, ◌<◌, length, set};
 ghost use Rattle.walk_stages.specs.Visits.{Visitable};
 ghost use Rattle.walk_itineraries.specs.Leading.{move_word, Begins, Leads as Guides};

@@ -1,5 +1,7 @@
 // What a rule word answers from the rule, the counts, the chosen names and the set of top parts alone (document 01, "The rule
 // and its walk").
+#![tactic(auto)]
+
 ghost use Rattle.std.specs.Prelude.{◌≡◌, ◌+◌, ◌<◌, eqb, get_or};
 ghost use Rattle.read_messages.specs.Words.{operand};
 ghost use Rattle.read_rule_words.specs.ReadRule.{term_of};

@@ -1,5 +1,7 @@
 // The whole walk of a rule (document 01, "The rule and its walk"): the rule and its table as one array, the state as two,
 // and the visit at the first word.
+#![tactic(auto)]
+
 ghost use Rattle.std.specs.Prelude.{◌≡◌, length, get_or};
 ghost use Rattle.walk_stages.specs.Visits.{Walks};
 ghost use Rattle.walk_rules.specs.Walking.{Loading, RuleWalkable, Routed};

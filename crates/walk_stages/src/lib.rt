@@ -1,5 +1,6 @@
 // The stages of a walk (document 01, "The rule and its walk"): the definitions of what its functions answer, the types
 // that these name, and their laws; no code.
+#![tactic(auto)]
 
 // Visits made, and the greatest depth.
 #[derive(Drop)]

@@ -1,4 +1,6 @@
 // How many words a tree is written with: those in front of a part's body, of a part, of a body.
+#![tactic(auto)]
+
 ghost use Rattle.std.specs.Prelude.{◌≡◌, length};
 ghost use Rattle.base_sets.specs.Sets.{members};
 ghost use Rattle.read_scripts.specs.Represents.{body_in};

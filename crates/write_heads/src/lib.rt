@@ -1,5 +1,7 @@
 // What is written in front of a part's body: its word and its message, an action's as its items; and the receipts around the
 // body, which give its variables their new indices.
+#![tactic(auto)]
+
 ghost use Rattle.std.specs.Prelude.{◌≡◌, List, ℕ};
 ghost use Rattle.read_messages.specs.Words.{word};
 ghost use Rattle.read_scripts.specs.Tree.{kind_number};

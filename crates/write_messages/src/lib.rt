@@ -1,5 +1,7 @@
 // The writers of a message and of an action's items: each writes at the front of the buffer that it is lent, says how
 // many words it wrote, and lends the tail behind them to the next writer.
+#![tactic(auto)]
+
 ghost use Rattle.std.specs.Prelude.{◌≡◌, [], ◌∷◌, ◌-◌, drop};
 ghost use Rattle.read_messages.specs.Words.{word};
 ghost use Rattle.read_messages.specs.Message.{items};

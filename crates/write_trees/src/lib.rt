@@ -1,6 +1,8 @@
 // The tree writer: the words of the standing tree counted, then written at the front of a lent buffer. Each writer
 // writes at the front of the buffer that it is lent, says how many words it wrote, and lends the tail behind them to
 // the next writer.
+#![tactic(auto)]
+
 ghost use Rattle.std.specs.Prelude.{◌≡◌, [], ◌≤◌};
 ghost use Rattle.base_sets.specs.Sets.{members};
 ghost use Rattle.read_scripts.specs.Tree.{tops, parts};

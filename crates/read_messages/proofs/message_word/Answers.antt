@@ -10,8 +10,7 @@ use Rattle.read_messages.specs.Words.{kind, operand, name_fits}
 use Rattle.read_messages.specs.ReadMessage.{message_kind, message_word}
 use Rattle.read_messages.specs.declared.MessageWord.{MessageWord}
 use Rattle.read_messages.specs.declared.MessageWord.TheVariants.{Name, Unfit}
-use Rattle.read_messages.proofs.message_word.Statement.{statement}
-use Rattle.read_messages.proofs.message_word.Tie as tie
+use Rattle.read_messages.proofs.message_word.Goals as goal
 
 -- a test both of whose ways lead to the same
 either : {A : Type 0} (t : Bool) (a : A) → cond t a a ≡ a
@@ -40,27 +39,46 @@ module _ (w : ℕ) where
   unfolding message_word
   other a b c d e f g = rw (ne_eqb _ _ a, ne_eqb _ _ b, ne_eqb _ _ c, ne_eqb _ _ d, ne_eqb _ _ e, ne_eqb _ _ f, ne_eqb _ _ g)
 
-returns : tie.Need-returns
+pub returns-then-operand-eq0 : goal.returns-then-operand-eq0
 unfolding kind operand name_fits
-returns c = search (rules, zero_word)
+returns-then-operand-eq0 c = search (rules, zero_word)
 
-returns-3 : tie.Need-returns-3
+pub returns-then-operand-gt255 : goal.returns-then-operand-gt255
 unfolding kind operand
-returns-3 c = search (rules, named)
+returns-then-operand-gt255 c = search (rules, large)
 
-returns-2 : tie.Need-returns-2
+pub returns-then-kind-eq8 : goal.returns-then-kind-eq8
 unfolding kind operand
-returns-2 c = search (rules, large)
+returns-then-kind-eq8 c = search (rules, named)
 
-returns-8 : tie.Need-returns-8
-unfolding kind operand
-returns-8 c = search (rules, zero_word)
-
-pub message-word-spec : {M : Type 1} → statement M
+pub returns-then-kind-eq9 : goal.returns-then-kind-eq9
 unfolding message_word kind operand
-message-word-spec =
-    tie.close
-    (tie.spec
-    returns returns-2 returns-3 (λ c. rw c.if4.true) (λ c. search (rules, unfit))
-    (λ c. search (rules, zero_word)) (λ c. search (rules, zero_word)) returns-8
-    (λ c. search (rules, zero_word)) (λ c. search (rules, zero_word)) (λ c. search (rules, other)))
+returns-then-kind-eq9 c = rw c.if-kind-eq9.true
+
+pub returns-then-operand-ne0 : goal.returns-then-operand-ne0
+unfolding message_word kind operand
+returns-then-operand-ne0 c = search (rules, unfit)
+
+pub returns-in-10 : goal.returns-in-10
+unfolding message_word kind operand
+returns-in-10 c = search (rules, zero_word)
+
+pub returns-in-11 : goal.returns-in-11
+unfolding message_word kind operand
+returns-in-11 c = search (rules, zero_word)
+
+pub returns-in-12 : goal.returns-in-12
+unfolding kind operand
+returns-in-12 c = search (rules, zero_word)
+
+pub returns-in-13 : goal.returns-in-13
+unfolding message_word kind operand
+returns-in-13 c = search (rules, zero_word)
+
+pub returns-in-14 : goal.returns-in-14
+unfolding message_word kind operand
+returns-in-14 c = search (rules, zero_word)
+
+pub returns-in_default : goal.returns-in_default
+unfolding message_word kind operand
+returns-in_default c = search (rules, other)

@@ -11,8 +11,7 @@ use Rattle.read_messages.specs.declared.MessageWord.{MessageWord}
 use Rattle.read_messages.specs.declared.MessageWord.TheVariants.{Variable, Unfit}
 use Rattle.read_messages.specs.declared.Asked.{Asked}
 use Rattle.read_messages.specs.declared.Asked.TheVariants.{Leaf, No}
-use Rattle.read_messages.proofs.ask_message.Statement.{statement}
-use Rattle.read_messages.proofs.ask_message.Tie as tie
+use Rattle.read_messages.proofs.ask_message.Goals as goal
 
 -- the word p, which the code has as m
 module _ (nest : ℕ) (around : List ℕ) (p m : MessageWord) (e : m ≡ p) where
@@ -34,23 +33,36 @@ module _ (nest : ℕ) (around : List ℕ) (p m : MessageWord) (e : m ≡ p) wher
     unfolding asked word_fits bound
     free t = rw (← e, d, ← h, t)
 
-returns : tie.Need-returns
-returns c = search (rules, held)
+pub returns-then-is_around : goal.returns-then-is_around
+returns-then-is_around c = search (rules, held)
 
-returns-3 : tie.Need-returns-3
-returns-3 c = search (rules, free)
-
-returns-9 : tie.Need-returns-9
+pub returns-in-Unfit : goal.returns-in-Unfit
 unfolding word_fits bound follow
-returns-9 c = search (rules, fits)
+returns-in-Unfit c = search (rules, unfit)
 
-pub ask-message-spec : {M : Type 1} → statement M
+pub returns-else-is_around : goal.returns-else-is_around
+returns-else-is_around c = search (rules, free)
+
+pub returns-in-Name : goal.returns-in-Name
 unfolding word_fits bound follow
-ask-message-spec =
-    tie.close
-    (tie.spec
-    (λ c κs. search rules) (λ c. search rules) (λ c. search rules) (λ c κs. search rules) (λ c κs. search rules) returns
-    (λ c. search rules) (λ c κs. search rules) (λ c. search rules) (λ c κs. search rules) (λ c. search rules) (λ c κs. search rules)
-    (λ c. search rules) (λ c κs. search rules) (λ c. search rules) (λ c κs. search rules) (λ c. search rules) (λ c κs. search rules)
-    (λ c. search (rules, unfit)) returns-3
-    (λ c. search (rules, fits)) (λ c. search (rules, fits)) (λ c. search (rules, fits)) (λ c. search (rules, fits)) (λ c. search (rules, fits)) returns-9)
+returns-in-Name c = search (rules, fits)
+
+pub returns-in-Empty : goal.returns-in-Empty
+unfolding word_fits bound follow
+returns-in-Empty c = search (rules, fits)
+
+pub returns-in-Enter : goal.returns-in-Enter
+unfolding word_fits bound follow
+returns-in-Enter c = search (rules, fits)
+
+pub returns-in-Exit : goal.returns-in-Exit
+unfolding word_fits bound follow
+returns-in-Exit c = search (rules, fits)
+
+pub returns-in-Open : goal.returns-in-Open
+unfolding word_fits bound follow
+returns-in-Open c = search (rules, fits)
+
+pub returns-in-Path : goal.returns-in-Path
+unfolding word_fits bound follow
+returns-in-Path c = search (rules, fits)
