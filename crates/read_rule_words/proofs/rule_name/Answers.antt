@@ -7,8 +7,7 @@ use borrow.Author.Rules.{rules}
 use borrow.Author.Tests.{le-ltb, lt-ltb, ne_eqb}
 use Rattle.read_messages.specs.Words.{kind, operand}
 use Rattle.read_rule_words.specs.Rule.{rule_name}
-use Rattle.read_rule_words.proofs.rule_name.Statement.{statement}
-use Rattle.read_rule_words.proofs.rule_name.Tie as tie
+use Rattle.read_rule_words.proofs.rule_name.Goals as goal
 
 -- a variable is no name, whatever the kind
 no_name : (n : ℕ) (b : Bool) → 0 ≡ cond (b && false) n 0
@@ -19,21 +18,18 @@ variable : (w : ℕ) → 134217728 ≤ operand w → 0 ≡ rule_name w
 unfolding rule_name
 variable w h = rw (le-ltb (operand w) 134217728 h) (no_name (operand w) (eqb (kind w) 4 || eqb (kind w) 9))
 
-returns : tie.Need-returns
+pub returns-then-n-ge134217728 : goal.returns-then-n-ge134217728
 unfolding operand
-returns c = variable _ c.if1.true
+returns-then-n-ge134217728 c = variable _ c.if-n-ge134217728.true
 
-returns-2 : tie.Need-returns-2
+pub returns-then-kind-eq4 : goal.returns-then-kind-eq4
 unfolding rule_name kind operand
-returns-2 c = search (rules, c.if2.true, lt-ltb)
+returns-then-kind-eq4 c = search (rules, c.if-kind-eq4.true, lt-ltb)
 
-returns-3 : tie.Need-returns-3
+pub returns-then-kind-eq9 : goal.returns-then-kind-eq9
 unfolding rule_name kind operand
-returns-3 c = search (rules, c.if3.true, lt-ltb)
+returns-then-kind-eq9 c = search (rules, c.if-kind-eq9.true, lt-ltb)
 
-returns-4 : tie.Need-returns-4
+pub returns : goal.returns
 unfolding rule_name kind operand
-returns-4 c = search (rules, ne_eqb)
-
-pub rule-name-spec : {M : Type 1} → statement M
-rule-name-spec = tie.close (tie.spec returns returns-2 returns-3 returns-4)
+returns c = search (rules, ne_eqb)

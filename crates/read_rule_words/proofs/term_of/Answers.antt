@@ -3,16 +3,12 @@ use borrow.Author.Tests.{le-leb, lt-leb}
 use Rattle.read_messages.specs.Words.{operand}
 use Rattle.read_rule_words.specs.ReadRule.{is_chosen, term_of}
 use Rattle.read_rule_words.specs.RuleWords.{term_word}
-use Rattle.read_rule_words.proofs.term_of.Statement.{statement}
-use Rattle.read_rule_words.proofs.term_of.Tie as tie
+use Rattle.read_rule_words.proofs.term_of.Goals as goal
 
-returns : tie.Need-returns
+pub returns-then-n-ge134217728 : goal.returns-then-n-ge134217728
 unfolding term_word term_of is_chosen operand
-returns c = rw (le-leb _ _ c.if1.true)
+returns-then-n-ge134217728 c = rw (le-leb _ _ c.if-n-ge134217728.true)
 
-returns-2 : tie.Need-returns-2
+pub returns : goal.returns
 unfolding term_word term_of is_chosen operand
-returns-2 c = rw (lt-leb _ _ c.if1.false)
-
-pub term-of-spec : {M : Type 1} → statement M
-term-of-spec = tie.close (tie.spec returns returns-2)
+returns c = rw (lt-leb _ _ c.if-n-ge134217728.false)
