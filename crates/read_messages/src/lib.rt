@@ -46,7 +46,7 @@ pub enum Asked {
 }
 
 // What every reader answers: the index of the word behind what was read, or the first no's number and place.
-#[derive(Drop)]
+#[derive(Clone, Copy)]
 pub enum Outcome {
     Read { next: usize },
     Refused { question: u32, place: usize },

@@ -24,7 +24,7 @@ pub struct Table {
 }
 
 // The indices of the receipts around a word, innermost first, from first on.
-#[derive(Drop)]
+#[derive(Clone, Copy)]
 pub struct Around {
     pub indices: [u16; 65],
     pub first: usize,
