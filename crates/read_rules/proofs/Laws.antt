@@ -13,7 +13,6 @@ use Rattle.read_messages.specs.Reading.{Cursor, cursor, Reading, refuse, got, â—
 use Rattle.read_messages.specs.declared.Outcome.TheVariants.{Read}
 use Rattle.read_messages.proofs.Readings.{bind-cong, bind-got, bind-refuse, Advances, advances-on, Next, next, next-advances, next-shorter, advances-shorter, next-end}
 use Rattle.read_rule_words.specs.Rule.{Term, Rule, truth, negation, either, void, at, beside, some-name, sometime, somewhere, rule_index}
-use Rattle.read_rule_words.specs.Rule as Rule
 use Rattle.read_rule_words.specs.ReadRule.{RuleKind, TRUE, NOT, OR, VOID, AT, BESIDE, SOME, SOMETIME, SOMEWHERE, PLACED, OTHER, rule_kind, term_of, operand_fits, bound, somes_with, Reader, one_rule, two_rules, rule_from, read_rule}
 use Rattle.read_rule_words.specs.RuleWords.{follow, levelled, asked}
 use Rattle.read_rules.specs.RuleTable.{refused_at, turned, entered, tabulate, scanned}

@@ -21,7 +21,7 @@ pub struct RuleTable {
 }
 
 // The indices of the SOMEs around a word, innermost first, from first on.
-#[derive(Drop)]
+#[derive(Clone, Copy)]
 struct Somes {
     indices: [u16; 8],
     first: usize,
