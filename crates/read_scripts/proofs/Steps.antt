@@ -3,13 +3,10 @@
 use Prim.Native.Nat.{ℕ, zero, suc, ◌+◌, ◌-◌, ◌*◌, ◌≤◌, ◌<◌}
 use mathlib.Core.Bool.{Bool, true, false, cond}
 use mathlib.Core.List.{List, [], ◌∷◌}
-use mathlib.Core.Logic.{⊎_elim}
 use mathlib.Core.Path.{◌≡◌, refl, sym, ap, ◌∙◌}
 use native.Mathlib.Omega.{arith}
 use native.Mathlib.Numerals.{add-one}
 use borrow.Author.Tests.{leb-true}
-use denote.Enum.Declared.{tag_of}
-use types.Run.{OneOf}
 use lib.Dec.{leb, eqb, ltb}
 use lib.ListN.{length, get_or, take, drop, length-drop}
 use lib.Seq.{get_or-drop, drop-drop, take_all}
@@ -32,7 +29,6 @@ use Rattle.read_script_words.specs.declared.PartWord.{PartWord}
 use Rattle.read_script_words.specs.declared.PartWord.TheVariants.{Close, Ambient, Action, Receipt, Output, No}
 use Rattle.read_messages.specs.declared.Outcome.{Outcome}
 use Rattle.read_messages.specs.declared.Outcome.TheVariants.{Read, Refused}
-use Rattle.read_script_words.specs.contracts.PartWord.{the_type}
 use Rattle.read_scripts.proofs.Laws.{PartRead, part-read, body-fuel}
 
 -- the only question that a part word answers by no is the second
@@ -152,11 +148,11 @@ body_closed l i nest around n h w e c = body-first l i nest around n h w e ∙ r
 
 -- no CLOSE
 abbrev pub Other : PartWord → Type 0
-Other p = OneOf (1 ∷ 2 ∷ 3 ∷ 4 ∷ 5 ∷ []) (tag_of the_type p)
+Other p = p ≡ Close → ⊥
 
 or-part : (w : PartWord) (c : Cursor) (k : Reading (Script × Cursor)) → Other w → or_close w c k ≡ k
 unfolding or_close
-or-part Close c k o = absurd (⊎_elim (λ e. omega arith) (⊎_elim (λ e. omega arith) (⊎_elim (λ e. omega arith) (⊎_elim (λ e. omega arith) (λ e. omega arith)))) o)
+or-part Close c k o = absurd (o refl)
 or-part Ambient c k o = refl
 or-part Action c k o = refl
 or-part Receipt c k o = refl
