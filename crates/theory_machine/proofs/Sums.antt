@@ -58,7 +58,7 @@ module _ {H : Type 0} (f : ℕ → H → ℕ) where
   find-total a (part i h b r) p e = by_test (eqb a i)
       (λ t.
       let q : (h, b) ≡ p = some_is (rw t at e) in
-      rw (t, ← q, eqb-true a i t) (omega (arith, remove_part-total i r)))
+      rw (t, ← q, eqb-true a i t) (omega (arith, remove_part-total a r)))
       (λ t. rw t (omega (arith, find-total a r p (rw t at e))))
 
   pub put-total : (n : ℕ) (g : H) (s b : Body H) → total_over f (put n g s b) ≤ f n g + (total_over f s + total_over f b)
