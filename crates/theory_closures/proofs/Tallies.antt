@@ -58,7 +58,7 @@ module _ (T : Tally) where
   of-find a (part i h b r) p e = by_test (eqb a i)
       (λ t.
       let q : (h, b) ≡ p = some_is (rw t at e) in
-      rw (t, ← q, eqb-true a i t) (omega (arith, of-remove_part i r)))
+      rw (t, ← q, eqb-true a i t) (omega (arith, of-remove_part a r)))
       (λ t. rw t (omega (arith, of-find a r p (rw t at e))))
 
   pub of-put : (n : ℕ) (g : ClosureHead) (s b : Closure) → tally_of (put n g s b) ≤ alone n g s + tally_of b
