@@ -27,6 +27,7 @@ divided-total f (to_left x) = omega (arith, divided-total f x)
 divided-total f (to_right x) = omega (arith, divided-total f x)
 
 pub part-divided : {b c d i q : Plain} {k : ℕ} {h : PlainHead} → Divided b c d → HasPart c k h i q → (r : Plain) × HasPart b k h i r × Divided r q d
+part-divided {i = i} {q = q} {k = k} {h = h} nothing p = elim p [ ]
 part-divided (to_left x) front = (_, front, x)
 part-divided (to_left x) (behind p) = let y = part-divided x p in (_, behind y.1, to_left y.2)
 part-divided (to_right x) p = let y = part-divided x p in (_, behind y.1, to_right y.2)

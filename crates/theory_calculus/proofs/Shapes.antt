@@ -122,3 +122,4 @@ pick-sum (cell h j r) c (there p) = elim (pick-sum r c p) [
 
 pub same-one : {f g : Tag} {i r s : Shape} → Same (cell f i r) (cell g s no_cells) → (f ≡ g) × Same i s × Same r no_cells
 same-one (match here a z) = (refl, a, z)
+same-one {f = f} {g = g} {i = i} {r = r} {s = s} (match {j = j} (there {q = q} x) a z) = elim x [ ]
