@@ -24,7 +24,7 @@ pub enum First {
 }
 
 // What a word is where a message word is expected.
-#[derive(Drop)]
+#[derive(Clone, Copy)]
 pub enum MessageWord {
     Name(u32),
     Variable(u32),
