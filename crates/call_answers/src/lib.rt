@@ -18,7 +18,7 @@ const MOST_MOVES: usize = 4096;
 const LEAST_LIST: usize = 256;
 
 // Yes or no, or the question that refuses the call, and its place.
-#[derive(Drop)]
+#[derive(Clone, Copy)]
 pub enum Verdict {
     Yes,
     No,
@@ -26,7 +26,7 @@ pub enum Verdict {
 }
 
 // What a call answers beside the buffers; `count` is that of the itinerary's moves.
-#[derive(Drop)]
+#[derive(Clone, Copy)]
 pub struct Answer {
     pub verdict: Verdict,
     pub moves: usize,

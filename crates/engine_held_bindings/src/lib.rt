@@ -30,7 +30,7 @@ pub struct Measured {
 }
 
 // The bindings, from first on, newest first, and what was counted of each.
-#[derive(Drop)]
+#[derive(Clone, Copy)]
 pub struct Bindings {
     pub variables: [u32; 32],
     pub sources: [u32; 32],

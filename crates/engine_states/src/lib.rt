@@ -22,7 +22,7 @@ use read_messages::{First, Named};
 // What is kept of the parts: the set of those that have a name, and their names; what each does first (1 OPEN, 2 IN,
 // 3 EXIT, 4 it receives, 0 nothing) and the set of the parts to which that can be done; the set of those that settling
 // has to do with.
-#[derive(Drop)]
+#[derive(Clone, Copy)]
 pub struct PartNotes {
     pub named: u64,
     pub names: [u32; 64],
@@ -48,7 +48,7 @@ pub struct NameTable {
 
 // What moves change: kids[i] is the set of the parts in the body of part i, and kids[64] that of the top parts; offsets[i]
 // is how many items of the action i are spent.
-#[derive(Drop)]
+#[derive(Clone, Copy)]
 pub struct State {
     pub kids: [u64; 65],
     pub offsets: [u32; 64],

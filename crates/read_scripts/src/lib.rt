@@ -15,7 +15,7 @@ use read_script_words::{PartWord, ask_part};
 
 // The parts by number: kind (1 ambient, 2 action, 3 receipt, 4 output), where the message starts (of a receipt, its own
 // index), and the set of the parts in the body; entry 64 of kids is the script's own body. count is the number of parts.
-#[derive(Drop)]
+#[derive(Clone, Copy)]
 pub struct Table {
     pub kinds: [u8; 64],
     pub starts: [u32; 64],

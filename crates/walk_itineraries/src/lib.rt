@@ -12,7 +12,7 @@ use walk_states::{Spot, Step, all_targets, next_state, next_turn};
 use walk_visits::visit;
 
 // Where a visit is made, and the counts before it.
-#[derive(Drop)]
+#[derive(Clone, Copy)]
 pub struct Arrival {
     pub spot: Spot,
     pub counts: Counts,

@@ -3,14 +3,14 @@
 #![tactic(auto)]
 
 // Visits made, and the greatest depth.
-#[derive(Drop)]
+#[derive(Clone, Copy)]
 pub struct Counts {
     pub visits: u32,
     pub deepest: u32,
 }
 
 // The call's numbers: the most visits, the greatest name, the script's parts, and these with the parts that PLACED words make.
-#[derive(Drop)]
+#[derive(Clone, Copy)]
 pub struct Limits {
     pub patience: u32,
     pub greatest: u32,

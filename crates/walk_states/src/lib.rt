@@ -29,7 +29,7 @@ use engine_states::State;
 use engine_targets::{put_homes, targets};
 
 // Where a visit is made: the word's index, the set of the top parts, the SOMEs around, and the depths left.
-#[derive(Drop)]
+#[derive(Clone, Copy)]
 pub struct Spot {
     pub at: usize,
     pub top: u64,

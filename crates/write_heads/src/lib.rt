@@ -19,7 +19,7 @@ use base_slices::{tail, wide};
 use write_messages::{write_items, write_message, write_word};
 
 // The receipts around what is written, innermost first, from first on: their variables and their new indices.
-#[derive(Drop)]
+#[derive(Clone, Copy)]
 pub struct Around {
     pub variables: [u32; 64],
     pub indices: [u32; 64],
