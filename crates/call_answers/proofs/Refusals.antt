@@ -8,7 +8,6 @@ use Rattle.read_messages.specs.declared.Outcome.{Outcome}
 use Rattle.read_messages.specs.declared.Outcome.TheVariants.{Read, Refused}
 use Rattle.theory_call.specs.Call.{Call, Verdict, accepted, refused, refusal, answer}
 use Rattle.theory_call.specs.Call as plain
-use Rattle.theory_call.specs.Itinerary.{Listed}
 use Rattle.call_answers.specs.Answering.{verdict_of, answer_of, refused_by, Refusing, call_of, CallGives}
 use Rattle.call_answers.specs.declared.Answer.{Answer}
 

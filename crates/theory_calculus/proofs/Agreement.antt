@@ -12,7 +12,7 @@ use Rattle.theory_machine.proofs.Inversion.{plain-name}
 use Rattle.read_rule_words.specs.Rule.{Names, term_name, Rule, truth, negation, either, void, at, beside, some-name, sometime, somewhere, placed, Later}
 use Rattle.theory_calculus.specs.Satisfaction.{Inside, first, later, Within, here, deeper, Reaches, stay, go, Alone, wrapped, Sat}
 use Rattle.theory_calculus.specs.Order.{HasPart, front, behind}
-use Rattle.theory_calculus.specs.Calculus.{Process, 𝟎, ambient, ◌≅◌, StructRefl, StructSymm, StructTrans, StructAmb, StructZeroPar, RedCong, stop, step, ◌⟶*◌, ◌↓◌, Loc, ◌↓*◌, Satisfies}
+use Rattle.theory_calculus.specs.Calculus.{Process, 𝟎, ambient, ◌≅◌, StructRefl, StructSymm, StructTrans, StructAmb, StructZeroPar, RedCong, stop, step, ◌⟶*◌, Loc, ◌↓*◌, Satisfies}
 use Rattle.theory_calculus.specs.TreeProcess.{piece, process}
 use Rattle.theory_calculus.proofs.Divisions.{as-nothing, as-both, divided-congruent}
 use Rattle.theory_calculus.proofs.Picks.{has-ambient, as-ambient, part-process}

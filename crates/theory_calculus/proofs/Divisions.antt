@@ -8,7 +8,7 @@ use native.Mathlib.Omega.{arith}
 use Rattle.read_messages.specs.Message.{Message, empty_message, items}
 use Rattle.read_scripts.specs.Tree.{Head, close, part, PlainHead, Plain}
 use Rattle.theory_calculus.specs.Satisfaction.{Divided, nothing, to_left, to_right}
-use Rattle.theory_calculus.specs.Calculus.{occurs, Process, 𝟎, ◌‖◌, ambient, ◌≅◌, StructRefl, StructSymm, StructTrans, StructParAssoc, StructZeroPar}
+use Rattle.theory_calculus.specs.Calculus.{occurs, Process, 𝟎, ◌‖◌, ◌≅◌, StructRefl, StructSymm, StructTrans, StructParAssoc, StructZeroPar}
 use Rattle.theory_calculus.specs.TreeProcess.{prefix, piece, process}
 use Rattle.theory_calculus.proofs.Shapes.{Tag, amb, can, hear, say, Shape, no_cells, cell, ◌⧺◌, chain, Same, done, match, same-sym, pick-sum}
 use Rattle.theory_calculus.proofs.Congruences.{renamed-own, bound, own, process_shape, sound, complete, BelowAll, highest, top_below, par-both, par-swap}

@@ -18,7 +18,7 @@ use Rattle.read_scripts.proofs.Numbers.{own-times, one_none}
 use Rattle.read_scripts.proofs.Scopes.{receives}
 use Rattle.theory_machine.proofs.Options.{some_is, none≢some}
 use Rattle.theory_machine.proofs.Sums.{remove_part-none, merge-total, settle-total, Shrinks, plain-numbers}
-use Rattle.theory_calculus.specs.Calculus.{Process, ◌‖◌, ambient, action, output, ◌≅◌, StructRefl, StructSymm, StructTrans, StructAmb, StructInput, StructParComm, StructParAssoc, StructZeroPar, substitute}
+use Rattle.theory_calculus.specs.Calculus.{Process, ◌‖◌, ◌≅◌, StructRefl, StructSymm, StructTrans, StructAmb, StructInput, StructParComm, StructParAssoc, StructZeroPar, substitute}
 use Rattle.theory_calculus.specs.TreeProcess.{prefix, piece, process}
 use Rattle.theory_calculus.proofs.Variables.{eqb-flip}
 use Rattle.theory_calculus.proofs.Congruences.{par-both, par-swap, action-items, prefix-cong, prefix-prefix}

@@ -6,7 +6,7 @@ use mathlib.Core.List.{List, [], ◌∷◌, ◌++◌}
 use mathlib.Core.Path.{◌≡◌, refl, ◌∙◌}
 use lib.Dec.{leb}
 use borrow.Author.Tests.{leb-true}
-use Rattle.read_messages.specs.Reading.{refuse, got, ◌>>=◌, ask}
+use Rattle.read_messages.specs.Reading.{refuse, got, ask}
 use Rattle.read_messages.proofs.Readings.{bind_inv, bind-got, bind-refuse, ask-inv, ask-yes, ask-no}
 use Rattle.read_messages.proofs.Places.{Within, bind-within, ask-within}
 use Rattle.theory_call.specs.Call.{Question, asking}

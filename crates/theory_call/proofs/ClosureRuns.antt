@@ -22,7 +22,7 @@ use Rattle.theory_closures.proofs.Started.{closure-started, started-good}
 use Rattle.theory_closures.proofs.Bound.{budget, Bounded, move-costs, started-bounded, started-budget}
 use Rattle.theory_call.specs.Call.{Call, Ran, actor, target, move_fits, run, refusal, Start, parts_of, start_of, starting, answer}
 use Rattle.theory_call.specs.Call as plain
-use Rattle.theory_call.specs.ClosureCall.{ClosureRan, halted, completed, after_move, if_made, closure_run, unfold_ran, begun}
+use Rattle.theory_call.specs.ClosureCall.{ClosureRan, after_move, if_made, closure_run, unfold_ran, begun}
 use Rattle.theory_call.specs.Standing.{Standing, BoundHolds, MovesBounded}
 use Rattle.theory_call.proofs.Entering.{starting-got}
 use Rattle.theory_call.proofs.Answers.{answer-ends}

@@ -1,6 +1,6 @@
 -- The script and the rule as read: their part numbers and their names are below what the call hands to the walk.
 -- Assumes nothing.
-use Prim.Native.Nat.{ℕ, ◌-◌, ◌≤◌, ◌<◌, max}
+use Prim.Native.Nat.{ℕ, ◌≤◌, ◌<◌, max}
 use mathlib.Core.Bool.{true, ◌||◌}
 use mathlib.Core.List.{List, ◌∷◌}
 use mathlib.Core.Path.{◌≡◌, refl, ◌∙◌, subst}
@@ -21,7 +21,7 @@ use Rattle.read_script_words.specs.ScriptWords.{greatest_name}
 use Rattle.read_scripts.proofs.Cases as body
 use Rattle.base_slices.proofs.Tests.{by_test}
 use Rattle.theory_machine.proofs.Everywhere.{Everywhere, map-everywhere, more-everywhere, settle-everywhere}
-use Rattle.read_rule_words.specs.Rule.{Rule, negation, either, at, beside, some-name, sometime, somewhere, rule_name, greatest_rule_name}
+use Rattle.read_rule_words.specs.Rule.{Rule, negation, either, beside, some-name, sometime, somewhere, rule_name, greatest_rule_name}
 use Rattle.read_rule_words.specs.ReadRule.{is_chosen, term_of, read_whole_rule}
 use Rattle.read_rule_words.proofs.Cases as rule
 use Rattle.theory_decision.proofs.Fits.{MessageAll, HeadAll, Fit, Fits, TermAll, RuleAll, items-all, rule-more}

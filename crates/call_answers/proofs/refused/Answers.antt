@@ -2,12 +2,8 @@
 use mathlib.Core.Path.{refl}
 use Rattle.theory_call.specs.Call.{refusal}
 use Rattle.call_answers.specs.Answering.{verdict_of, answer_of}
-use Rattle.call_answers.proofs.refused.Statement.{statement}
-use Rattle.call_answers.proofs.refused.Tie as tie
+use Rattle.call_answers.proofs.refused.Goals as goal
 
-returns : tie.Need-returns
+pub returns : goal.returns
 unfolding refusal verdict_of answer_of
 returns c = record { answered = λ b. refl; uncounted = refl }
-
-pub refused-spec : {M : Type 1} → statement M
-refused-spec = tie.close (tie.spec returns)
