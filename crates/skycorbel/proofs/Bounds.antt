@@ -8,7 +8,6 @@ use native.Mathlib.Omega.{arith}
 use borrow.Author.Tests.{leb-true}
 use lib.Dec.{leb, ltb, eqb, lit≤}
 use lib.ListN.{length, take, drop, replicate, length-append, length-take, length-drop, length-replicate}
-use Rattle.io.specs.Counts.{IsPrefixLen}
 use Rattle.base_slices.proofs.Tests.{by_test}
 use Rattle.theory_call.specs.Call.{Call, Verdict, accepted, refused, Answer, answer, refusal, standing_words}
 use Rattle.theory_call.proofs.Answers.{answer-ends}
@@ -17,7 +16,7 @@ use Rattle.program_digits.specs.Digits.{digit, hexadecimal, line, lines, decimal
 use Rattle.program_text.specs.Text.{refused_text, at_text, moves_text, visits_text, deepest_text, weight_text, words_text, refusal_text, unfit_text, counts_text, said_text, verdict_text}
 use Rattle.program_replies.specs.Reply.{counted, replied, call_reply, rule_reply, moves_reply, script_reply, words_reply}
 use Rattle.program_words.specs.Words.{words_of}
-use Rattle.skycorbel.specs.Input.{reply}
+use Rattle.skycorbel.specs.Input.{IsPrefixLen, reply}
 use Rattle.skycorbel.specs.Right.{Right}
 use Rattle.skycorbel.proofs.Deciding.{reply-right}
 

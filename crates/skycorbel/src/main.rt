@@ -1,19 +1,22 @@
 // The program: the words that standard input spells, and the reply to them as text. Everything between the bytes read
-// and the bytes written is `reply`.
+// and the bytes written is `reply`. Where standard input can't be read or standard output can't be written, the program says
+// so and ends with status 1.
 #![tactic(auto)]
 
 ghost use Rattle.std.specs.Prelude.{◌≡◌, ◌*◌, ◌≤◌, length, take};
-ghost use Rattle.io.specs.Counts.{IsPrefixLen};
+ghost use Rattle.std.specs.Io.{ReadsAtMost};
 ghost use Rattle.program_digits.specs.Digits.{Puts};
 ghost use Rattle.program_replies.specs.Reply.{words_reply};
 ghost use Rattle.program_words.specs.Words.{words_of};
-ghost use Rattle.skycorbel.specs.Input.{reply as reply_of};
+ghost use Rattle.skycorbel.specs.Input.{IsPrefixLen, reply as reply_of};
 ghost use Rattle.skycorbel.specs.Right.{Right};
 
 use base_slices::head;
 use program_replies::reply_to_words;
 use program_text::put_unfit;
 use program_words::unpack;
+use std::io;
+use std::io::{Read, Write};
 
 // The reply to an input of so many whole words.
 fn reply_to_bytes(input: &[u8], count: usize, text: &mut [u8]) -> usize
@@ -44,11 +47,26 @@ fn reply(input: &[u8], text: &mut [u8]) -> usize
     reply_to_bytes(input, n / 4, text)
 }
 
+// Reads until the buffer is full or the input ends, and returns how many bytes it put at the start of the buffer.
+fn read_full(mut input: io::Stdin, buffer: &mut [u8]) -> io::Result<usize>
+    ensures { ReadsAtMost result buffer.new }
+{
+    let mut done = 0;
+    while done < buffer.len() {
+        let n = input.read(&mut buffer[done..])?;
+        if n == 0 {
+            break;
+        }
+        done += n;
+    }
+    Ok(done)
+}
+
 // One byte more than may be read is asked for, so that too long an input is seen.
-fn main() {
+fn main(rt: HostRuntime) -> io::Result<()> {
     let mut input = [0u8; 24577];
-    let n = io::read_full(0, &mut input);
+    let n = read_full(rt.stdin(), &mut input)?;
     let mut text = [0u8; 40960];
     let k = reply(&input[..n], &mut text);
-    io::write_all(1, &text[..k]);
+    rt.stdout().write_all(&text[..k])
 }
