@@ -4,12 +4,8 @@ use native.Mathlib.Omega.{arith}
 use Rattle.engine_bindings.specs.Bindings.{bindings_in}
 use Rattle.engine_held_bindings.specs.Held.{bindings_of}
 use Rattle.engine_held_bindings.proofs.Sizing.{cached-none}
-use Rattle.engine_held_bindings.proofs.none.Statement.{statement}
-use Rattle.engine_held_bindings.proofs.none.Tie as tie
+use Rattle.engine_held_bindings.proofs.none.Goals as goal
 
-returns : tie.Need-returns
+pub returns : goal.returns
 unfolding bindings_of bindings_in
 returns c script = record { held = record { within = omega arith; cached = cached-none script }; none = refl; room = refl }
-
-pub none_spec : {M : Type 1} → statement M
-none_spec = tie.close (tie.spec returns)
