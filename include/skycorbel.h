@@ -1,4 +1,4 @@
-/* The call of Skycorbel for C. The library is target/staticlib/libcapi.a, for x86-64 Linux. */
+/* The call of Skycorbel for C. The library is crates/capi/out/libcapi.a, for x86-64 Linux. */
 #ifndef SKYCORBEL_H
 #define SKYCORBEL_H
 

@@ -143,7 +143,9 @@ mod tests {
     fn an_edit_is_of_the_function_s_own_crate_or_of_one_below() {
         let text = read(&root().join("crates.txt"));
         let lines = text.lines().filter(|line| !line.starts_with('#'));
-        let order: Vec<&str> = lines.filter_map(|line| line.split_once(':')).map(|(name, _)| name).collect();
+        // behind a name may stand what kind of library it is
+        let heads = lines.filter_map(|line| line.split_once(':')).map(|(head, _)| head);
+        let order: Vec<&str> = heads.filter_map(|head| head.split_whitespace().next()).collect();
         let place = |name: &str| order.iter().position(|other| *other == name).expect("a crate");
         for row in rows() {
             let own = place(row.function.split("::").next().expect("a crate"));

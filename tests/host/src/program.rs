@@ -4,9 +4,9 @@ use std::io::Write;
 use std::path::PathBuf;
 use std::process::{Command, Stdio};
 
-/// Where `rt check skycorbel` puts it; `SKYCORBEL_PROGRAM` names another place.
+/// Where `rt run` in crates/skycorbel puts it; `SKYCORBEL_PROGRAM` names another place.
 pub fn path() -> PathBuf {
-    let built = concat!(env!("CARGO_MANIFEST_DIR"), "/../../target/bin/skycorbel");
+    let built = concat!(env!("CARGO_MANIFEST_DIR"), "/../../crates/skycorbel/out/skycorbel");
     std::env::var("SKYCORBEL_PROGRAM").unwrap_or(built.to_string()).into()
 }
 

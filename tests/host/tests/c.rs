@@ -6,7 +6,7 @@ use std::process::Command;
 #[test]
 fn the_header_says_how_it_is_called() {
     let here = Path::new(env!("CARGO_MANIFEST_DIR"));
-    let library = std::env::var("SKYCORBEL_LIBRARY").map_or(here.join("../../target/staticlib"), Into::into);
+    let library = std::env::var("SKYCORBEL_LIBRARY").map_or(here.join("../../crates/capi/out"), Into::into);
     let program = Path::new(env!("CARGO_TARGET_TMPDIR")).join("call");
     let compiled = Command::new("cc")
         .args(["-std=c99", "-Wall", "-Wextra", "-Werror", "-o"])

@@ -189,29 +189,36 @@ fn other_layouts() {
 }
 
 /// The outline of a tree: `run`, three crates that the program rests on and one that it does not, and a stand-in for `rt`, which
-/// counts its calls, prints the file `said`, makes the program of the file `made` if there is one, and ends with a status.
+/// counts its calls, prints the file `said`, and ends with a status: 1 in the crate of that name, else 0. In the program's crate
+/// it makes the program of the file `made`, if there is one.
 struct Outline(Folder);
 
 const SOURCES: &[&str] =
     &["crates.txt", "crates/low/src/lib.rt", "crates/low/must-fail/other.edit", "crates/other/proofs/Laws.antt"];
-const ALL_PROVED: &str = "fn low::f: proved\nrt: low proved (5 s)\nrt: high proved (unchanged since it was last proved)\n\
-                          rt: skycorbel proved (12 s)\nrt: ok, 3 crates proved\n";
+const FOLDERS: &[&str] = &["high", "skycorbel"];
+const SAID: &str = "fn f: proved\nlogic=proved functions=1\n";
 const PROGRESS: &str = "proved 1 of 3: low\nproved 2 of 3: high\nproved 3 of 3: skycorbel\n";
+const ALL_PROVED: [&str; 3] = ["low: lib", "high: lib", "skycorbel: run"];
+const PROGRAM: &str = "crates/skycorbel/out/skycorbel";
 const SAYS_YES: &str = "#!/bin/sh\ncat >/dev/null\necho yes moves 0\n";
 
 impl Outline {
     /// All of it is two hours old, and there is no program yet.
-    fn new(name: &str, said: &str, status: i32) -> Outline {
+    fn new(name: &str, said: &str, refused: &str) -> Outline {
         let outline = Outline(Folder::new(name));
         for source in SOURCES {
             write(&outline.0.join(source), "");
         }
-        write(&outline.0.join("crates.txt"), "# from the lowest up\nlow:\nother: low\nhigh: low\nskycorbel: high low io libc\n");
+        for name in FOLDERS {
+            write(&outline.0.join("crates").join(name).join("src/lib.rt"), "");
+        }
+        write(&outline.0.join("crates.txt"), "# in any order\nother staticlib: low\nskycorbel: high low\nhigh: low\nlow:\n");
         write(&outline.0.join("call.hex"), "script\n00000000\nmoves\nrule\n00000000\npatience\n00000001\n");
         write(&outline.0.join("said"), said);
         outline.program("made", SAYS_YES);
-        let make = "if [ -f made ]; then mkdir -p target/bin && cp made target/bin/skycorbel; fi";
-        outline.program("path/rt", &format!("#!/bin/sh\necho \"$*\" >>calls\nsleep 0.1\ncat said\n{make}\nexit {status}\n"));
+        let say = "crate=$(basename \"$PWD\")\nmkdir -p out\ncd ../..\necho \"$crate: $*\" >>calls\nsleep 0.1\ncat said";
+        let make = "if [ $crate = skycorbel ] && [ -f made ]; then cp made crates/skycorbel/out/skycorbel; fi";
+        outline.program("path/rt", &format!("#!/bin/sh\n{say}\n[ $crate != '{refused}' ] || exit 1\n{make}\n"));
         fs::copy(Path::new(ROOT).join("run"), outline.0.join("run")).expect("a copy");
         let made = Command::new("find").args([".", "-exec", "touch", "-d", "2 hours ago", "{}", "+"]).current_dir(&*outline.0).status();
         assert!(made.expect("find runs").success());
@@ -243,9 +250,16 @@ impl Outline {
         (output.status.code().expect("a status"), text(&output.stdout), text(&output.stderr))
     }
 
-    /// What `rt` was called with, call by call.
+    /// The crates in which `rt` was called, each with what it was called with, call by call.
     fn calls(&self) -> Vec<String> {
         fs::read_to_string(self.0.join("calls")).unwrap_or_default().lines().map(str::to_string).collect()
+    }
+
+    /// How often all was proved.
+    fn proofs(&self) -> usize {
+        let calls = self.calls();
+        assert_eq!(calls, ALL_PROVED.repeat(calls.len() / ALL_PROVED.len()));
+        calls.len() / ALL_PROVED.len()
     }
 }
 
@@ -255,32 +269,32 @@ fn said(status: i32, out: &str, err: &str) -> (i32, String, String) {
 
 #[test]
 fn no_program_is_proved_first() {
-    let outline = Outline::new("no_program", ALL_PROVED, 0);
+    let outline = Outline::new("no_program", SAID, "");
     assert_eq!(outline.run(), said(YES, "yes moves 0\n", PROGRESS));
     assert_eq!(outline.run(), said(YES, "yes moves 0\n", ""));
-    assert_eq!(outline.calls(), ["check skycorbel"]);
+    assert_eq!(outline.calls(), ALL_PROVED);
 }
 
 #[test]
 fn a_newer_source_is_proved_first() {
-    let outline = Outline::new("newer", ALL_PROVED, 0);
+    let outline = Outline::new("newer", SAID, "");
     outline.run();
     for (before, source) in SOURCES.iter().enumerate() {
-        outline.changed("target/bin/skycorbel", 60);
+        outline.changed(PROGRAM, 60);
         outline.run();
-        assert_eq!(outline.calls().len(), before + 1, "no source is newer");
+        assert_eq!(outline.proofs(), before + 1, "no source is newer");
         outline.changed(source, 30);
         assert_eq!(outline.run().2, PROGRESS, "{source}");
-        assert_eq!(outline.calls().len(), before + 2, "{source}");
+        assert_eq!(outline.proofs(), before + 2, "{source}");
         outline.changed(source, 120);
     }
 }
 
 #[test]
 fn a_source_that_is_gone_is_noticed() {
-    let outline = Outline::new("gone", ALL_PROVED, 0);
+    let outline = Outline::new("gone", SAID, "");
     outline.run();
-    outline.changed("target/bin/skycorbel", 60);
+    outline.changed(PROGRAM, 60);
     fs::remove_file(outline.0.join("crates/low/src/lib.rt")).expect("a file");
     assert_eq!(outline.run().2, PROGRESS);
 }
@@ -288,44 +302,44 @@ fn a_source_that_is_gone_is_noticed() {
 /// rt leaves the program alone where the newer file is none that the program is made of; it is not asked again then.
 #[test]
 fn a_program_that_stays_is_proved_once() {
-    let outline = Outline::new("stays", ALL_PROVED, 0);
+    let outline = Outline::new("stays", SAID, "");
     outline.run();
     fs::remove_file(outline.0.join("made")).expect("a file");
-    outline.changed("target/bin/skycorbel", 150);
+    outline.changed(PROGRAM, 150);
     assert_eq!(outline.run().2, PROGRESS);
     assert_eq!(outline.run().2, "");
 }
 
 #[test]
 fn two_at_a_time_prove_once() {
-    let outline = Outline::new("two", ALL_PROVED, 0);
+    let outline = Outline::new("two", SAID, "");
     let mut other = outline.command().stdout(Stdio::null()).stderr(Stdio::null()).spawn().expect("bash runs");
     assert_eq!(outline.run().0, YES);
     assert!(other.wait().expect("it ends").success());
-    assert_eq!(outline.calls().len(), 1);
+    assert_eq!(outline.proofs(), 1);
 }
 
 /// What rt says is shown, and the program that it left is not run, now or later.
 #[test]
 fn a_failure_is_shown() {
-    let words = "rt: low proved (5 s)\nerror: a need is not met\nrt: high NOT PROVED (exit 1, 3 s)\nrt: FAILED: high\n";
-    let outline = Outline::new("failure", words, 1);
+    let words = "error: a need is not met\nlogic=not-proved\n";
+    let outline = Outline::new("failure", words, "high");
     let expected = format!("proved 1 of 3: low\n{words}run: the program is not proved and built\n");
     assert_eq!(outline.run(), said(NO_PROGRAM, "", &expected));
     assert_eq!(outline.run(), said(NO_PROGRAM, "", &expected));
-    assert_eq!(outline.calls().len(), 2);
+    assert_eq!(outline.calls(), [ALL_PROVED[0], ALL_PROVED[1]].repeat(2));
 }
 
 #[test]
 fn a_program_without_an_answer() {
-    let outline = Outline::new("mute", ALL_PROVED, 0);
+    let outline = Outline::new("mute", SAID, "");
     outline.program("made", "#!/bin/sh\nexit 1\n");
     assert_eq!(outline.run(), said(NO_PROGRAM, "", &format!("{PROGRESS}run: the program gave no answer\n")));
 }
 
 #[test]
 fn a_wrong_file_is_told_before_anything_is_proved() {
-    let outline = Outline::new("wrong", ALL_PROVED, 0);
+    let outline = Outline::new("wrong", SAID, "");
     write(&outline.0.join("call.hex"), "");
     assert_eq!(outline.run(), said(UNREADABLE, "", "call.hex: the heading 'script' is missing\n"));
     assert!(outline.calls().is_empty());
