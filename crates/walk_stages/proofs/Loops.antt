@@ -7,35 +7,29 @@ use mathlib.Core.Logic.{⊎_elim}
 use mathlib.Core.Path.{◌≡◌, refl, sym, ap, ◌∙◌}
 use native.Mathlib.Omega.{arith}
 use Rattle.base_sets.specs.Sets.{numbers_from}
-use denote.Enum.Declared.{tag_of}
-use types.Run.{OneOf}
 use Rattle.theory_decision.specs.Walk.{Count, says, on_yes, on_no, first_yes}
 use Rattle.theory_decision.specs.Walk as spec
 use Rattle.walk_stages.specs.Visits.{count_of, walked_of}
 use Rattle.walk_stages.specs.declared.Counts.{Counts}
 use Rattle.walk_stages.specs.declared.Walked.{Walked}
 use Rattle.walk_stages.specs.declared.Walked.TheVariants.{Yes, No, Stopped}
-use Rattle.walk_stages.specs.contracts.Walked.{the_type}
 
 -- no No, and no Yes: the other variants of the answer
 abbrev pub NotNo : Walked → Type 0
-NotNo w = OneOf (0 ∷ 2 ∷ []) (tag_of the_type w)
+NotNo w = (c : Counts) → w ≡ No c → ⊥
 
 abbrev pub NotYes : Walked → Type 0
-NotYes w = OneOf (1 ∷ 2 ∷ []) (tag_of the_type w)
-
-neither : (n p q : ℕ) → (n ≡ p → ⊥) → (n ≡ q → ⊥) → OneOf (p ∷ q ∷ []) n → ⊥
-neither n p q f g = ⊎_elim f g
+NotYes w = (c : Counts) → w ≡ Yes c → ⊥
 
 no-ends : (w : Walked) (k : Count → spec.Walked) → NotNo w → on_no (walked_of w) k ≡ walked_of w
 unfolding on_no walked_of
 no-ends (Yes c) k h = refl
-no-ends (No c) k h = absurd (neither 1 0 2 (λ e. omega arith) (λ e. omega arith) h)
+no-ends (No c) k h = absurd (h c refl)
 no-ends (Stopped q p v) k h = refl
 
 yes-ends : (w : Walked) (k : Count → spec.Walked) → NotYes w → on_yes (walked_of w) k ≡ walked_of w
 unfolding on_yes walked_of
-yes-ends (Yes c) k h = absurd (neither 0 1 2 (λ e. omega arith) (λ e. omega arith) h)
+yes-ends (Yes c) k h = absurd (h c refl)
 yes-ends (No c) k h = refl
 yes-ends (Stopped q p v) k h = refl
 
