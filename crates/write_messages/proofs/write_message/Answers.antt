@@ -11,21 +11,13 @@ use Rattle.theory_written_trees.specs.Write.{Indices, write_message}
 use Rattle.write_messages.specs.Buffer.{Wrote}
 use Rattle.write_messages.specs.Passes.{all_written}
 use Rattle.write_messages.proofs.Lending.{wrote_as}
-use Rattle.write_messages.proofs.Words.{one_written, few_words}
+use Rattle.write_messages.proofs.Words.{one_written}
 use borrow.Author.Rules.{rules}
-use Rattle.write_messages.proofs.write_message.Statement.{statement}
-use Rattle.write_messages.proofs.write_message.Tie as tie
+use Rattle.write_messages.proofs.write_message.Goals as goal
 
 one-wrote : (ix : Indices) (σ : List (ℕ × Message)) (at r : ℕ) (script ws xs ys : List ℕ) → Wrote (all_written ix σ (firsts 1 (spelled ws))) xs ys r → ws ≡ drop at script
     → Wrote (write_message ix (resolve σ (message_at (drop at script)))) xs ys r
 one-wrote ix σ at r script ws xs ys w e = wrote_as (one_written ix σ e) w
 
--- one message is pending, before words that are fewer than 2^64
-write-from-requires : tie.Need-write-from-requires
-write-from-requires c κs = search (few_words, rules)
-
-returns : tie.Need-returns
+pub returns : goal.returns
 returns c = search (one-wrote, rules)
-
-pub write-message-spec : {M : Type 1} → statement M
-write-message-spec = tie.close (tie.spec (λ c κs. search rules) write-from-requires (λ c. search rules) returns)

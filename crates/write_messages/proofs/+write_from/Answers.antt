@@ -16,29 +16,13 @@ use Rattle.engine_bindings.specs.Bindings.{bindings_in}
 use Rattle.engine_bindings.specs.Passes.{firsts}
 use Rattle.theory_written_trees.specs.Write.{Indices}
 use Rattle.engine_bindings.proofs.Passing.{less-behind, first-bound, unbound-free}
-use Rattle.engine_bindings.proofs.Counting.{rank, rank_less, rank-older}
+use Rattle.engine_bindings.proofs.Counting.{rank_less, rank-older}
 use Rattle.write_messages.specs.Asked.{MessagesAsked}
 use Rattle.write_messages.specs.Buffer.{Wrote}
 use Rattle.write_messages.specs.Passes.{all_written, plain_word}
-use Rattle.write_messages.proofs.Lending.{lent, joined, lent-sum, partly-kept, wrote_none, wrote_as, wrote-more}
+use Rattle.write_messages.proofs.Lending.{lent, joined, wrote_none, wrote_as, wrote-more}
 use Rattle.write_messages.proofs.Words.{first-name, none_written, written-first, written-bound, few_words, fewer-older, older-aligned}
-use borrow.Fn.Kinds.{In, Out}
-use borrow.Fn.PlainCycle.{Measures, is, falls, and}
-use Rattle.write_messages.proofs.write_from.Reads as write-from
-use Rattle.write_messages.proofs.write_from.Kinds.{ps, r}
-use Rattle.write_messages.proofs.+write_from.Lts-write_from as lts
-use Rattle.engine_message_words.proofs.arity.Reads as arity
-use Rattle.engine_message_words.proofs.bound.Reads as bound
-use Rattle.engine_message_words.proofs.first_word.Reads as first_word
-use Rattle.engine_message_words.proofs.given.Reads as goal
-use Rattle.base_slices.proofs.tail.Reads as tail
-use Rattle.write_messages.proofs.plain_word.Reads as plain_word
-use Rattle.write_messages.proofs.write_word.Reads as write_word
-use Rattle.write_messages.proofs.+write_from.{statement}
-use Rattle.write_messages.proofs.+write_from.Tie.{close}
-
-abbrev μ : Measures 7 ps ℕ
-μ κs a = rank (length a.1.1.1.0.now) (3 * length a.1.0.now + a.1.1.0)
+use Rattle.write_messages.proofs.+write_from.Goals as goal
 
 -- ---- what is asked and written, by what is known
 
@@ -82,65 +66,30 @@ plain-wrote ix p k n r u a script vs ps ws ts xs ys zs m w v long kept h e f l g
     let free = unbound-free script vs ps (first_word ws) (omega (arith, first-bound ws vs e f)) in
     wrote_as (written-first ix _ ws p (omega arith) free (g ∙ ap (plain_word ix) e) (i ∙ ap arity_of e) j) (wrote-more (record { long = long; within = w.within; kept = kept }) w v)
 
-module _ (t : ℕ) where
-  abbrev at : In 7 ps
-  at = and 7 ps (is 7 ps μ t) write-from.Pre
+pub returns-then-pending-eq0 : goal.returns-then-pending-eq0
+returns-then-pending-eq0 t c = wrote_none (none_written _ _ _ _ c.if-pending-eq0.true)
 
-  abbrev claims : lts.Claims
-  claims = (first_word.Asked, first_word.Learnt, bound.Asked, bound.Learnt, goal.Asked, goal.Learnt, tail.Asked, tail.Learnt, and 7 ps (falls 7 ps ◌<◌ μ t) write-from.Pre, write-from.Post, plain_word.Asked, plain_word.Learnt, write_word.Asked, write_word.Learnt, arity.Asked, arity.Learnt)
+pub write_from-m-requires : goal.write_from-m-requires
+write_from-m-requires t c = (rank-older _ _ _ _ _ c.decreases (search (fewer-older, rules)) (search (few_words, rules)), search (few_words, older-aligned, rules))
 
-  abbrev At : (lts.Claims → In 7 ps → Out 7 ps r → Type 0) → Type 0
-  At place = place claims at write-from.Post
+pub write_from-requires : goal.write_from-requires
+write_from-requires t c = (rank_less _ _ _ _ c.decreases (search (tail-less, rules)), search (tail-asked, c.requires, rules))
 
-  -- the ways back to the start: from where each message is handed on, and from both ends
-  abbrev given-start : At lts.After-write-from-arg → At lts.Start
-  given-start c = c.before.before.before.before.before.before.before.before.before.before.before.before.before.before.before
+pub returns-then-k-variables : goal.returns-then-k-variables
+returns-then-k-variables t c =
+    bound-wrote _ _ _ _ _ c.args.script.now _ c.args.sources.now _ _ _ _ _ _ _ _ _ c.write_from-m.ensures c.write_from.ensures (omega arith) (omega arith) c.if-pending-eq0.false c.requires.aligned
+    c.first_word-w.ensures c.bound-k.ensures c.if-k-variables.true c.tail.ensures c.tail-then-k-variables.ensures c.given.ensures c.tail-then-k-variables-2.ensures
 
-  abbrev tail-start : At lts.After-tail3 → At lts.Start
-  tail-start c = given-start c.before.before.before.before
+pub plain_word-requires : goal.plain_word-requires
+plain_word-requires t c = search (first_small, rules)
 
-  abbrev more-start : At lts.After-write-from-arg2 → At lts.Start
-  more-start c = tail-start c.before
+pub overflow_add-pending : goal.overflow_add-pending
+overflow_add-pending t c = search (opened-fits, c.requires, rules)
 
-  abbrev bound-end : At lts.After-slice-known3 → At lts.Start
-  bound-end c = more-start c.before.before.before
+pub write_from-requires-2 : goal.write_from-requires-2
+write_from-requires-2 t c = (rank_less _ _ _ _ c.decreases (search (opened-less, rules)), search (opened-asked, c.requires, rules))
 
-  abbrev opened-start : At lts.After-tail4 → At lts.Start
-  opened-start c = c.before.before.before.before.before.before.before.before.before.before.before.before.before.before.before.before.before.before
-
-  abbrev plain-start : At lts.After-write-from-arg3 → At lts.Start
-  plain-start c = opened-start c.before
-
-  abbrev plain_end : At lts.After-slice-known5 → At lts.Start
-  plain_end c = plain-start c.before.before.before
-
-  returns : At lts.Need-returns
-  returns c = wrote_none (none_written _ _ _ _ c.if1.true)
-
-  given-requires : At lts.Need-write-from-requires
-  given-requires c κs = (rank-older _ _ _ _ _ (given-start c).requires.0 (search (fewer-older, rules)) (search (few_words, rules)), search (few_words, older-aligned, rules))
-
-  more-requires : At lts.Need-write-from-requires-2
-  more-requires c κs = (rank_less _ _ _ _ (more-start c).requires.0 (search (tail-less, rules)), search (tail-asked, (more-start c).requires.1, rules))
-
-  bound-returns : At lts.Need-returns-2
-  bound-returns c = search (bound-wrote, (bound-end c).requires.1.aligned, (bound-end c).well-formed.1.1.1.1.1.1.1.0, rules)
-
-  opened-requires : At lts.Need-write-from-requires-3
-  opened-requires c κs = (rank_less _ _ _ _ (plain-start c).requires.0 (search (opened-less, rules)), search (opened-asked, (plain-start c).requires.1, rules))
-
-  plain-returns : At lts.Need-returns-3
-  plain-returns c = search (plain-wrote, (plain_end c).well-formed.1.1.1.1.1.1.1.0, rules)
-
-  met : {M : Type 1} → lts.Closed claims at write-from.Post M
-  met = lts.spec claims at write-from.Post returns (λ c κs. search rules) (λ c κs. search rules) (λ c. search rules) (λ c κs. search rules)
-      (λ c κs. search rules) (λ c κs. search rules) given-requires (λ c κs. search rules) (λ c. search rules)
-      (λ c. search ((tail-start c).well-formed, rules)) (λ c. search rules) (λ c. search rules) (λ c. omega arith)
-      more-requires (λ c. search (lent-sum, (bound-end c).well-formed.1.1.1.1.1.1.1.0, rules)) (λ c. search (partly-kept, rules)) bound-returns
-      (λ c κs. search (first_small, rules)) (λ c κs. search rules) (λ c κs. search rules) (λ c κs. search rules)
-      (λ c. search rules) (λ c. search (opened-fits, (opened-start c).requires.1, rules))
-      (λ c. search ((opened-start c).well-formed, rules)) (λ c. search rules) (λ c. search rules) (λ c. omega arith)
-      opened-requires (λ c. search (lent-sum, (plain_end c).well-formed.1.1.1.1.1.1.1.0, rules)) (λ c. search (partly-kept, rules)) plain-returns
-
-pub +write-from-spec : {M : Type 1} → statement M
-+write-from-spec = close μ (λ t. met t)
+pub returns : goal.returns
+returns t c =
+    plain-wrote _ _ _ _ _ _ _ c.args.script.now _ c.args.sources.now _ _ _ _ _ _ c.write_word-m.ensures c.write_from-2.ensures (omega arith) (omega arith) c.if-pending-eq0.false
+    c.first_word-w.ensures c.bound-k.ensures c.if-k-variables.false c.plain_word.ensures c.arity-a.ensures c.tail-2.ensures

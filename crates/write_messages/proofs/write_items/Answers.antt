@@ -15,11 +15,9 @@ use Rattle.write_messages.specs.Buffer.{Wrote}
 use Rattle.write_messages.specs.Passes.{strung}
 use Rattle.engine_bindings.proofs.Passing.{one-message}
 use Rattle.write_messages.proofs.Lending.{wrote_as, wrote-if}
-use Rattle.write_messages.proofs.Words.{few_words}
 use Rattle.write_messages.proofs.Items.{items-none, items-some}
 use borrow.Author.Rules.{rules}
-use Rattle.write_messages.proofs.write_items.Statement.{statement}
-use Rattle.write_messages.proofs.write_items.Tie as tie
+use Rattle.write_messages.proofs.write_items.Goals as goal
 
 none-wrote : (ix : Indices) (o c r : ℕ) (is : List Message) (xs ys : List ℕ) → Wrote (word 13 0 ∷ []) xs ys r → c ≡ capped (length is) → c ≤ o → o + length xs < 4294967295
     → Wrote (write_message ix (one_message (drop o is))) xs ys r
@@ -30,17 +28,9 @@ some-wrote : (ix : Indices) (σ : List (ℕ × Message)) (o c at r : ℕ) (scrip
     → Wrote (write_message ix (one_message (drop o (items (resolve σ (message_at (drop at script))))))) xs ys r
 some-wrote ix σ o c at r script ws xs ys w e f h small = wrote-if (λ i. items-some ix o c _ f h (one-message σ e) (omega (arith, i))) w
 
-returns : tie.Need-returns
+pub returns-then-n-offset : goal.returns-then-n-offset
 unfolding word
-returns c = search (none-wrote, rules)
+returns-then-n-offset c = search (none-wrote, rules)
 
--- one message is pending, before words that are fewer than 2^64
-write-rest-requires : tie.Need-write-rest-requires
-write-rest-requires c κs = search (few_words, rules)
-
-returns-2 : tie.Need-returns-2
-returns-2 c = search (some-wrote, rules)
-
-pub write-items-spec : {M : Type 1} → statement M
-write-items-spec = tie.close (tie.spec (λ c κs. search rules) (λ c κs. search rules) (λ c. search rules) returns (λ c κs. search rules)
-    (λ c. search rules) write-rest-requires (λ c. search rules) returns-2)
+pub returns : goal.returns
+returns c = search (some-wrote, rules)
