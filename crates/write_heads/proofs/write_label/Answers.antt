@@ -14,8 +14,7 @@ use Rattle.write_heads.specs.Heads.{write_label}
 use Rattle.write_messages.proofs.Lending.{wrote_none, wrote_as}
 use Rattle.write_heads.proofs.Heads.{label-action, label-receipt, label-message}
 use borrow.Author.Rules.{rules}
-use Rattle.write_heads.proofs.write_label.Statement.{statement}
-use Rattle.write_heads.proofs.write_label.Tie as tie
+use Rattle.write_heads.proofs.write_label.Goals as goal
 
 module _ (script : List ℕ) (kind start offset : ℕ) (ix : Indices) (σ : Bindings) (n r : ℕ) (xs ys : List ℕ) where
   abbrev Labelled : Type 0
@@ -27,14 +26,11 @@ module _ (script : List ℕ) (kind start offset : ℕ) (ix : Indices) (σ : Bind
   message-wrote : Wrote (write_message ix (resolve σ (message_at (drop n script)))) xs ys r → n ≡ start → (kind ≡ 2 → ⊥) → (kind ≡ 3 → ⊥) → start < 65536 → Labelled
   message-wrote w f a b h = wrote_as (label-message script kind start offset ix σ f a b h) w
 
-returns : tie.Need-returns
-returns c = search (action-wrote, rules)
+pub returns-then-kind-eq2 : goal.returns-then-kind-eq2
+returns-then-kind-eq2 c = search (action-wrote, rules)
 
-returns-2 : tie.Need-returns-2
-returns-2 c = wrote_none (label-receipt _ _ _ _ _ _ c.if2.true)
+pub returns-then-kind-eq3 : goal.returns-then-kind-eq3
+returns-then-kind-eq3 c = wrote_none (label-receipt _ _ _ _ _ _ c.if-kind-eq3.true)
 
-returns-3 : tie.Need-returns-3
-returns-3 c = search (message-wrote, rules)
-
-pub write-label-spec : {M : Type 1} → statement M
-write-label-spec = tie.close (tie.spec (λ c κs. search rules) (λ c κs. search rules) (λ c. search rules) returns returns-2 (λ c κs. search rules) (λ c. search rules) returns-3)
+pub returns : goal.returns
+returns c = search (message-wrote, rules)

@@ -9,8 +9,7 @@ use Rattle.write_heads.specs.declared.Around.{Around}
 use Rattle.write_messages.proofs.Receipts.{indexed-front, indices-front}
 use Rattle.write_heads.proofs.Heads.{within-other, within-receipt}
 use borrow.Author.Rules.{rules}
-use Rattle.write_heads.proofs.around_body.Statement.{statement}
-use Rattle.write_heads.proofs.around_body.Tie as tie
+use Rattle.write_heads.proofs.around_body.Goals as goal
 
 -- a receipt more, where the arrays have room for it
 around-more : (x : Around) (kind start index : ℕ) → AroundAsked x start index → length x.variables ≡ 64 → length x.indices ≡ 64 → kind ≡ 3
@@ -28,12 +27,8 @@ around-more x kind start index a lv li e =
 around-same : (x : Around) (kind start index : ℕ) → AroundAsked x start index → (kind ≡ 3 → ⊥) → BodyAround x kind start index x
 around-same x kind start index a n = record { right = a.right; room = omega arith; indices = λ w σ o. within-other w kind start o (indices_of x) σ index n }
 
-returns : tie.Need-returns
-returns c = search (around-same, rules)
+pub returns-then-kind-ne3 : goal.returns-then-kind-ne3
+returns-then-kind-ne3 c = search (around-same, rules)
 
-returns-2 : tie.Need-returns-2
-returns-2 c = search (around-more, rules)
-
-pub around-body-spec : {M : Type 1} → statement M
-around-body-spec =
-    tie.close (tie.spec returns (λ c. search rules) (λ c. search rules) (λ c. search rules) (λ c. search rules) (λ c. search rules) returns-2)
+pub returns : goal.returns
+returns c = search (around-more, rules)

@@ -15,11 +15,10 @@ use Rattle.write_heads.specs.Asked.{LabelAsked, HeadAsked}
 use Rattle.write_heads.specs.Around.{indices_of}
 use Rattle.write_heads.specs.Heads.{write_label}
 use Rattle.write_heads.specs.declared.Around.{Around}
-use Rattle.write_messages.proofs.Lending.{lent, joined, Partly, partly-lent, partly-sum, partly-kept, wrote_as, wrote-more}
+use Rattle.write_messages.proofs.Lending.{lent, joined, Partly, partly-lent, wrote_as, wrote-more}
 use Rattle.write_heads.proofs.Heads.{head-label, tails-indexed, tails-indices}
 use borrow.Author.Rules.{rules}
-use Rattle.write_heads.proofs.write_head.Statement.{statement}
-use Rattle.write_heads.proofs.write_head.Tie as tie
+use Rattle.write_heads.proofs.write_head.Goals as goal
 
 -- the part's word is written, and its message behind it
 module _ (script xs ys rs is : List ℕ) (kind start offset m : ℕ) (a : Around) (e : rs ≡ drop a.first a.variables) (f : is ≡ drop a.first a.indices) (kept : length ys ≡ length xs) where
@@ -35,10 +34,5 @@ module _ (script xs ys rs is : List ℕ) (kind start offset m : ℕ) (a : Around
       let p : Partly xs ys m = record { long = omega arith; within = w.within; kept = kept } in
       wrote_as (head-label (indices_of a) σ (head_of script kind start offset) (g script start offset) (tails-indices a e f)) (wrote-more p w v)
 
-returns : tie.Need-returns
+pub returns : goal.returns
 returns c = search (head-wrote, rules)
-
-pub write-head-spec : {M : Type 1} → statement M
-write-head-spec = tie.close (tie.spec (λ c κs. search rules) (λ c κs. search rules) (λ c. search rules) (λ c κs. search rules) (λ c. search rules) (λ c κs. search rules)
-    (λ c. search rules) (λ c. search rules) (λ c. search rules) (λ c. omega arith)
-    (λ c κs. search (label-asked, rules)) (λ c. search (partly-sum, rules)) (λ c. search (partly-kept, rules)) returns)
