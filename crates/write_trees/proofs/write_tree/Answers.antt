@@ -1,35 +1,21 @@
 -- `write_tree` meets its contract: the words are counted first, and written only where they fit. Assumes nothing.
 use Prim.Native.Nat.{ℕ, ◌≤◌, ◌<◌}
 use mathlib.Core.List.{List, [], ◌++◌}
-use mathlib.Core.Path.{◌≡◌, sym, ap}
+use mathlib.Core.Path.{◌≡◌, ap}
 use native.Mathlib.Omega.{arith}
 use lib.ListN.{length, take, drop}
-use lib.Seq.{length-take-le}
 use Rattle.read_scripts.specs.Tree.{tops, parts}
 use Rattle.read_scripts.specs.Represents.{Held}
 use Rattle.theory_closures.specs.Closure.{ClosureHead, Closure, Bindings, unfolded}
 use Rattle.theory_written_trees.specs.Write.{Indices, write}
 use Rattle.write_trees.specs.Room.{Fitted}
-use Rattle.write_heads.specs.Around.{NoneAround}
-use Rattle.write_heads.specs.declared.Around.{Around}
-use Rattle.write_counts.specs.Asked.{TreeAsked}
 use Rattle.write_counts.specs.Counts.{CountsBody}
-use Rattle.write_trees.specs.Asked.{BodyAsked}
 use Rattle.write_trees.specs.Bodies.{Writes}
 use Rattle.write_trees.specs.declared.Fitting.TheVariants.{Words, Refused}
 use Rattle.write_messages.proofs.Lending.{wrote_as}
 use Rattle.write_trees.proofs.Answers.{over-limit, over-buffer, fitted}
 use borrow.Author.Rules.{rules}
-use Rattle.write_trees.proofs.write_tree.Statement.{statement}
-use Rattle.write_trees.proofs.write_tree.Tie as tie
-
--- the first words of the buffer are lent, as many as are counted
-lent-long : (u : ℕ) (xs : List ℕ) → u ≤ length xs → u ≡ length (take u xs)
-lent-long u xs h = sym (length-take-le u xs h)
-
-body-asked : (script starts offsets vs ps cs ss bs xs : List ℕ) (a : Around) (n u : ℕ) → TreeAsked script starts offsets vs ps cs ss bs → NoneAround a → u ≡ n → n ≤ 268435456 → u ≤ length xs → BodyAsked script starts offsets vs ps cs a 0 64 (take u xs)
-body-asked script starts offsets vs ps cs ss bs xs a n u t e f h l =
-    record { counted = t.cached.counted; scripted = t.scripted; right = e.right; deep = omega (arith, e.room); small = omega (arith, lent-long u xs l) }
+use Rattle.write_trees.proofs.write_tree.Goals as goal
 
 module _ (σ : Bindings) (k : ℕ → List ℕ) (w : ℕ → ClosureHead) (left xs : List ℕ) (n : ℕ) (b : Closure) (count : CountsBody σ k w left 64 n) (e : left ≡ tops b) (h : Held k w b) (p : parts b ≤ 64) where
   over-limit-fits : 268435456 < n → Fitted (write [] 0 (unfolded σ b)) xs xs (Refused 19 0)
@@ -41,15 +27,11 @@ module _ (σ : Bindings) (k : ℕ → List ℕ) (w : ℕ → ClosureHead) (left 
   words-fit : (u r : ℕ) (ix : Indices) (ys : List ℕ) → Writes ix σ k w left 0 64 (take u xs) ys r → ix ≡ [] → n ≤ 268435456 → u ≡ n → u ≤ length xs → Fitted (write [] 0 (unfolded σ b)) xs (ys ++ drop u xs) (Words n)
   words-fit u r ix ys v z l f g = fitted _ xs n (count [] 0 b e h p) l u f g ys r (wrote_as (ap (λ (jx : Indices). write jx 0 (unfolded σ b)) z) (v.written b e h p))
 
-returns : tie.Need-returns
-returns c b e h p = search (over-limit-fits, rules)
+pub returns-then-n-gt268435456 : goal.returns-then-n-gt268435456
+returns-then-n-gt268435456 c b e h p = search (over-limit-fits, rules)
 
-returns-2 : tie.Need-returns-2
-returns-2 c b e h p = search (over-buffer-fits, rules)
+pub returns-then-out-words : goal.returns-then-out-words
+returns-then-out-words c b e h p = search (over-buffer-fits, rules)
 
-returns-3 : tie.Need-returns-3
-returns-3 c b e h p = search (words-fit, rules)
-
-pub write-tree-spec : {M : Type 1} → statement M
-write-tree-spec = tie.close (tie.spec (λ c κs. search rules) returns (λ c κs. search rules) returns-2 (λ c. search rules) (λ c κs. search rules) (λ c. search rules)
-    (λ c. search (lent-long, rules)) (λ c κs. search (body-asked, rules)) (λ c. search rules) returns-3)
+pub returns : goal.returns
+returns c b e h p = search (words-fit, rules)
