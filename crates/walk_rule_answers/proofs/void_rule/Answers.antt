@@ -8,8 +8,7 @@ use Rattle.walk_stages.specs.declared.Counts.{Counts}
 use Rattle.walk_stages.specs.declared.Walked.TheVariants.{Yes, No}
 use borrow.Author.Tests.{eq-eqb, ne_eqb}
 use borrow.Author.Rules.{rules}
-use Rattle.walk_rule_answers.proofs.void_rule.Statement.{statement}
-use Rattle.walk_rule_answers.proofs.void_rule.Tie as tie
+use Rattle.walk_rule_answers.proofs.void_rule.Goals as goal
 
 void-yes : (top : ℕ) (c : Counts) → top ≡ 0 → walked_of (Yes c) ≡ spec.says (eqb top 0) (count_of c)
 unfolding walked_of
@@ -19,11 +18,8 @@ void-no : (top : ℕ) (c : Counts) → (top ≡ 0 → ⊥) → walked_of (No c) 
 unfolding walked_of
 void-no top c n = rw (ne_eqb top 0 n)
 
-returns : tie.Need-returns
-returns c = search (void-yes, rules)
+pub returns-then-top-eq0 : goal.returns-then-top-eq0
+returns-then-top-eq0 c = search (void-yes, rules)
 
-returns-2 : tie.Need-returns-2
-returns-2 c = search (void-no, rules)
-
-pub void-rule-spec : {M : Type 1} → statement M
-void-rule-spec = tie.close (tie.spec returns returns-2)
+pub returns : goal.returns
+returns c = search (void-no, rules)
