@@ -62,7 +62,7 @@ module _ (script kinds starts : List ℕ) (weight spent : ℕ) (s r : State) (b 
       frame (body_in s.kids) (body_in r.kids) (heads script kinds starts s.offsets) (heads script kinds' starts' r.offsets) b R.held others,
       tt,
     );
-    once = λ j. by_test (eqb j i) (λ t. rw (t, eqb-true j i t) (omega (arith, free))) (λ t. rw t (omega (arith, R.once j)));
+    once = λ j. by_test (eqb j i) (λ t. let z : times_in j b ≡ 0 = subst (λ (x : ℕ). times_in x b ≡ 0) (sym (eqb-true j i t)) free in rw t (omega (arith, z))) (λ t. rw t (omega (arith, R.once j)));
     inside = λ j l. rw (ne_eqb j i (λ e. let z : ⊥ = omega arith in z)) (omega (arith, R.inside j l));
     light = omega arith;
     weighs = subst (λ (x : arrays.Bindings). 1 + (parts b + 0) + 2 * (32 - x.first) ≤ weight + 1) (sym bound) (omega (arith, R.weighs));

@@ -1,6 +1,6 @@
 -- A state that is settled, and the first state of a script, represent the closures that the definitions make.
 -- Assumes nothing.
-use Prim.Native.Nat.{ℕ, ◌+◌, ◌-◌, ◌≤◌, ◌<◌}
+use Prim.Native.Nat.{ℕ, ◌+◌, ◌≤◌, ◌<◌}
 use mathlib.Core.List.{List}
 use mathlib.Core.Path.{◌≡◌, refl, sym, ap, ◌∙◌, subst}
 use native.Mathlib.Omega.{arith}
@@ -20,7 +20,7 @@ use Rattle.engine_held_bindings.specs.declared.Bindings as arrays
 use Rattle.engine_held_bindings.specs.Held.{bindings_of}
 use Rattle.base_slices.proofs.Tests.{by_test}
 use Rattle.theory_machine.proofs.Sums.{map-total, settle-total}
-use Rattle.theory_closures.specs.Closure.{ClosureHead, Closure, Bindings, all_spent, settle_under, whole_head, closure_of}
+use Rattle.theory_closures.specs.Closure.{ClosureHead, Closure, all_spent, settle_under, whole_head, closure_of}
 use Rattle.read_scripts.proofs.Tabled.{tops-map}
 use Rattle.engine_states.specs.Represents.{head_of, heads, bound_in, Counted, Ready, Represents}
 use Rattle.engine_states.specs.Searches.{SettlesBy}
