@@ -7,8 +7,7 @@ use borrow.Author.Tests.{eq-eqb, ne_eqb, lt-ltb, le-ltb}
 use Rattle.read_messages.specs.Words.{kind, operand}
 use Rattle.theory_call.specs.Call.{move_fits, actor, target}
 use borrow.Author.Rules.{rules}
-use Rattle.call_lists.proofs.move_fits.Statement.{statement}
-use Rattle.call_lists.proofs.move_fits.Tie as tie
+use Rattle.call_lists.proofs.move_fits.Goals as goal
 
 module _ (parts w : ℕ) (e : w / 268435456 ≡ 1) where
   large : 65536 ≤ w % 268435456 → false ≡ move_fits parts w
@@ -23,19 +22,15 @@ module _ (parts w : ℕ) (e : w / 268435456 ≡ 1) where
   unfolding move_fits kind operand
   by-target a t h f g i = sym (rw (eq-eqb _ 1 e, lt-ltb _ 65536 h, ← f, lt-ltb _ _ g, ← i))
 
-returns : tie.Need-returns
+pub returns-then-w-ne1 : goal.returns-then-w-ne1
 unfolding move_fits kind operand
-returns c = sym (rw (ne_eqb _ 1 c.if1.true))
+returns-then-w-ne1 c = sym (rw (ne_eqb _ 1 c.if-w-ne1.true))
 
-returns-2 : tie.Need-returns-2
-returns-2 c = search (large, rules)
+pub returns-then-w-ge65536 : goal.returns-then-w-ge65536
+returns-then-w-ge65536 c = search (large, rules)
 
-returns-3 : tie.Need-returns-3
-returns-3 c = search (no-actor, rules)
+pub returns-then-actor_of-parts : goal.returns-then-actor_of-parts
+returns-then-actor_of-parts c = search (no-actor, rules)
 
-returns-4 : tie.Need-returns-4
-returns-4 c = search (by-target, rules)
-
-pub move-fits-spec : {M : Type 1} → statement M
-move-fits-spec =
-    tie.close (tie.spec returns returns-2 (λ c κs. search rules) returns-3 (λ c κs. search rules) returns-4)
+pub returns : goal.returns
+returns c = search (by-target, rules)

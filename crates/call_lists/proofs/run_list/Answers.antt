@@ -1,0 +1,22 @@
+-- `run_list` meets its contract: i moves are made. Assumes nothing.
+use Rattle.call_lists.proofs.Listed.{turn-none, turn-ends, turn-unfit, turn-stuck, turn_on, actor-small, target_small}
+use borrow.Author.Rules.{rules}
+use Rattle.call_lists.proofs.run_list.Goals as goal
+
+pub loop-i-init : goal.loop-i-init
+loop-i-init c = search (turn-none, rules)
+
+pub make_if_possible-requires : goal.make_if_possible-requires
+make_if_possible-requires c = search (actor-small, target_small, rules)
+
+pub loop-i-preserved : goal.loop-i-preserved
+loop-i-preserved c = search (turn_on, rules)
+
+pub returns-else-make_if_possible : goal.returns-else-make_if_possible
+returns-else-make_if_possible c = search (turn-stuck, rules)
+
+pub returns-else-move_fits : goal.returns-else-move_fits
+returns-else-move_fits c = search (turn-unfit, rules)
+
+pub returns : goal.returns
+returns c = search (turn-ends, rules)
