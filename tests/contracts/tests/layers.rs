@@ -7,10 +7,6 @@ use std::path::{Path, PathBuf};
 /// The layers, from the lowest up. The last two stand beside each other.
 const LAYERS: [&str; 9] = ["base", "read", "theory", "engine", "write", "walk", "call", "host", "program"];
 
-/// The crates whose proofs are still to get names for their ways: the state and the walk, which are to be laid out anew.
-const WITHOUT_WAYS: [&str; 7] =
-    ["engine_states", "engine_targets", "engine_state_arrays", "engine_settling", "engine_moves", "walk_states", "walk_visits"];
-
 fn root() -> PathBuf {
     Path::new(env!("CARGO_MANIFEST_DIR")).join("../..")
 }
@@ -75,12 +71,6 @@ fn the_theory_has_no_code() {
     }
 }
 
-/// Whether a line is the text of a way between points of the code, the line above being its type.
-fn is_way(above: &str, line: &str) -> bool {
-    let name = above.trim_start().strip_prefix("abbrev ").and_then(|rest| rest.split_whitespace().find(|word| *word != "pub"));
-    name.is_some_and(|name| line.trim_start().starts_with(&format!("{name} ")))
-}
-
 /// Whether a line cites a point of the code by its name, as an answer's `c.find.result`.
 fn cites(line: &str) -> bool {
     line.split(|c: char| !c.is_alphanumeric() && !"._-'".contains(c)).any(|word| word.starts_with("c."))
@@ -89,13 +79,13 @@ fn cites(line: &str) -> bool {
 #[test]
 fn earlier_points_of_the_code_are_named() {
     let mut named = 0;
-    for (name, _) in listed().into_iter().filter(|(name, _)| !WITHOUT_WAYS.contains(&name.as_str())) {
+    for (name, _) in listed() {
         for file in files(&root().join("crates").join(&name).join("proofs"), ".antt") {
             let text = read(&file);
             let lines: Vec<&str> = text.lines().collect();
             named += lines.iter().filter(|line| cites(line)).count();
-            for (i, line) in lines.iter().enumerate().filter(|(_, line)| line.contains(".before")) {
-                assert!(i > 0 && is_way(lines[i - 1], line), "{}:{}: {line}", file.display(), i + 1);
+            for (i, line) in lines.iter().enumerate() {
+                assert!(!line.contains(".before"), "{}:{}: {line}", file.display(), i + 1);
             }
         }
     }

@@ -2,7 +2,7 @@
 use Prim.Native.Nat.{ℕ, ◌≤◌}
 use mathlib.Core.List.{List, []}
 use mathlib.Core.Path.{◌≡◌, sym, transport}
-use lib.ListN.{length, drop}
+use lib.ListN.{drop}
 use native.Mathlib.Omega.{arith}
 use Rattle.engine_bindings.specs.Bindings.{bindings_in}
 use Rattle.engine_held_bindings.specs.Held.{bindings_of}
@@ -17,32 +17,7 @@ use Rattle.write_trees.specs.Room.{Fitted}
 use Rattle.write_trees.specs.declared.Fitting.{Fitting}
 use Rattle.checker.specs.Calling.{Writable}
 use borrow.Author.Rules.{rules}
-use Rattle.checker.proofs.write_state.Statement.{statement}
-use Rattle.checker.proofs.write_state.Tie as tie
-
--- ---- the ways from a point of the code to one before it
-
-abbrev variables-start : tie.After-variables2 → tie.Start
-variables-start c = c.before.before.before.before.before.before.before.before.before.before.before.before.before
-
-abbrev sources-variables : tie.After-sources2 → tie.After-variables2
-sources-variables c = c.before.before
-
-abbrev counts-sources : tie.After-counts2 → tie.After-sources2
-counts-sources c = c.before.before
-
-abbrev sizes-counts : tie.After-sizes2 → tie.After-counts2
-sizes-counts c = c.before.before
-
-abbrev bulks-sizes : tie.After-bulks2 → tie.After-sizes2
-bulks-sizes c = c.before.before
-
-abbrev counts_start : tie.After-counts2 → tie.Start
-counts_start c = variables-start (sources-variables (counts-sources c))
-
--- the bindings' arrays
-long : (s : tie.Start) → let b = s.args.state.bindings in (length b.variables ≡ 32) × (length b.sources ≡ 32) × (length b.counts ≡ 32) × (length b.sizes ≡ 32) × (length b.bulks ≡ 32)
-long s = search (s.well-formed.1.1.1.0.1.1.1.1.1.0, rules)
+use Rattle.checker.proofs.write_state.Goals as goal
 
 module _ (script kinds starts : List ℕ) (s : State) (vs ps : List ℕ) (ev : vs ≡ drop s.bindings.first s.bindings.variables) (ep : ps ≡ drop s.bindings.first s.bindings.sources) where
   lent-cached : (ns zs us : List ℕ) → ns ≡ drop s.bindings.first s.bindings.counts → zs ≡ drop s.bindings.first s.bindings.sizes → us ≡ drop s.bindings.first s.bindings.bulks
@@ -56,19 +31,5 @@ module _ (script kinds starts : List ℕ) (s : State) (vs ps : List ℕ) (ev : v
   unfolding bindings_of
   lent_fits weight spent b before after r R f = transport (λ q. Fitted (write [] 0 (unfolded (bindings_in script (ev q) (ep q)) b)) before after r) (f b R.top R.held (omega (arith, R.weighs, R.light)))
 
-write-tree-requires : tie.Need-write-tree-requires
-write-tree-requires c κs = search (lent-cached, rules)
-
-returns : tie.Need-returns
+pub returns : goal.returns
 returns c weight spent b R = search (lent_fits, rules)
-
-pub write-state-spec : {M : Type 1} → statement M
-write-state-spec =
-    tie.close
-    (tie.spec
-    (λ c. sym (long (variables-start c)).0) (λ c κs. search rules)
-    (λ c. sym (long (variables-start (sources-variables c))).1) (λ c κs. search rules)
-    (λ c. sym (long (counts_start c)).2) (λ c κs. search rules)
-    (λ c. sym (long (counts_start (sizes-counts c))).3) (λ c κs. search rules)
-    (λ c. sym (long (counts_start (sizes-counts (bulks-sizes c)))).4) (λ c κs. search rules)
-    write-tree-requires (λ c. search rules) returns)
