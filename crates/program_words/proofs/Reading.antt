@@ -24,13 +24,13 @@ unfolding words_of
 length-words zero s = refl
 length-words (suc n) s = ap suc (length-words n (drop 4 s))
 
-get_d_words : (n i : ℕ) (s : List ℕ) → i < n → get_or (words_of n s) i 0 ≡ word_of (drop (4 * i) s)
+get_or-words : (n i : ℕ) (s : List ℕ) → i < n → get_or (words_of n s) i 0 ≡ word_of (drop (4 * i) s)
 unfolding words_of
-get_d_words zero i s l = absurd (let z : ⊥ = omega (arith, l) in z)
-get_d_words (suc n) zero s l = refl
-get_d_words (suc n) (suc i) s l =
+get_or-words zero i s l = absurd (let z : ⊥ = omega (arith, l) in z)
+get_or-words (suc n) zero s l = refl
+get_or-words (suc n) (suc i) s l =
     let e : 4 + 4 * i ≡ 4 * suc i = omega arith in
-    get_d_words n i (drop 4 s) (omega (arith, l)) ∙ ap word_of (drop-drop (4 * i) 4 s ∙ ap (λ (k : ℕ). drop k s) e)
+    get_or-words n i (drop 4 s) (omega (arith, l)) ∙ ap word_of (drop-drop (4 * i) 4 s ∙ ap (λ (k : ℕ). drop k s) e)
 
 -- the first i words stand in the buffer
 abbrev pub Unpacked : (old new input : List ℕ) (count i : ℕ) → Type 0
@@ -43,7 +43,7 @@ pub unpacked-next : (old new input : List ℕ) (count i v : ℕ) → i < count �
 unpacked-next old new input count i v l m k e u =
     let a : 0 + i < length old = omega arith in
     let b : i < length (words_of count input) = subst (λ (n : ℕ). i < n) (sym (length-words count input)) l in
-    let d : v ≡ get_or (words_of count input) i 0 = e ∙ sym (get_d_words count i input l) in (
+    let d : v ≡ get_or (words_of count input) i 0 = e ∙ sym (get_or-words count i input l) in (
       k ∙ u.0,
       (λ t. set (u.1 t) (sym (zero-add i) t) (d t)) ∙ paste-suc old 0 (words_of count input) i 0 a b ∙ ap (λ (n : ℕ). paste old 0 (words_of count input) n) (sym (add-one i)),
     )
