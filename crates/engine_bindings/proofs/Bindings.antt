@@ -8,8 +8,8 @@ use lib.Dec.{eqb, ltb}
 use lib.ListN.{length, drop, get_or}
 use borrow.Author.Tests.{lt-ltb, le-ltb}
 use Rattle.read_messages.specs.Message.{Message, name, variable, name_of}
-use Rattle.read_messages.specs.declared.Named.{Named}
-use Rattle.read_messages.specs.declared.Named.TheVariants.{Called}
+use Rattle.read_messages.specs.Message.{Named}
+use Rattle.std.specs.Prelude.{Some}
 use Rattle.read_messages.specs.Spelling.{message_at}
 use Rattle.engine_message_words.specs.Words.{newest_binding}
 use Rattle.base_slices.proofs.Tests.{by_test}
@@ -59,6 +59,6 @@ message-given script start e = rw e
 pub name-word : (script vs ps ws : List ℕ) (start w : ℕ) → w ≡ start → ws ≡ drop w script → start < 65536 → (r : Named) → r ≡ name_of (resolve (bindings_in script vs ps) (message_at ws)) → r ≡ name_of (resolve (bindings_in script vs ps) (message_of script start))
 name-word script vs ps ws start w e₁ e₂ h r e = e ∙ rw (e₂, e₁, message-word script start (lt-ltb _ _ h))
 
-pub name-given : (script vs ps : List ℕ) (start : ℕ) → 65536 ≤ start → Called (start - 65536) ≡ name_of (resolve (bindings_in script vs ps) (message_of script start))
+pub name-given : (script vs ps : List ℕ) (start : ℕ) → 65536 ≤ start → Some (start - 65536) ≡ name_of (resolve (bindings_in script vs ps) (message_of script start))
 unfolding name_of
 name-given script vs ps start h = rw (message-given script start (le-ltb _ _ h), resolve-name)

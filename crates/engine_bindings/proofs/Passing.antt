@@ -9,7 +9,7 @@ use lib.Seq.{drop-drop, drop-nil}
 use Rattle.read_messages.specs.Message.{Message, variable, empty_message, items, name_of, asks}
 use Rattle.read_messages.specs.Spelling.{top_message, push, spelled, message_at}
 use Rattle.read_messages.specs.declared.MessageWord.{MessageWord}
-use Rattle.read_messages.specs.declared.Named.{Named}
+use Rattle.read_messages.specs.Message.{Named}
 use Rattle.read_messages.specs.declared.MessageWord.TheVariants.{Name, Variable, Enter, Exit, Open, Empty, Path, Unfit}
 use Rattle.engine_message_words.specs.Words.{newest_binding, first_word, shape_of, arity_of, bound_at, plain_name, plain_item}
 use Rattle.engine_message_words.specs.declared.Shape.{Shape}

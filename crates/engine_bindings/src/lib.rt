@@ -16,7 +16,6 @@ ghost use Rattle.engine_bindings.specs.Asked.{AfterOwnAsked, CountAsked};
 
 use base_slices::{sum, tail, wide};
 use engine_message_words::{arity, bound, first_word, given, plain_name, shape_of};
-use read_messages::Named;
 
 // Where a pass stands behind a word's own items: the words used, and the messages still pending.
 #[derive(Drop)]
@@ -26,7 +25,7 @@ pub struct Behind {
 }
 
 // The name that the message at the first of the words is, after the bindings.
-pub fn name_of(script: &[u32], words: &[u32], variables: &[u32], sources: &[u32]) -> Named
+pub fn name_of(script: &[u32], words: &[u32], variables: &[u32], sources: &[u32]) -> Option<u32>
     requires { length sources.now ≡ length variables.now }
     ensures { result ≡ name_of (resolve (bindings_in script.now variables.now sources.now) (message_at words.now)) }
 {
@@ -44,14 +43,14 @@ pub fn name_of(script: &[u32], words: &[u32], variables: &[u32], sources: &[u32]
 }
 
 // The name that a part's message is, after the bindings: the message at a word of the script, or a name given directly.
-pub fn name_at(script: &[u32], start: u32, variables: &[u32], sources: &[u32]) -> Named
+pub fn name_at(script: &[u32], start: u32, variables: &[u32], sources: &[u32]) -> Option<u32>
     requires { length sources.now ≡ length variables.now }
     ensures { result ≡ name_of (resolve (bindings_in script.now variables.now sources.now) (message_of script.now start)) }
 {
     if start < 65536 {
         return name_of(script, tail(script, wide(start)), variables, sources);
     }
-    Named::Called(start - 65536)
+    Some(start - 65536)
 }
 
 // How many words the first `pending` messages of the words have.

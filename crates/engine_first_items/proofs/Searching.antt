@@ -12,7 +12,7 @@ use Rattle.read_messages.specs.Message.{Message, items, name_of, first_item}
 use Rattle.read_messages.specs.Spelling.{spelled, message_at}
 use Rattle.read_messages.specs.declared.MessageWord.{MessageWord}
 use Rattle.read_messages.specs.declared.First.{First}
-use Rattle.read_messages.specs.declared.Named.{Named}
+use Rattle.read_messages.specs.Message.{Named}
 use Rattle.read_messages.specs.declared.First.TheVariants.{Nothing}
 use Rattle.theory_closures.specs.Resolve.{resolve}
 use Rattle.engine_bindings.specs.Bindings.{bindings_in}

@@ -7,7 +7,7 @@ use lib.ListN.{length, drop, get_or}
 use Rattle.read_messages.specs.ReadMessage.{message_word}
 use Rattle.read_messages.specs.declared.MessageWord.{MessageWord}
 use Rattle.read_messages.specs.declared.MessageWord.TheVariants.{Name, Variable, Enter, Exit, Open, Empty, Path, Unfit}
-use Rattle.read_messages.specs.declared.Named.TheVariants.{Called}
+use Rattle.std.specs.Prelude.{Some}
 use Rattle.engine_message_words.specs.Words.{newest_binding, first_word, shape_of, arity_of, bound_at, plain_name}
 use Rattle.engine_message_words.specs.declared.Shape.{Shape}
 use Rattle.engine_message_words.proofs.Variables.{newest-within}
@@ -27,7 +27,7 @@ first_some (w ∷ l) h = refl
 pub shape_same : {m : MessageWord} (n : MessageWord) {s : Shape} → m ≡ n → s ≡ shape_of n → s ≡ shape_of m
 shape_same n e h = h ∙ ap shape_of (sym e)
 
-pub name-same : {m : MessageWord} (n : ℕ) → m ≡ Name n → Called n ≡ plain_name m
+pub name-same : {m : MessageWord} (n : ℕ) → m ≡ Name n → Some n ≡ plain_name m
 unfolding plain_name
 name-same n e = ap plain_name (sym e)
 

@@ -1,11 +1,10 @@
 -- The first word of a message: how it begins the message, what it is by itself, and where it is bound. Words that end too
 -- early are read as if EMPTY stood behind them, as they are spelled. Assumes nothing: these are definitions.
-use Rattle.std.specs.Prelude.{ℕ, suc, ◌+◌, cond, List, [], ◌∷◌, eqb, length}
+use Rattle.std.specs.Prelude.{ℕ, suc, ◌+◌, cond, List, [], ◌∷◌, eqb, length, Some, None}
 use Rattle.read_messages.specs.ReadMessage.{message_word}
 use Rattle.read_messages.specs.declared.MessageWord.{MessageWord}
 use Rattle.read_messages.specs.declared.MessageWord.TheVariants.{Name, Variable, Enter, Exit, Open, Empty, Path, Unfit}
-use Rattle.read_messages.specs.declared.Named.{Named}
-use Rattle.read_messages.specs.declared.Named.TheVariants.{Called, Nameless}
+use Rattle.read_messages.specs.Message.{Named}
 use Rattle.read_messages.specs.declared.First.{First}
 use Rattle.read_messages.specs.declared.First.TheVariants.{Enter as AskEnter, Exit as AskExit, Open as AskOpen, Other}
 use Rattle.engine_message_words.specs.declared.Shape.{Shape}
@@ -52,14 +51,14 @@ bound_at Unfit vs = length vs
 
 -- the name that a message is whose first word is no variable with a binding
 unfoldable pub plain_name : MessageWord → Named
-plain_name (Name n) = Called n
-plain_name (Variable v) = Nameless
-plain_name Enter = Nameless
-plain_name Exit = Nameless
-plain_name Open = Nameless
-plain_name Empty = Nameless
-plain_name Path = Nameless
-plain_name Unfit = Nameless
+plain_name (Name n) = Some n
+plain_name (Variable v) = None
+plain_name Enter = None
+plain_name Exit = None
+plain_name Open = None
+plain_name Empty = None
+plain_name Path = None
+plain_name Unfit = None
 
 -- the first item that such a word is, `inside` being the name that the message behind it is
 unfoldable pub plain_item : MessageWord → (inside : Named) → First

@@ -6,7 +6,7 @@ ghost use Rattle.std.specs.Prelude.{◌≡◌, ◌<◌, length, drop, get_or};
 ghost use Rattle.engine_message_words.specs.Words.{newest_binding, first_word, shape_with, shape_of, arity_of, bound_at, plain_name, plain_item};
 
 use base_slices::{tail, wide};
-use read_messages::{First, MessageWord, Named, message_word};
+use read_messages::{First, MessageWord, message_word};
 
 // How a word begins a message: the items that it is of its own, the messages behind it that are closed in such an item,
 // and those that stand open.
@@ -63,24 +63,24 @@ pub fn arity(m: MessageWord) -> usize
 }
 
 // The name that a message is which begins with this word, no variable with a binding.
-pub fn plain_name(m: MessageWord) -> Named
+pub fn plain_name(m: MessageWord) -> Option<u32>
     ensures { result ≡ plain_name m }
 {
     match m {
-        MessageWord::Name(n) => Named::Called(n),
-        MessageWord::Variable(_) => Named::Nameless,
-        MessageWord::Enter => Named::Nameless,
-        MessageWord::Exit => Named::Nameless,
-        MessageWord::Open => Named::Nameless,
-        MessageWord::Empty => Named::Nameless,
-        MessageWord::Path => Named::Nameless,
-        MessageWord::Unfit => Named::Nameless,
+        MessageWord::Name(n) => Some(n),
+        MessageWord::Variable(_) => None,
+        MessageWord::Enter => None,
+        MessageWord::Exit => None,
+        MessageWord::Open => None,
+        MessageWord::Empty => None,
+        MessageWord::Path => None,
+        MessageWord::Unfit => None,
     }
 }
 
 // The first item that a word is, no variable with a binding; inside is the name that the message behind it is, for which
 // IN, EXIT and OPEN ask.
-pub fn plain_item(m: MessageWord, inside: Named) -> First
+pub fn plain_item(m: MessageWord, inside: Option<u32>) -> First
     ensures { result ≡ plain_item m inside }
 {
     match m {

@@ -8,7 +8,7 @@ use native.Mathlib.Omega.{arith}
 use lib.Dec.{eqb, ltb}
 use lib.ListN.{get_or}
 use borrow.Author.Tests.{eqb-true, eqb-false, ltb-true, le-ltb}
-use Rattle.read_messages.specs.declared.Named.{Named}
+use Rattle.read_messages.specs.Message.{Named}
 use Rattle.read_messages.specs.declared.First.{First}
 use Rattle.read_messages.specs.declared.First.TheVariants.{Nothing, Enter, Exit, Open, Other}
 use Rattle.read_scripts.specs.Tree.{ambient, action, receipt, output}

@@ -9,8 +9,8 @@ use lib.Dec.{eqb, ltb}
 use lib.ListN.{get_or, set, length, drop}
 use borrow.Author.Tests.{ltb-true}
 use Rattle.read_messages.specs.Spelling.{message_at}
-use Rattle.read_messages.specs.declared.Named.{Named}
-use Rattle.read_messages.specs.declared.Named.TheVariants.{Nameless}
+use Rattle.read_messages.specs.Message.{Named}
+use Rattle.std.specs.Prelude.{None}
 use Rattle.read_messages.specs.declared.First.{First}
 use Rattle.read_messages.specs.declared.First.TheVariants.{Nothing}
 use Rattle.base_sets.specs.Sets.{members, elem, inserted, removed, joined}
@@ -40,7 +40,7 @@ module _ (script : List ℕ) (kind start offset : ℕ) (σ : Bindings) where
   h = head_of script kind start offset
 
   -- a part whose first item says a name is an action
-  pub says-name : (said : First → Named) (g : Named) → said Nothing ≡ Nameless → same_name (said (first_of (view_under σ) h)) g ≡ true → kind ≡ 2
+  pub says-name : (said : First → Named) (g : Named) → said Nothing ≡ None → same_name (said (first_of (view_under σ) h)) g ≡ true → kind ≡ 2
   unfolding first_of same_name
   says-name said g n = by_kind script kind start offset (λ x. same_name (said (first_of (view_under σ) x)) g ≡ true → kind ≡ 2)
       (λ e u. silent u) (λ e u. e) (λ e u. silent u) (λ x y z u. silent u)

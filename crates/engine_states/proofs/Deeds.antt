@@ -10,7 +10,7 @@ use lib.Seq.{get_or-set_same, get_or-set_other}
 use borrow.Author.Tests.{lt-ltb, le-ltb, eqb-true, eqb-false, eq-eqb, ne_eqb, leb-true, leb-false, le-leb, lt-leb}
 use Rattle.read_messages.specs.Message.{Message, name, variable, enter, exit, opens, empty_message, path, items, asks, first_item}
 use Rattle.read_messages.specs.Spelling.{message_at}
-use Rattle.read_messages.specs.declared.Named.{Named}
+use Rattle.read_messages.specs.Message.{Named}
 use Rattle.read_messages.specs.declared.First.{First}
 use Rattle.base_sets.specs.Sets.{members, elem, inserted, removed}
 use Rattle.base_sets.proofs.Lists.{elem-inserted, elem-remove}

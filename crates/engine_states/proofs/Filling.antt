@@ -8,8 +8,8 @@ use lib.Dec.{eqb, ltb}
 use lib.ListN.{get_or, set, length}
 use lib.Seq.{get_or-set_same, get_or-set_other}
 use borrow.Author.Tests.{eqb-true, eqb-false, ltb-true, ltb-false, lt-ltb, le-ltb, ne_eqb}
-use Rattle.read_messages.specs.declared.Named.{Named}
-use Rattle.read_messages.specs.declared.Named.TheVariants.{Called, Nameless}
+use Rattle.read_messages.specs.Message.{Named}
+use Rattle.std.specs.Prelude.{Some, None}
 use Rattle.base_sets.specs.Sets.{members, elem, inserted, in_both}
 use Rattle.base_sets.proofs.Lists.{elem-inserted}
 use Rattle.base_sets.proofs.Members.{elem-keep}
@@ -58,13 +58,13 @@ module _ (named named' : ℕ) (names names' : List ℕ) (i : ℕ) (free : elem i
   abbrev Extended : Named → Type 0
   Extended n = (j : ℕ) → name_in named' names' j ≡ cond (eqb j i) n (name_in named names j)
 
-  pub name-added : (n : ℕ) → i < length names → members named' ≡ inserted i (members named) → names' ≡ set names i n → Extended (Called n)
+  pub name-added : (n : ℕ) → i < length names → members named' ≡ inserted i (members named) → names' ≡ set names i n → Extended (Some n)
   unfolding name_in
-  name-added n h d e j = ap (λ (t : Bool). cond t (Called (get_or names' j 0)) Nameless) (ap (elem j) d ∙ elem-inserted j i (members named)) ∙ by_test (eqb j i)
-      (λ t. rw (t, eqb-true j i t) (ap Called (ap (λ (l : List ℕ). get_or l i 0) e ∙ get_or-set_same names i n 0 h)))
-      (λ t. rw t (ap (λ (k : ℕ). cond (elem j (members named)) (Called k) Nameless) (ap (λ (l : List ℕ). get_or l j 0) e ∙ get_or-set_other names i j n 0 (eqb-false j i t))))
+  name-added n h d e j = ap (λ (t : Bool). cond t (Some (get_or names' j 0)) None) (ap (elem j) d ∙ elem-inserted j i (members named)) ∙ by_test (eqb j i)
+      (λ t. rw (t, eqb-true j i t) (ap Some (ap (λ (l : List ℕ). get_or l i 0) e ∙ get_or-set_same names i n 0 h)))
+      (λ t. rw t (ap (λ (k : ℕ). cond (elem j (members named)) (Some k) None) (ap (λ (l : List ℕ). get_or l j 0) e ∙ get_or-set_other names i j n 0 (eqb-false j i t))))
 
-  pub no-name-added : named' ≡ named → names' ≡ names → Extended Nameless
+  pub no-name-added : named' ≡ named → names' ≡ names → Extended None
   unfolding name_in
   no-name-added d e j = ap (λ (m : ℕ). name_in m names' j) d ∙ ap (λ (l : List ℕ). name_in named l j) e ∙ by_test (eqb j i)
       (λ t. rw (t, eqb-true j i t, free))
@@ -73,25 +73,25 @@ module _ (named named' : ℕ) (names names' : List ℕ) (i : ℕ) (free : elem i
 -- the table has the names n of the parts below i, and no others
 pub record Filled (n : ℕ → Named) (i named : ℕ) (names : List ℕ) : Type 0 where
   pub below : (j : ℕ) → j < i → name_in named names j ≡ n j
-  pub beyond : (j : ℕ) → i ≤ j → name_in named names j ≡ Nameless
+  pub beyond : (j : ℕ) → i ≤ j → name_in named names j ≡ None
 
 -- a part with no name in the table is not in its set
-pub not_named : (named : ℕ) (names : List ℕ) (i : ℕ) → name_in named names i ≡ Nameless → elem i (members named) ≡ false
+pub not_named : (named : ℕ) (names : List ℕ) (i : ℕ) → name_in named names i ≡ None → elem i (members named) ≡ false
 unfolding name_in
 not_named named names i e = by_test (elem i (members named))
     (λ t. absurd (called_is (get_or names i 0) (rw t at e)))
     (λ t. t)
   where
     IsCalled : Named → Type 0
-    IsCalled (Called n) = Unit {0}
-    IsCalled Nameless = ⊥
+    IsCalled (Some n) = Unit {0}
+    IsCalled None = ⊥
 
-    called_is : (n : ℕ) → Called n ≡ Nameless → ⊥
+    called_is : (n : ℕ) → Some n ≡ None → ⊥
     called_is n q = subst IsCalled q tt
 
 pub filled_none : (n : ℕ → Named) (named : ℕ) (names : List ℕ) → members named ≡ [] → Filled n 0 named names
 unfolding name_in elem
-filled_none n named names e = record { below = λ j l. absurd (let z : ⊥ = omega arith in z); beyond = λ j l. ap (λ (k : List ℕ). cond (elem j k) (Called (get_or names j 0)) Nameless) e }
+filled_none n named names e = record { below = λ j l. absurd (let z : ⊥ = omega arith in z); beyond = λ j l. ap (λ (k : List ℕ). cond (elem j k) (Some (get_or names j 0)) None) e }
 
 pub filled_next : (n : ℕ → Named) (i named named' : ℕ) (names names' : List ℕ) (m : Named) → Filled n i named names → m ≡ n i
     → ((j : ℕ) → name_in named' names' j ≡ cond (eqb j i) m (name_in named names j)) → Filled n (i + 1) named' names'

@@ -9,7 +9,7 @@ use lib.ListN.{drop}
 use borrow.Author.Tests.{eqb-true, eqb-false}
 use Rattle.read_messages.specs.Message.{Message, items, name_of, first_item}
 use Rattle.read_messages.specs.Spelling.{message_at}
-use Rattle.read_messages.specs.declared.Named.TheVariants.{Nameless}
+use Rattle.std.specs.Prelude.{None}
 use Rattle.read_messages.specs.declared.First.TheVariants.{Nothing}
 use Rattle.read_scripts.specs.Tree.{ambient, action, receipt, output, is_ambient}
 use Rattle.theory_closures.specs.Resolve.{resolve}
@@ -66,9 +66,9 @@ module _ (script : List ℕ) (kind start offset : ℕ) where
   kind-ambient = by_test (eqb kind 1) (λ t. t ∙ sym (is-ambient (eqb-true kind 1 t))) (λ t. t ∙ sym (not-ambient (eqb-false kind 1 t)))
 
   module _ (σ : Bindings) where
-    pub no_name : (kind ≡ 1 → ⊥) → Nameless ≡ head_name (view_under σ) (head_of script kind start offset)
+    pub no_name : (kind ≡ 1 → ⊥) → None ≡ head_name (view_under σ) (head_of script kind start offset)
     unfolding head_name
-    no_name n = by_kind (λ h. Nameless ≡ head_name (view_under σ) h) (λ f. absurd (n f)) (λ f. refl) (λ f. refl) (λ a b c. refl)
+    no_name n = by_kind (λ h. None ≡ head_name (view_under σ) h) (λ f. absurd (n f)) (λ f. refl) (λ f. refl) (λ a b c. refl)
 
     pub the-name : kind ≡ 1 → name_of (resolve σ (message_of script start)) ≡ head_name (view_under σ) (head_of script kind start offset)
     unfolding head_name

@@ -1,8 +1,7 @@
 -- What the engine keeps of every part beside the script: its name, what it does first and to which parts that can be done,
 -- so that no search reads messages. Assumes nothing: these are definitions.
-use Rattle.std.specs.Prelude.{ℕ, ◌<◌, Bool, true, false, cond, List, ◌≡◌, eqb, get_or}
-use Rattle.read_messages.specs.declared.Named.{Named}
-use Rattle.read_messages.specs.declared.Named.TheVariants.{Called, Nameless}
+use Rattle.std.specs.Prelude.{ℕ, ◌<◌, Bool, true, false, cond, List, ◌≡◌, eqb, get_or, Some, None}
+use Rattle.read_messages.specs.Message.{Named}
 use Rattle.read_messages.specs.declared.First.{First}
 use Rattle.read_messages.specs.declared.First.TheVariants.{Nothing, Enter, Exit, Open, Other}
 use Rattle.base_sets.specs.Sets.{members, elem}
@@ -14,7 +13,7 @@ use Rattle.engine_states.specs.declared.Deed.{Deed}
 
 -- the name of part i in a table of names, `named` being the set of the parts that have one
 unfoldable pub name_in : (named : ℕ) (names : List ℕ) (i : ℕ) → Named
-name_in named names i = cond (elem i (members named)) (Called (get_or names i 0)) Nameless
+name_in named names i = cond (elem i (members named)) (Some (get_or names i 0)) None
 
 -- what a first item does: 1 OPEN, 2 IN, 3 EXIT, 0 none of them
 unfoldable pub item_act : First → ℕ
@@ -26,11 +25,11 @@ item_act Other = 0
 
 -- the name that a first item says
 unfoldable pub item_name : First → Named
-item_name Nothing = Nameless
+item_name Nothing = None
 item_name (Enter n) = n
 item_name (Exit n) = n
 item_name (Open n) = n
-item_name Other = Nameless
+item_name Other = None
 
 -- whether there is no item
 unfoldable pub is_nothing : First → Bool

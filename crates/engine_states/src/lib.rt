@@ -17,7 +17,7 @@ use base_slices::{tail, wide};
 use engine_bindings::name_at;
 use engine_first_items::first_item;
 use engine_held_bindings::Bindings;
-use read_messages::{First, Named};
+use read_messages::First;
 
 // What is kept of the parts: the set of those that have a name, and their names; what each does first (1 OPEN, 2 IN,
 // 3 EXIT, 4 it receives, 0 nothing) and the set of the parts to which that can be done; the set of those that settling
@@ -57,12 +57,12 @@ pub struct State {
 }
 
 // The name of a part of that kind and start, under the bindings.
-fn part_name(script: &[u32], kind: u8, start: u32, variables: &[u32], sources: &[u32]) -> Named
+fn part_name(script: &[u32], kind: u8, start: u32, variables: &[u32], sources: &[u32]) -> Option<u32>
     requires { length sources.now ≡ length variables.now }
     ensures { (offset : ℕ) → result ≡ head_name (view_under (bindings_in script.now variables.now sources.now)) (head_of script.now kind start offset) }
 {
     if kind != 1 {
-        return Named::Nameless;
+        return None;
     }
     name_at(script, start, variables, sources)
 }
@@ -90,19 +90,19 @@ pub fn part_item(
 }
 
 // The table with the name of part i, which had none.
-fn with_name(t: NameTable, i: usize, name: Named) -> NameTable
+fn with_name(t: NameTable, i: usize, name: Option<u32>) -> NameTable
     requires { (i < 64) × (elem i (members t.named) ≡ false) }
     ensures { (j : ℕ) → name_in result.named result.names j ≡ cond (eqb j i) name (name_in t.named t.names j) }
 {
     match name {
-        Named::Called(n) => {
+        Some(n) => {
             let named = t.named;
             let mut next = t;
             next.named = base_sets::with(named, i);
             next.names[i] = n;
             next
         }
-        Named::Nameless => t,
+        None => t,
     }
 }
 
@@ -147,12 +147,12 @@ fn parts_called(named: u64, names: &[u32; 64], n: u32) -> u64
 }
 
 // The parts that have that name, if it is one.
-fn aimed(named: u64, names: &[u32; 64], name: Named) -> u64
+fn aimed(named: u64, names: &[u32; 64], name: Option<u32>) -> u64
     ensures { (i : ℕ) → i < 64 → elem i (members result) ≡ same_name name (name_in named names.now i) }
 {
     match name {
-        Named::Called(n) => parts_called(named, names, n),
-        Named::Nameless => 0,
+        Some(n) => parts_called(named, names, n),
+        None => 0,
     }
 }
 

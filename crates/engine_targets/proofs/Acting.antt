@@ -11,7 +11,7 @@ use lib.Dec.{eqb, ltb}
 use borrow.Author.Tests.{eqb-true, eqb-false, ne_eqb, ltb-true, not-true}
 use Rattle.read_messages.specs.Message.{Message}
 use Rattle.read_messages.specs.declared.First.TheVariants.{Enter, Exit}
-use Rattle.read_messages.specs.declared.Named.TheVariants.{Called}
+use Rattle.std.specs.Prelude.{Some}
 use Rattle.base_sets.specs.Sets.{elem}
 use Rattle.read_scripts.specs.Tree.{receipt, output, one_if, tops, times_in}
 use Rattle.theory_machine.specs.Moves.{MoveMade, is_named, to_enter, to_exit, to_open, head_name, first_of, open_move, receive_move, enter_move, exit_move, move_here, anywhere}
@@ -137,14 +137,14 @@ module _ (σ : Bindings) (k : ℕ → List ℕ) (w : ℕ → ClosureHead) (f : C
         let i : elem (at a) (tops S.here) ≡ true = ap (elem (at a)) (sym S.body) ∙ stands (at a) h in
         let j : elem a (k (at a)) ≡ true = stands a (omega arith) in
         let (o, q, z) = same_name-inv (to_enter (first_of (view_under σ) (w a))) (head_name (view_under σ) (w t)) n in
-        let first : first_of (view_under σ) (w a) ≡ Enter (Called o) = to_enter-inv (first_of (view_under σ) (w a)) o q in (
+        let first : first_of (view_under σ) (w a) ≡ Enter (Some o) = to_enter-inv (first_of (view_under σ) (w a)) o q in (
           S,
           i,
           j,
           two,
           enters σ a t S.here (entered σ k w a t S.here S.held S.stands (at a) i j)
               (open-never σ k w a t S.here S.held S.stands (ap to_open first))
-              (receive-never σ k w a t S.here S.held S.stands (no-receipt σ (w a) (Enter (Called o)) first refl))
+              (receive-never σ k w a t S.here S.held S.stands (no-receipt σ (w a) (Enter (Some o)) first refl))
               (enter-is σ k w a t S.here S.held S.stands (at a) i j (once-here (at (at a)) S) (both (ap not (ne_eqb (at a) t two)) (both (ambient-at a l).1 n))),
         )
 
@@ -163,13 +163,13 @@ module _ (σ : Bindings) (k : ℕ → List ℕ) (w : ℕ → ClosureHead) (f : C
         let i : elem (at a) (k t) ≡ true = subst (λ (q : ℕ). elem (at a) (k q) ≡ true) (sym y) (stands (at a) (omega arith)) in
         let j : elem a (k (at a)) ≡ true = stands a (omega arith) in
         let (o, q, z) = same_name-inv (to_exit (first_of (view_under σ) (w a))) (head_name (view_under σ) (w t)) m in
-        let first : first_of (view_under σ) (w a) ≡ Exit (Called o) = to_exit-inv (first_of (view_under σ) (w a)) o q in (
+        let first : first_of (view_under σ) (w a) ≡ Exit (Some o) = to_exit-inv (first_of (view_under σ) (w a)) o q in (
           S,
           i,
           j,
           exits σ a t S.here (exited σ k w a t S.here S.held S.stands (at a) i j)
               (open-never σ k w a t S.here S.held S.stands (ap to_open first))
-              (receive-never σ k w a t S.here S.held S.stands (no-receipt σ (w a) (Exit (Called o)) first refl))
+              (receive-never σ k w a t S.here S.held S.stands (no-receipt σ (w a) (Exit (Some o)) first refl))
               (enter-never σ k w a t S.here S.held S.stands (once-here (at t) S) (ap to_enter first))
               (exit-is σ k w a t S.here S.held S.stands (at a) i j (once-here (at t) S) (both (ambient-at a l).1 m)),
         )

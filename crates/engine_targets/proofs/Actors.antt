@@ -10,8 +10,8 @@ use borrow.Author.Tests.{ltb-true}
 use Rattle.read_messages.specs.Message.{Message}
 use Rattle.read_messages.specs.declared.First.{First}
 use Rattle.read_messages.specs.declared.First.TheVariants.{Nothing, Enter, Exit, Open, Other}
-use Rattle.read_messages.specs.declared.Named.{Named}
-use Rattle.read_messages.specs.declared.Named.TheVariants.{Called, Nameless}
+use Rattle.read_messages.specs.Message.{Named}
+use Rattle.std.specs.Prelude.{Some, None}
 use Rattle.base_sets.specs.Sets.{elem}
 use Rattle.read_scripts.specs.Tree.{ambient, action, receipt, output}
 use Rattle.theory_machine.specs.Moves.{same_name, to_enter, to_exit, to_open, variable_of, message_of, head_name, first_of}
@@ -40,10 +40,10 @@ pub no_item : (σ : Bindings) (h : ClosureHead) (v : ℕ) → h ≡ receipt v �
 unfolding first_of
 no_item σ h v e = rw e
 
-nameless : (x : Named) → same_name x Nameless ≡ false
+nameless : (x : Named) → same_name x None ≡ false
 unfolding same_name
-nameless (Called n) = refl
-nameless Nameless = refl
+nameless (Some n) = refl
+nameless None = refl
 
 -- no part opens itself
 pub not_itself : (σ : Bindings) (h : ClosureHead) → may_open σ h h ≡ false
@@ -62,7 +62,7 @@ is-some (some x) e = (x, refl)
 
 module _ (σ : Bindings) (k : ℕ → List ℕ) (w : ℕ → ClosureHead) where
   module _ (p q a t : ℕ) where
-    no-open : to_open (first_of (view_under σ) (w a)) ≡ Nameless → can_open σ k w p a t ≡ false
+    no-open : to_open (first_of (view_under σ) (w a)) ≡ None → can_open σ k w p a t ≡ false
     unfolding can_open same_name
     no-open e = rw (e, and-false, and-false)
 
@@ -70,11 +70,11 @@ module _ (σ : Bindings) (k : ℕ → List ℕ) (w : ℕ → ClosureHead) where
     unfolding can_receive is_some
     no-receive e = rw (e, and-false, and-false)
 
-    no-enter : to_enter (first_of (view_under σ) (w a)) ≡ Nameless → can_enter σ k w p q a t ≡ false
+    no-enter : to_enter (first_of (view_under σ) (w a)) ≡ None → can_enter σ k w p q a t ≡ false
     unfolding can_enter same_name
     no-enter e = rw (e, and-false, and-false, and-false, and-false)
 
-    no-exit : to_exit (first_of (view_under σ) (w a)) ≡ Nameless → can_exit σ k w p q a t ≡ false
+    no-exit : to_exit (first_of (view_under σ) (w a)) ≡ None → can_exit σ k w p q a t ≡ false
     unfolding can_exit same_name
     no-exit e = rw (e, and-false, and-false, and-false)
 
@@ -106,7 +106,7 @@ module _ (σ : Bindings) (k : ℕ → List ℕ) (w : ℕ → ClosureHead) where
         (v, m, variable_of-inv (w a) v c, message_of-inv (w t) m d)
 
     -- an actor that is no receipt and has no item to move by
-    pub by-idler : (x : First) → first_of (view_under σ) (w a) ≡ x → variable_of (w a) ≡ none → to_open x ≡ Nameless → to_enter x ≡ Nameless → to_exit x ≡ Nameless
+    pub by-idler : (x : First) → first_of (view_under σ) (w a) ≡ x → variable_of (w a) ≡ none → to_open x ≡ None → to_enter x ≡ None → to_exit x ≡ None
         → can_move_from σ k w p q a t ≡ false
     unfolding can_move_from
     by-idler x f r o e i = rw (no-open (ap to_open f ∙ o), no-receive r, no-enter (ap to_enter f ∙ e), no-exit (ap to_exit f ∙ i))

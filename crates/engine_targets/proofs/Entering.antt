@@ -7,7 +7,7 @@ use mathlib.Core.Path.{◌≡◌, refl, sym, ap, ◌∙◌}
 use native.Mathlib.Omega.{arith}
 use lib.Dec.{eqb}
 use borrow.Author.Tests.{ne_eqb}
-use Rattle.read_messages.specs.declared.Named.TheVariants.{Nameless}
+use Rattle.std.specs.Prelude.{None}
 use Rattle.base_sets.specs.Sets.{elem, inserted, removed}
 use Rattle.read_scripts.specs.Tree.{one_if, tops, times_in, put}
 use Rattle.read_scripts.specs.Represents.{Held}
@@ -125,7 +125,7 @@ module _ (σ : Bindings) (k : ℕ → List ℕ) (w : ℕ → ClosureHead) (a t :
       }
 
   -- where the actor's first item is no IN of a name
-  pub enter-never : ((j : ℕ) → times_in j here ≤ 1) → to_enter (first_of (view_under σ) (w a)) ≡ Nameless → enter_move (view_under σ) a t here ≡ none
+  pub enter-never : ((j : ℕ) → times_in j here ≤ 1) → to_enter (first_of (view_under σ) (w a)) ≡ None → enter_move (view_under σ) a t here ≡ none
   unfolding same_name
   enter-never once e = pick (holder a here) refl
     where

@@ -9,7 +9,7 @@ use native.Mathlib.Omega.{arith}
 use lib.Dec.{eqb}
 use borrow.Author.Tests.{ne_eqb}
 use Rattle.read_messages.specs.Message.{Message}
-use Rattle.read_messages.specs.declared.Named.TheVariants.{Nameless}
+use Rattle.std.specs.Prelude.{None}
 use Rattle.base_sets.specs.Sets.{elem, removed, joined}
 use Rattle.base_sets.proofs.Lists.{elem-remove, elem-joined}
 use Rattle.read_scripts.specs.Tree.{receipt, output, one_if, tops, times_in, merge_parts}
@@ -111,7 +111,7 @@ module _ (σ : Bindings) (k : ℕ → List ℕ) (w : ℕ → ClosureHead) (a t :
           }
 
   -- where the actor's first item is no OPEN of a name, and where the actor is no receipt
-  pub open-never : to_open (first_of (view_under σ) (w a)) ≡ Nameless → open_move (view_under σ) a t here ≡ none
+  pub open-never : to_open (first_of (view_under σ) (w a)) ≡ None → open_move (view_under σ) a t here ≡ none
   unfolding same_name
   open-never e = by_test (elem a (tops here)) (λ i. open-not i (rw e)) (λ i. open-alone i)
 

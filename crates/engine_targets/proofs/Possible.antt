@@ -8,8 +8,8 @@ use mathlib.Core.Path.{◌≡◌, refl, sym, ap, ◌∙◌}
 use native.Mathlib.Omega.{arith}
 use borrow.Author.Tests.{eqb-false, eq-eqb, ne_eqb, lt-ltb}
 use Rattle.read_messages.specs.Message.{Message}
-use Rattle.read_messages.specs.declared.Named.{Named}
-use Rattle.read_messages.specs.declared.Named.TheVariants.{Called}
+use Rattle.read_messages.specs.Message.{Named}
+use Rattle.std.specs.Prelude.{Some}
 use Rattle.base_sets.specs.Sets.{elem}
 use Rattle.read_scripts.specs.Tree.{receipt, output, tops}
 use Rattle.theory_machine.specs.Moves.{MoveMade, is_named, same_name, to_enter, to_exit, to_open, variable_of, message_of, head_name, first_of, move_here, anywhere}
@@ -28,7 +28,7 @@ either : (x : Bool) {y : Bool} → (x ≡ false → y ≡ true) → (x || y) ≡
 either true f = refl
 either false f = f refl
 
-same-name : {x y : Named} (n : ℕ) → x ≡ Called n → y ≡ Called n → same_name x y ≡ true
+same-name : {x y : Named} (n : ℕ) → x ≡ Some n → y ≡ Some n → same_name x y ≡ true
 unfolding same_name
 same-name n d e = rw (d, e) (eq-eqb n n refl)
 
@@ -39,12 +39,12 @@ module _ (σ : Bindings) (k : ℕ → List ℕ) (w : ℕ → ClosureHead) (f : C
   abbrev In : ℕ → Type 0
   In b = Spot σ k w f a t b
 
-  by_name : (h : ClosureHead) (n : ℕ) → head_name (view_under σ) h ≡ Called n → is_named (head_name (view_under σ) h) ≡ true
+  by_name : (h : ClosureHead) (n : ℕ) → head_name (view_under σ) h ≡ Some n → is_named (head_name (view_under σ) h) ≡ true
   unfolding is_named
   by_name h n e = ap is_named e
 
   -- a part in the body of a named ambient that has a home
-  within : (x p : ℕ) (h : ClosureHead) (n : ℕ) → at p < 65 → w p ≡ h → head_name (view_under σ) h ≡ Called n → elem x (k p) ≡ true → at x ≡ p
+  within : (x p : ℕ) (h : ClosureHead) (n : ℕ) → at p < 65 → w p ≡ h → head_name (view_under σ) h ≡ Some n → elem x (k p) ≡ true → at x ≡ p
   within x p h n l e named m =
       home_of σ k w f Q p x (inr (home-low σ k w f Q p l, l, by_name (w p) n (ap (head_name (view_under σ)) e ∙ named))) m
 

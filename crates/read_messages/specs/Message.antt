@@ -1,8 +1,6 @@
 -- Messages (document 01, "The script and its messages"): what they are, their items, what a name is, and substitution.
 -- Assumes nothing: these are definitions.
-use Rattle.std.specs.Prelude.{ℕ, ◌+◌, cond, List, [], ◌∷◌, ◌++◌, eqb}
-use Rattle.read_messages.specs.declared.Named.{Named}
-use Rattle.read_messages.specs.declared.Named.TheVariants.{Called, Nameless}
+use Rattle.std.specs.Prelude.{ℕ, ◌+◌, cond, List, [], ◌∷◌, ◌++◌, eqb, Option, Some, None}
 use Rattle.read_messages.specs.declared.First.{First}
 use Rattle.read_messages.specs.declared.First.TheVariants.{Nothing, Enter, Exit, Open, Other}
 
@@ -25,15 +23,19 @@ items (opens m) = opens m ∷ []
 items empty_message = []
 items (path m k) = items m ++ items k
 
+-- the name that a message is, or none
+abbrev pub Named : Type 0
+Named = Option ℕ
+
 -- "A message is a name only if it is one NAME word". Everything that asks for a name asks it here.
 unfoldable pub name_of : Message → Named
-name_of (name n) = Called n
-name_of (variable v) = Nameless
-name_of (enter m) = Nameless
-name_of (exit m) = Nameless
-name_of (opens m) = Nameless
-name_of empty_message = Nameless
-name_of (path m k) = Nameless
+name_of (name n) = Some n
+name_of (variable v) = None
+name_of (enter m) = None
+name_of (exit m) = None
+name_of (opens m) = None
+name_of empty_message = None
+name_of (path m k) = None
 
 -- what an item asks: "IN, EXIT or OPEN of a name m"
 unfoldable pub asks : Message → First

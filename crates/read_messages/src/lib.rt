@@ -6,20 +6,13 @@ ghost use Rattle.read_messages.specs.Words.{member};
 ghost use Rattle.read_messages.specs.Reading.{cursor, outcome};
 ghost use Rattle.read_messages.specs.ReadMessage.{message_word, levelled, asked, read_message, MessageReadable};
 
-// What a message is asked for: the name that it is, or that it is none.
-#[derive(Drop)]
-pub enum Named {
-    Called(u32),
-    Nameless,
-}
-
 // The first item of an action: what it asks, and of which name; another item; or none where no item is left.
 #[derive(Drop)]
 pub enum First {
     Nothing,
-    Enter(Named),
-    Exit(Named),
-    Open(Named),
+    Enter(Option<u32>),
+    Exit(Option<u32>),
+    Open(Option<u32>),
     Other,
 }
 
@@ -43,6 +36,13 @@ pub enum Asked {
     One,
     Two,
     No { question: u32 },
+}
+
+// The first question that is answered by no: its number in document 01, and the index of the word of which it was asked.
+#[derive(Clone, Copy, Debug, PartialEq, Eq)]
+pub struct Refusal {
+    pub question: u32,
+    pub place: usize,
 }
 
 // What every reader answers: the index of the word behind what was read, or the first no's number and place.

@@ -7,7 +7,7 @@ use mathlib.Core.Option.{some}
 use native.Mathlib.Omega.{arith}
 use lib.Dec.{eqb}
 use Rattle.read_messages.specs.Message.{Message, name, enter, exit, opens}
-use Rattle.read_messages.specs.declared.Named.TheVariants.{Called}
+use Rattle.std.specs.Prelude.{Some}
 use Rattle.read_scripts.specs.Tree.{Head, one_if, total_over, times_in, put, PlainHead, Plain}
 use Rattle.theory_machine.specs.Bodies.{find_part, remove_part, alter}
 use Rattle.theory_machine.specs.Moves.{MoveMade, head_name, spent_head, spend, move_here}
@@ -30,7 +30,7 @@ dropped j a b = remove_part-total (λ k h. one_if (eqb j k)) a b
 spends-times : (j a : ℕ) (b : Plain) → times_in j (spend plain a b) ≤ times_in j b
 spends-times j a b = spend-total plain (λ k h. one_if (eqb j k)) 0 (times-shrinks j) a b
 
-module _ (t : ℕ) (b : Plain) {n : ℕ} {goal : PlainHead} {room : Plain} (d : times_in t b ≤ 1) (e : find_part t b ≡ some (goal, room)) (w : head_name plain goal ≡ Called n) where
+module _ (t : ℕ) (b : Plain) {n : ℕ} {goal : PlainHead} {room : Plain} (d : times_in t b ≤ 1) (e : find_part t b ≡ some (goal, room)) (w : head_name plain goal ≡ Some n) where
   -- a named ambient found, beside the others; and with its inside altered
   find-named : process b ≅ ambient (name n) (process room) ‖ process (remove_part t b)
   unfolding piece

@@ -8,7 +8,7 @@ use native.Mathlib.Omega.{arith}
 use lib.Dec.{eqb}
 use Rattle.base_sets.specs.Sets.{elem}
 use Rattle.read_messages.specs.Message.{Message, name, enter, exit, opens, name_of, asks, first_item}
-use Rattle.read_messages.specs.declared.Named.TheVariants.{Called}
+use Rattle.std.specs.Prelude.{Some}
 use Rattle.read_scripts.specs.Tree.{Head, close, part, one_if, total_over, tops, times_in, put, merge_parts, PlainHead, Plain}
 use Rattle.theory_machine.specs.Bodies.{◌>>=◌, check, find_part, remove_part, alter, holder}
 use Rattle.theory_machine.specs.Moves.{is_named, same_name, to_enter, to_exit, to_open, MoveMade, variable_of, message_of, quiet, onward, head_name, first_of, spend, enter_move, exit_move, open_move, receive_move, move_here, anywhere}
@@ -81,11 +81,11 @@ holder-none a (front {i = i} {r = r}) q d n = rw (tops-none a i (deeper-none a q
 holder-none a (behind {j = j} p) q d n = rw (absent-tops a j (omega (arith, part-times a p, part-times a q))) (holder-none a p q (omega arith) n)
 
 -- the same name twice passes the test
-same-name : (n : ℕ) → same_name (Called n) (Called n) ≡ true
+same-name : (n : ℕ) → same_name (Some n) (Some n) ≡ true
 unfolding same_name
 same-name n = eqb_same n
 
-named-is : (n : ℕ) → is_named (Called n) ≡ true
+named-is : (n : ℕ) → is_named (Some n) ≡ true
 unfolding is_named
 named-is n = refl
 

@@ -1,9 +1,8 @@
 -- Satisfaction: when a tree meets a rule (document 01, "Relation (000, read on normal forms as in 002)"). Not the walk:
 -- nothing here counts, and nothing is bounded. Assumes nothing: these are definitions.
-use Rattle.std.specs.Prelude.{ℕ, ◌+◌, ◌≤◌, List, ◌∷◌, ◌≡◌, ◌⊎◌}
+use Rattle.std.specs.Prelude.{ℕ, ◌+◌, ◌≤◌, List, ◌∷◌, ◌≡◌, ◌⊎◌, Some}
 use Rattle.std.proofs.Math.Option.{some}
 use Rattle.read_messages.specs.Message.{Message, name}
-use Rattle.read_messages.specs.declared.Named.TheVariants.{Called}
 use Rattle.read_scripts.specs.Tree.{ambient, close, part, PlainHead, Plain}
 use Rattle.theory_machine.specs.Moves.{MoveMade, head_name}
 use Rattle.theory_machine.specs.PlainMachine.{plain, move}
@@ -17,7 +16,7 @@ pub data Divided : Plain → Plain → Plain → Type 0 where
 
 -- the second body stands directly inside a named ambient of the first
 pub data Inside : Plain → Plain → Type 0 where
-  first : {k n : ℕ} {h : PlainHead} {b r : Plain} → head_name plain h ≡ Called n → Inside (part k h b r) b
+  first : {k n : ℕ} {h : PlainHead} {b r : Plain} → head_name plain h ≡ Some n → Inside (part k h b r) b
   later : {k : ℕ} {h : PlainHead} {b r c : Plain} → Inside r c → Inside (part k h b r) c
 
 -- "here or inside named ambients down to any depth"
@@ -35,7 +34,7 @@ pub record Alone (n : ℕ) (b c : Plain) : Type 0 where
   pub number : ℕ
   pub head : PlainHead
   pub only : b ≡ part number head c close
-  pub named : head_name plain head ≡ Called n
+  pub named : head_name plain head ≡ Some n
 
 -- "the process wrapped in n"
 abbrev pub wrapped : (number name : ℕ) → Plain → Plain

@@ -12,7 +12,7 @@ use Rattle.read_messages.specs.Message.{Message, name, variable, enter, exit, op
 use Rattle.read_scripts.proofs.Numbers.{own-times, one_none}
 use Rattle.read_scripts.proofs.Scopes.{receives}
 use Rattle.read_messages.proofs.Mentioning.{mentions-none}
-use Rattle.read_messages.specs.declared.Named.TheVariants.{Called}
+use Rattle.std.specs.Prelude.{Some}
 use Rattle.read_scripts.specs.Tree.{ambient, action, receipt, output, part, one_if}
 use Rattle.theory_machine.specs.Moves.{MoveMade, head_name}
 use Rattle.theory_closures.proofs.Substitution.{Fresh, New}
@@ -84,7 +84,7 @@ pub good-rest : (σ : Bindings) (i : ℕ) (h : ClosureHead) (b r : Closure) → 
 unfolding tally_of
 good-rest σ i h b r = good-less σ (part i h b r) r (λ T. omega arith)
 
-pub good-inside : (σ : Bindings) (i n : ℕ) (h : ClosureHead) (b r : Closure) → head_name (view_under σ) h ≡ Called n → Good σ (part i h b r) → Good σ b
+pub good-inside : (σ : Bindings) (i n : ℕ) (h : ClosureHead) (b r : Closure) → head_name (view_under σ) h ≡ Some n → Good σ (part i h b r) → Good σ b
 good-inside σ i n h b r e = good-less σ (part i h b r) b (λ T. omega (arith, of_part T i h b r (named-open T σ h n e)))
 
 -- what a receipt that is made does to the two

@@ -11,7 +11,7 @@ use lib.Dec.{eqb, leb}
 use lib.ListN.{length, drop}
 use borrow.Author.Tests.{le-leb, lt-leb}
 use Rattle.read_messages.specs.Message.{Message, items, name_of, first_item, substitute, mentions}
-use Rattle.read_messages.specs.declared.Named.TheVariants.{Called}
+use Rattle.std.specs.Prelude.{Some}
 use Rattle.read_scripts.specs.Tree.{ambient, action, receipt, output, close, part, one_if, total_over, merge_parts, map_heads, no_items, bare, settle, PlainHead, Plain}
 use Rattle.theory_closures.specs.Resolve.{resolve}
 use Rattle.base_slices.proofs.Tests.{eqb_same}
@@ -130,7 +130,7 @@ module _ (σ : Bindings) where
       (λ v m s c e _. ap (λ (d : Plain). record { body = d; news = (v, resolve σ m) ∷ [] }) (received a v m b s G e t)))
 
   -- what stands around or beside a move unfolds as before
-  around : (i n : ℕ) (h : ClosureHead) (b c r : Closure) (news : Bindings) → head_name (view_under σ) h ≡ Called n → Good σ (part i h b r) → TallyStep b c news →
+  around : (i n : ℕ) (h : ClosureHead) (b c r : Closure) (news : Bindings) → head_name (view_under σ) h ≡ Some n → Good σ (part i h b r) → TallyStep b c news →
       (U σ h ≡ U (news ++ σ) h) × (map_heads (U σ) r ≡ map_heads (U (news ++ σ)) r)
   around i n h b c r news e G (spends q l) = rw q (refl, refl)
   around i n h b c r news e G (takes x) =

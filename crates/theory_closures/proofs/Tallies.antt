@@ -9,7 +9,7 @@ use native.Mathlib.Omega.{arith}
 use lib.Dec.{eqb, ltb}
 use borrow.Author.Tests.{eqb-true}
 use Rattle.read_messages.specs.Message.{Message}
-use Rattle.read_messages.specs.declared.Named.TheVariants.{Called}
+use Rattle.std.specs.Prelude.{Some}
 use Rattle.read_scripts.specs.Tree.{ambient, action, receipt, output, is_ambient, close, part, total_over, put, merge_parts, settle_by}
 use Rattle.theory_machine.specs.Bodies.{find_part, remove_part, alter}
 use Rattle.theory_machine.specs.Moves.{MoveMade, head_name, spent_head, spend, move_here, anywhere}
@@ -44,7 +44,7 @@ module _ (T : Tally) where
   of_part i h b r e = rw e
 
   -- an ambient with a name is not shut
-  pub named-open : (σ : Bindings) (h : ClosureHead) (n : ℕ) → head_name (view_under σ) h ≡ Called n → T.shut h ≡ false
+  pub named-open : (σ : Bindings) (h : ClosureHead) (n : ℕ) → head_name (view_under σ) h ≡ Some n → T.shut h ≡ false
   named-open σ h n e = let x = head_name-inv (view_under σ) h n e in ap T.shut x.1 ∙ T.ambients x.0
 
   pub of-remove_part : (a : ℕ) (b : Closure) → tally_of (remove_part a b) ≤ tally_of b

@@ -6,7 +6,7 @@ use mathlib.Core.Path.{◌≡◌, refl, ap, ◌∙◌, subst}
 use mathlib.Core.Option.{Option, none, some, map}
 use native.Mathlib.Omega.{arith}
 use Rattle.read_messages.specs.Message.{Message, name, mentions}
-use Rattle.read_messages.specs.declared.Named.TheVariants.{Called}
+use Rattle.std.specs.Prelude.{Some}
 use Rattle.read_scripts.specs.Tree.{ambient, action, receipt, output, close, part, map_heads, Plain}
 use Rattle.theory_closures.proofs.Resolving.{resolve-name}
 use Rattle.theory_machine.specs.Moves.{MoveMade, head_name, is_named, same_name}
@@ -51,8 +51,8 @@ only-unfolded : (σ : Bindings) (n : ℕ) (b : Closure) → Good σ b → Both U
 unfolding only plain_walk.only unfolded map_heads
 only-unfolded σ n close G = neither
 only-unfolded σ n (part k h b close) G = rw (unfold-name σ h)
-    (cond_both Unfolds (same_name (Called n) (head_name (view_under σ) h)) (beside σ b) (unfolded σ b)
-    (λ t. (good-inside σ k _ h b close (same_name-inv (Called n) (head_name (view_under σ) h) t).2 G, refl)))
+    (cond_both Unfolds (same_name (Some n) (head_name (view_under σ) h)) (beside σ b) (unfolded σ b)
+    (λ t. (good-inside σ k _ h b close (same_name-inv (Some n) (head_name (view_under σ) h) t).2 G, refl)))
 only-unfolded σ n (part k h b (part k₁ h₁ b₁ r)) G = neither
 
 insides-unfolded : (σ : Bindings) (b : Closure) → Good σ b → RelatedLists Unfolds (insides σ b) (plain_walk.insides (unfolded σ b))

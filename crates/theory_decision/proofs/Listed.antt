@@ -11,7 +11,7 @@ use lib.Dec.{eqb}
 use Rattle.base_sets.specs.Sets.{numbers_from}
 use borrow.Author.Tests.{eqb-true, eqb-false, eq-eqb}
 use Rattle.read_messages.specs.Message.{Message}
-use Rattle.read_messages.specs.declared.Named.TheVariants.{Called}
+use Rattle.std.specs.Prelude.{Some}
 use Rattle.read_scripts.specs.Tree.{close, part, PlainHead, Plain}
 use Rattle.theory_machine.specs.Moves.{MoveMade, head_name, is_named, same_name}
 use Rattle.theory_machine.specs.PlainMachine.{plain, move}
@@ -185,8 +185,8 @@ pub of-only : (n : ℕ) (b c : Plain) → only n b ≡ some c → Alone n b c
 unfolding only
 of-only n close c e = none≢some e
 of-only n (part k h i close) c e =
-    let (t, q) = cond-inv (same_name (Called n) (head_name plain h)) (some i) c e in
-    let (m, w, z) = same_name-inv (Called n) (head_name plain h) t in
+    let (t, q) = cond-inv (same_name (Some n) (head_name plain h)) (some i) c e in
+    let (m, w, z) = same_name-inv (Some n) (head_name plain h) t in
     record { number = k; head = h; only = ap (λ (x : Plain). part k h x close) (some_is q); named = z ∙ sym w }
 of-only n (part k h i (part k₁ h₁ i₁ r₁)) c e = none≢some e
 

@@ -9,7 +9,7 @@ use mathlib.Core.Option.{Option, none, some}
 use lib.Dec.{eqb}
 use borrow.Author.Tests.{eqb-true, eqb-false, eq-eqb, ne_eqb}
 use Rattle.read_messages.specs.Message.{Message, name, variable, enter, exit, opens, empty_message, path, items, name_of, substitute, substitute_items, asks, first_item}
-use Rattle.read_messages.specs.declared.Named.TheVariants.{Called}
+use Rattle.std.specs.Prelude.{Some}
 use Rattle.read_scripts.specs.Tree.{ambient, action, receipt, output, close, part, map_heads, PlainHead, Plain, no_items, bare, settle}
 use Rattle.theory_machine.specs.Moves.{MoveMade, head_name, move_here, anywhere}
 use Rattle.theory_machine.specs.PlainMachine.{rest, substitute_head, substitute_body, plain, settled_by, move}
@@ -213,7 +213,7 @@ module _ (f g : ℕ → ℕ) (back : (n : ℕ) → g (f n) ≡ n) where
   translates : Translates plain plain (rename_items f) (rename_message f) f
   translates = record { injective = injective f g back; named = name_of-rename f; first = first-rename f; spent = rest-rename f }
 
-  name-rename : (h : PlainHead) {n : ℕ} → head_name plain h ≡ Called n → head_name plain (rename_head f h) ≡ Called (f n)
+  name-rename : (h : PlainHead) {n : ℕ} → head_name plain h ≡ Some n → head_name plain (rename_head f h) ≡ Some (f n)
   name-rename h e = head_name-map plain plain (rename_items f) (rename_message f) f translates h ∙ ap (renamed f) e
 
   pub move-rename : (a t : ℕ) (b : Plain) → move a t (rename_tree f b) ≡ Option.map (rename_moved f) (move a t b)

@@ -1,8 +1,7 @@
 -- The walk over closures: what a rule word asks of a closure under its bindings. Assumes nothing: these are definitions.
-use Rattle.std.specs.Prelude.{ℕ, cond, List, [], ◌∷◌, ◌++◌, map}
+use Rattle.std.specs.Prelude.{ℕ, cond, List, [], ◌∷◌, ◌++◌, map, Some}
 use Rattle.std.proofs.Math.Option.{Option, none, some}
 use Rattle.read_messages.specs.Message.{name}
-use Rattle.read_messages.specs.declared.Named.TheVariants.{Called}
 use Rattle.read_scripts.specs.Tree.{ambient, close, part}
 use Rattle.theory_machine.specs.Moves.{MoveMade, head_name, is_named, same_name}
 use Rattle.theory_closures.specs.Closure.{Action, Closure, Bindings, view_under, closure_move, ClosureMachine}
@@ -17,7 +16,7 @@ module _ (σ : Bindings) where
   -- "AT n, just one top part, an AMB named n": its inside
   unfoldable pub only : (n : ℕ) → Closure → Option ClosureMachine
   only n close = none
-  only n (part k h b close) = cond (same_name (Called n) (head_name (view_under σ) h)) (some (beside b)) none
+  only n (part k h b close) = cond (same_name (Some n) (head_name (view_under σ) h)) (some (beside b)) none
   only n (part k h b (part k₁ h₁ b₁ r)) = none
 
   -- "inside each named top AMB by rising number"

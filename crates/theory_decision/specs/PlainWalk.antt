@@ -1,8 +1,7 @@
 -- The walk over the plain machine's trees. Assumes nothing: these are definitions.
-use Rattle.std.specs.Prelude.{ℕ, cond, List, [], ◌∷◌}
+use Rattle.std.specs.Prelude.{ℕ, cond, List, [], ◌∷◌, Some}
 use Rattle.std.proofs.Math.Option.{Option, none, some}
 use Rattle.read_messages.specs.Message.{Message}
-use Rattle.read_messages.specs.declared.Named.TheVariants.{Called}
 use Rattle.read_scripts.specs.Tree.{close, part, Plain}
 use Rattle.theory_machine.specs.Moves.{MoveMade, head_name, is_named, same_name}
 use Rattle.theory_machine.specs.PlainMachine.{plain, move}
@@ -13,7 +12,7 @@ use Rattle.theory_decision.specs.Walk.{Space, in_order}
 -- "AT n, just one top part, an AMB named n": its inside
 unfoldable pub only : (n : ℕ) → Plain → Option Plain
 only n close = none
-only n (part k h b close) = cond (same_name (Called n) (head_name plain h)) (some b) none
+only n (part k h b close) = cond (same_name (Some n) (head_name plain h)) (some b) none
 only n (part k h b (part k₁ h₁ b₁ r)) = none
 
 -- "inside each named top AMB by rising number"

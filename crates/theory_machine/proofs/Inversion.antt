@@ -10,8 +10,8 @@ use native.Mathlib.Omega.{arith}
 use lib.Dec.{eqb}
 use borrow.Author.Tests.{eqb-true, not-true}
 use Rattle.read_messages.specs.Message.{Message, name, variable, enter, exit, opens, empty_message, path, name_of, asks, first_item}
-use Rattle.read_messages.specs.declared.Named.{Named}
-use Rattle.read_messages.specs.declared.Named.TheVariants.{Called, Nameless}
+use Rattle.read_messages.specs.Message.{Named}
+use Rattle.std.specs.Prelude.{Some, None}
 use Rattle.read_scripts.specs.Tree.{Head, ambient, action, receipt, output, Body, close, part, put, merge_parts, Plain, settle}
 use Rattle.theory_machine.specs.Bodies.{find_part, remove_part, alter}
 use Rattle.theory_machine.specs.Moves.{View, is_named, is_that, same_name, to_enter, to_exit, to_open, MoveMade, variable_of, message_of, quiet, head_name, first_of, spend, enter_move, exit_move, open_move, receive_move, move_here, inside, anywhere}
@@ -20,21 +20,21 @@ use Rattle.read_messages.specs.declared.First.{First}
 use Rattle.read_messages.specs.declared.First.TheVariants.{Nothing, Enter, Exit, Open, Other}
 use Rattle.theory_machine.proofs.Options.{some_is, none≢some, bind_inv, check_inv, cond-inv, or_else-inv, onward-inv}
 
-pub is_named-inv : (x : Named) → is_named x ≡ true → (n : ℕ) × (x ≡ Called n)
+pub is_named-inv : (x : Named) → is_named x ≡ true → (n : ℕ) × (x ≡ Some n)
 unfolding is_named
-is_named-inv (Called n) e = (n, refl)
-is_named-inv Nameless e = absurd (false≢true e)
+is_named-inv (Some n) e = (n, refl)
+is_named-inv None e = absurd (false≢true e)
 
-is_that-inv : (n : ℕ) (y : Named) → is_that n y ≡ true → y ≡ Called n
-is_that-inv n (Called m) e = ap Called (eqb-true m n e)
-is_that-inv n Nameless e = absurd (false≢true e)
+is_that-inv : (n : ℕ) (y : Named) → is_that n y ≡ true → y ≡ Some n
+is_that-inv n (Some m) e = ap Some (eqb-true m n e)
+is_that-inv n None e = absurd (false≢true e)
 
-pub same_name-inv : (x y : Named) → same_name x y ≡ true → (n : ℕ) × (x ≡ Called n) × (y ≡ Called n)
+pub same_name-inv : (x y : Named) → same_name x y ≡ true → (n : ℕ) × (x ≡ Some n) × (y ≡ Some n)
 unfolding same_name
-same_name-inv (Called n) y e = (n, refl, is_that-inv n y e)
-same_name-inv Nameless y e = absurd (false≢true e)
+same_name-inv (Some n) y e = (n, refl, is_that-inv n y e)
+same_name-inv None y e = absurd (false≢true e)
 
-pub to_enter-inv : (x : First) (n : ℕ) → to_enter x ≡ Called n → x ≡ Enter (Called n)
+pub to_enter-inv : (x : First) (n : ℕ) → to_enter x ≡ Some n → x ≡ Enter (Some n)
 unfolding to_enter
 to_enter-inv Nothing n e = cc
 to_enter-inv (Enter m) n e = ap Enter e
@@ -42,7 +42,7 @@ to_enter-inv (Exit m) n e = cc
 to_enter-inv (Open m) n e = cc
 to_enter-inv Other n e = cc
 
-pub to_exit-inv : (x : First) (n : ℕ) → to_exit x ≡ Called n → x ≡ Exit (Called n)
+pub to_exit-inv : (x : First) (n : ℕ) → to_exit x ≡ Some n → x ≡ Exit (Some n)
 unfolding to_exit
 to_exit-inv Nothing n e = cc
 to_exit-inv (Enter m) n e = cc
@@ -50,7 +50,7 @@ to_exit-inv (Exit m) n e = ap Exit e
 to_exit-inv (Open m) n e = cc
 to_exit-inv Other n e = cc
 
-pub to_open-inv : (x : First) (n : ℕ) → to_open x ≡ Called n → x ≡ Open (Called n)
+pub to_open-inv : (x : First) (n : ℕ) → to_open x ≡ Some n → x ≡ Open (Some n)
 unfolding to_open
 to_open-inv Nothing n e = cc
 to_open-inv (Enter m) n e = cc
@@ -78,7 +78,7 @@ module _ {A : Type 0} where
   found {p = p} e f = e ∙ ap (λ g. some (g, p.1)) f
 
 module _ {A : Type 0} (view : View A) where
-  pub head_name-inv : (h : Head A) (n : ℕ) → head_name view h ≡ Called n → (m : Message) × (h ≡ ambient m) × (view.named m ≡ Called n)
+  pub head_name-inv : (h : Head A) (n : ℕ) → head_name view h ≡ Some n → (m : Message) × (h ≡ ambient m) × (view.named m ≡ Some n)
   unfolding head_name
   head_name-inv (ambient m) n e = (m, refl, e)
   head_name-inv (action a) n e = (empty_message, cc, cc)
@@ -94,8 +94,8 @@ module _ {A : Type 0} (view : View A) where
     pub room : Body (Head A)
     pub actor : find_part a b ≡ some (doer, after)
     pub target : find_part t b ≡ some (goal, room)
-    pub asked : first_of view doer ≡ Open (Called sought)
-    pub named : head_name view goal ≡ Called sought
+    pub asked : first_of view doer ≡ Open (Some sought)
+    pub named : head_name view goal ≡ Some sought
     pub result : c ≡ spend view a (merge_parts room (remove_part t b))
 
   -- a receipt is made: the actor and the target, both in b
@@ -125,9 +125,9 @@ module _ {A : Type 0} (view : View A) where
     pub around : find_part mover (home room) ≡ some (shell, inside)
     pub actor : find_part a inside ≡ some (doer, after)
     pub another : Apart mover
-    pub shell-named : head_name view shell ≡ Called own
-    pub asked : first_of view doer ≡ verb (Called sought)
-    pub named : head_name view goal ≡ Called sought
+    pub shell-named : head_name view shell ≡ Some own
+    pub asked : first_of view doer ≡ verb (Some sought)
+    pub named : head_name view goal ≡ Some sought
     pub result : c ≡ made mover shell inside
 
   -- IN: the ambient that moves stands in b too, and is not the target
@@ -189,7 +189,7 @@ module _ {A : Type 0} (view : View A) where
         result = ap (λ (l : MoveMade A). l.body) (sym f);
       })
 
-  module _ (verb : Named → First) (to : First → Named) (to_inv : (x : First) (n : ℕ) → to x ≡ Called n → x ≡ verb (Called n)) where
+  module _ (verb : Named → First) (to : First → Named) (to_inv : (x : First) (n : ℕ) → to x ≡ Some n → x ≡ verb (Some n)) where
     carried : {a t : ℕ} {b c : Body (Head A)} {home : Body (Head A) → Body (Head A)} {Apart : ℕ → Type 0} {made : ℕ → Head A → Body (Head A) → Body (Head A)} (mover : ℕ) (x y z : Head A × Body (Head A))
         → find_part t b ≡ some x → find_part mover (home x.1) ≡ some y → find_part a y.1 ≡ some z → Apart mover → (is_named (head_name view y.0) && same_name (to (first_of view z.0)) (head_name view x.0)) ≡ true
         → c ≡ made mover y.0 y.1 → Carried a t b c verb home Apart made
@@ -253,7 +253,7 @@ module _ {A : Type 0} (view : View A) where
   -- a rewriting g made in this body, or inside its named ambients at any depth
   pub data Makes (g : Body (Head A) → Option (MoveMade A)) : Body (Head A) → Body (Head A) → List (ℕ × Message) → Type 0 where
     now : {b : Body (Head A)} (m : MoveMade A) → g b ≡ some m → Makes g b m.body m.news
-    inner : {k n : ℕ} {h : Head A} {b c r : Body (Head A)} {news : List (ℕ × Message)} → head_name view h ≡ Called n → Makes g b c news →
+    inner : {k n : ℕ} {h : Head A} {b c r : Body (Head A)} {news : List (ℕ × Message)} → head_name view h ≡ Some n → Makes g b c news →
         Makes g (part k h b r) (part k h c r) news
     outer : {k : ℕ} {h : Head A} {b c r : Body (Head A)} {news : List (ℕ × Message)} → Makes g r c news → Makes g (part k h b r) (part k h b c) news
 
@@ -278,8 +278,8 @@ module _ {A : Type 0} (view : View A) where
 
 -- In the plain machine: i is c of the name that x says, if it says one.
 abbrev Is : (c : Message → Message) → Named → Message → Type 0
-Is c (Called n) i = i ≡ c (name n)
-Is c Nameless i = Unit {0}
+Is c (Some n) i = i ≡ c (name n)
+Is c None i = Unit {0}
 
 is_name : (c : Message → Message) (m : Message) → Is c (name_of m) (c m)
 unfolding name_of
@@ -291,10 +291,10 @@ is_name c (opens m) = tt
 is_name c empty_message = tt
 is_name c (path m k) = tt
 
-pub name_of-inv : (m : Message) (n : ℕ) → name_of m ≡ Called n → m ≡ name n
+pub name_of-inv : (m : Message) (n : ℕ) → name_of m ≡ Some n → m ≡ name n
 name_of-inv m n e = subst (λ (x : Named). Is (λ k. k) x m) e (is_name (λ k. k) m)
 
-pub plain-name : (h : Head (List Message)) (n : ℕ) → head_name plain h ≡ Called n → h ≡ ambient (name n)
+pub plain-name : (h : Head (List Message)) (n : ℕ) → head_name plain h ≡ Some n → h ≡ ambient (name n)
 plain-name h n e = let x = head_name-inv plain h n e in x.1 ∙ ap ambient (name_of-inv x.0 n x.2)
 
 -- i is an item that asks what x says
@@ -334,13 +334,13 @@ First-is c n h = (is : List Message) × (h ≡ action (c (name n) ∷ is))
 first-is : (c : Message → Message) (n : ℕ) (h : Head (List Message)) (i : Message) (is : List Message) → h ≡ action (i ∷ is) → i ≡ c (name n) → First-is c n h
 first-is c n h i is e f = (is, e ∙ ap (λ (j : Message). action (j ∷ is)) f)
 
-pub plain-enter : (h : Head (List Message)) (n : ℕ) → first_of plain h ≡ Enter (Called n) → First-is enter n h
+pub plain-enter : (h : Head (List Message)) (n : ℕ) → first_of plain h ≡ Enter (Some n) → First-is enter n h
 plain-enter h n e = let (i, is, q, w) = begins h _ e (λ z. let w : ◌≡◌ {A = ℕ} 0 1 = cc in omega arith) in first-is enter n h i is q w
 
-pub plain-exit : (h : Head (List Message)) (n : ℕ) → first_of plain h ≡ Exit (Called n) → First-is exit n h
+pub plain-exit : (h : Head (List Message)) (n : ℕ) → first_of plain h ≡ Exit (Some n) → First-is exit n h
 plain-exit h n e = let (i, is, q, w) = begins h _ e (λ z. let w : ◌≡◌ {A = ℕ} 0 1 = cc in omega arith) in first-is exit n h i is q w
 
-pub plain-open : (h : Head (List Message)) (n : ℕ) → first_of plain h ≡ Open (Called n) → First-is opens n h
+pub plain-open : (h : Head (List Message)) (n : ℕ) → first_of plain h ≡ Open (Some n) → First-is opens n h
 plain-open h n e = let (i, is, q, w) = begins h _ e (λ z. let w : ◌≡◌ {A = ℕ} 0 1 = cc in omega arith) in first-is opens n h i is q w
 
 settled-inv : (x : Option (MoveMade (List Message))) (m : MoveMade (List Message)) → settled_by x ≡ some m → (l : MoveMade (List Message)) × (x ≡ some l) × ((m.body ≡ settle l.body) × (m.news ≡ l.news))

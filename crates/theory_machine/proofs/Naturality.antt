@@ -9,8 +9,8 @@ use mathlib.Core.Option
 use mathlib.Core.Option.{Option, some, or_else}
 use lib.Dec.{eqb, ltb}
 use Rattle.read_messages.specs.Message.{Message}
-use Rattle.read_messages.specs.declared.Named.{Named}
-use Rattle.read_messages.specs.declared.Named.TheVariants.{Called, Nameless}
+use Rattle.read_messages.specs.Message.{Named}
+use Rattle.std.specs.Prelude.{Some, None}
 use Rattle.read_scripts.specs.Tree.{Head, ambient, action, receipt, output, is_ambient, Body, close, part, put, merge_parts, map_heads, settle_by}
 use Rattle.theory_machine.specs.Bodies.{check, find_part, remove_part, alter, holder}
 use Rattle.theory_machine.specs.Moves.{View, is_named, same_name, to_enter, to_exit, to_open, MoveMade, variable_of, message_of, quiet, onward, head_name, first_of, spent_head, spend, enter_move, exit_move, open_move, receive_move, move_here, inside, anywhere}
@@ -85,8 +85,8 @@ settle-map F p q e g (part i h b r) = rw (e h, g h, settle-map F p q e g b, sett
 
 -- names changed by ρ
 abbrev pub renamed : (ℕ → ℕ) → Named → Named
-renamed ρ (Called n) = Called (ρ n)
-renamed ρ Nameless = Nameless
+renamed ρ (Some n) = Some (ρ n)
+renamed ρ None = None
 
 abbrev pub asked : (ℕ → ℕ) → First → First
 asked ρ Nothing = Nothing
@@ -97,8 +97,8 @@ asked ρ Other = Other
 
 is_named-map : (ρ : ℕ → ℕ) (x : Named) → is_named (renamed ρ x) ≡ is_named x
 unfolding is_named
-is_named-map ρ (Called n) = refl
-is_named-map ρ Nameless = refl
+is_named-map ρ (Some n) = refl
+is_named-map ρ None = refl
 
 to_enter-map : (ρ : ℕ → ℕ) (x : First) → to_enter (asked ρ x) ≡ renamed ρ (to_enter x)
 unfolding to_enter
@@ -130,9 +130,9 @@ NamesApart ρ = (m n : ℕ) → eqb (ρ m) (ρ n) ≡ eqb m n
 
 same_name-map : (ρ : ℕ → ℕ) → NamesApart ρ → (x y : Named) → same_name (renamed ρ x) (renamed ρ y) ≡ same_name x y
 unfolding same_name
-same_name-map ρ i (Called n) (Called m) = i m n
-same_name-map ρ i (Called n) Nameless = refl
-same_name-map ρ i Nameless y = refl
+same_name-map ρ i (Some n) (Some m) = i m n
+same_name-map ρ i (Some n) None = refl
+same_name-map ρ i None y = refl
 
 -- the heads with other messages and other actions
 module _ {A B : Type 0} (on_action : A → B) (on_message : Message → Message) where
@@ -171,8 +171,8 @@ pub record Translates {A B : Type 0} (old : View A) (new : View B) (on_action : 
   pub spent : (a : A) → new.spent (on_action a) ≡ on_action (old.spent a)
 
 pub renamed-same : (x : Named) → x ≡ renamed (λ n. n) x
-renamed-same (Called n) = refl
-renamed-same Nameless = refl
+renamed-same (Some n) = refl
+renamed-same None = refl
 
 pub asked-same : (x : First) → x ≡ asked (λ n. n) x
 asked-same Nothing = refl
@@ -276,9 +276,9 @@ pub record Searches {A B : Type 0} (old : View A) (new : View B) (F : Head A →
     (g : Body (Head A) → Option (MoveMade A)) (k : Body (Head B) → Option (MoveMade B)) : Type 0 where
   pub names : (h : Head A) → is_named (head_name new (F h)) ≡ is_named (head_name old h)
   pub agree : (b : Body (Head A)) → Good b → k (map_heads F b) ≡ Option.map K (g b)
-  pub good-inside : (i n : ℕ) (h : Head A) (b r : Body (Head A)) → head_name old h ≡ Called n → Good (part i h b r) → Good b
+  pub good-inside : (i n : ℕ) (h : Head A) (b r : Body (Head A)) → head_name old h ≡ Some n → Good (part i h b r) → Good b
   pub good-rest : (i : ℕ) (h : Head A) (b r : Body (Head A)) → Good (part i h b r) → Good r
-  pub around : (i n : ℕ) (h : Head A) (b r : Body (Head A)) (m : MoveMade A) → head_name old h ≡ Called n → Good (part i h b r) → Makes old g b m.body m.news →
+  pub around : (i n : ℕ) (h : Head A) (b r : Body (Head A)) (m : MoveMade A) → head_name old h ≡ Some n → Good (part i h b r) → Makes old g b m.body m.news →
       record { body = part i (F h) (K m).body (map_heads F r); news = (K m).news } ≡ K (record { body = part i h m.body r; news = m.news })
   pub beside : (i : ℕ) (h : Head A) (b r : Body (Head A)) (m : MoveMade A) → Good (part i h b r) → Makes old g r m.body m.news →
       record { body = part i (F h) (map_heads F b) (K m).body; news = (K m).news } ≡ K (record { body = part i h b m.body; news = m.news })

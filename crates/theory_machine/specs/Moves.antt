@@ -1,10 +1,9 @@
 -- The moves (document 01, "The plain machine"), over any way of holding actions: the plain machine, which holds their
 -- items, and the closures, which hold an offset into a message, are two instances. Assumes nothing: these are definitions.
-use Rattle.std.specs.Prelude.{ℕ, Bool, true, false, not, ◌&&◌, cond, List, [], ◌∷◌, eqb}
+use Rattle.std.specs.Prelude.{ℕ, Bool, true, false, not, ◌&&◌, cond, List, [], ◌∷◌, eqb, Some, None}
 use Rattle.std.proofs.Math.Option.{Option, none, some, or_else}
 use Rattle.read_messages.specs.Message.{Message}
-use Rattle.read_messages.specs.declared.Named.{Named}
-use Rattle.read_messages.specs.declared.Named.TheVariants.{Called, Nameless}
+use Rattle.read_messages.specs.Message.{Named}
 use Rattle.read_scripts.specs.Tree.{Head, ambient, action, receipt, output, Body, close, part, put, merge_parts}
 use Rattle.theory_machine.specs.Bodies.{◌>>=◌, check, find_part, remove_part, alter, holder}
 use Rattle.read_messages.specs.declared.First.{First}
@@ -19,39 +18,39 @@ pub record View (A : Type 0) : Type 0 where
 
 -- whether there is a name
 unfoldable pub is_named : Named → Bool
-is_named (Called n) = true
-is_named Nameless = false
+is_named (Some n) = true
+is_named None = false
 
 abbrev pub is_that : ℕ → Named → Bool
-is_that n (Called m) = eqb m n
-is_that n Nameless = false
+is_that n (Some m) = eqb m n
+is_that n None = false
 
 -- whether both are names, and the same
 unfoldable pub same_name : Named → Named → Bool
-same_name (Called n) y = is_that n y
-same_name Nameless y = false
+same_name (Some n) y = is_that n y
+same_name None y = false
 
 -- "an ACT whose first item is IN, EXIT or OPEN of a name m": m, of the one asked for
 unfoldable pub to_enter : First → Named
-to_enter Nothing = Nameless
+to_enter Nothing = None
 to_enter (Enter n) = n
-to_enter (Exit n) = Nameless
-to_enter (Open n) = Nameless
-to_enter Other = Nameless
+to_enter (Exit n) = None
+to_enter (Open n) = None
+to_enter Other = None
 
 unfoldable pub to_exit : First → Named
-to_exit Nothing = Nameless
-to_exit (Enter n) = Nameless
+to_exit Nothing = None
+to_exit (Enter n) = None
 to_exit (Exit n) = n
-to_exit (Open n) = Nameless
-to_exit Other = Nameless
+to_exit (Open n) = None
+to_exit Other = None
 
 unfoldable pub to_open : First → Named
-to_open Nothing = Nameless
-to_open (Enter n) = Nameless
-to_open (Exit n) = Nameless
+to_open Nothing = None
+to_open (Enter n) = None
+to_open (Exit n) = None
 to_open (Open n) = n
-to_open Other = Nameless
+to_open Other = None
 
 -- what a move comes to: the new body, and the variable and message of the receipt that it made, if it made one
 pub record MoveMade (A : Type 0) : Type 0 where
@@ -84,9 +83,9 @@ module _ {A : Type 0} (view : View A) where
   -- the name of a part: only ambients have one
   unfoldable pub head_name : Head A → Named
   head_name (ambient m) = view.named m
-  head_name (action a) = Nameless
-  head_name (receipt v) = Nameless
-  head_name (output m) = Nameless
+  head_name (action a) = None
+  head_name (receipt v) = None
+  head_name (output m) = None
 
   unfoldable pub first_of : Head A → First
   first_of (ambient m) = Nothing

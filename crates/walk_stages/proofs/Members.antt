@@ -10,7 +10,7 @@ use lib.ListN.{get_or}
 use borrow.Author.Tests.{lt-ltb, le-ltb}
 use Rattle.read_messages.specs.Words.{kind, operand}
 use Rattle.read_messages.specs.Message.{name}
-use Rattle.read_messages.specs.declared.Named.TheVariants.{Called}
+use Rattle.std.specs.Prelude.{Some}
 use Rattle.base_sets.specs.Sets.{members, head_or, is_one, but}
 use Rattle.base_sets.proofs.Lists.{one-is}
 use Rattle.base_sets.proofs.Members.{first_below}
@@ -201,14 +201,14 @@ module _ (program script sets numbers choices : List ℕ) (top somes left index 
 
   -- one part, which is asked for its name
   module _ (one : is_one (members top) ≡ true) (i : ℕ) (first : i ≡ head_or 64 (members top)) (small : somes ≤ 8) (said : ℕ) (en : said ≡ name_said choices (term_of (operand (get_or program index 0))))
-      (called : Bool) (ec : i < 64 → called ≡ same_name (Called said) (name_in (get_or sets 129 0) (stretch 192 64 numbers) i)) where
+      (called : Bool) (ec : i < 64 → called ≡ same_name (Some said) (name_in (get_or sets 129 0) (stretch 192 64 numbers) i)) where
     at_told : (X : Here) → Said X.words (indices X.names) index (term_of (operand (get_or X.words index 0)))
         → (i < 64) × ((d : Closure) × Room k w X.tree i d × (only (bound_in script state) (term_name X.names (term_of (operand (get_or X.words index 0)))) X.tree ≡ cond called (some (here script sets numbers top d)) none))
     at_told X s =
         let n = name-is X small said en s in
         let (low, (d, room, o)) = at_one script (kinds_in numbers) (starts_in numbers) X.weight X.spent state X.tree (stretch 0 65 sets) top refl (length-stretch 0 65 sets) X.stage.represents X.stage.ready (few X) (term_name X.names (term_of (operand (get_or X.words index 0)))) i one first in
-        let same : same_name (Called (term_name X.names (term_of (operand (get_or X.words index 0))))) (name_in (get_or sets 129 0) (stretch 192 64 numbers) i) ≡ called =
-        ap (λ (x : ℕ). same_name (Called x) (name_in (get_or sets 129 0) (stretch 192 64 numbers) i)) (sym n.0) ∙ sym (ec low) in
+        let same : same_name (Some (term_name X.names (term_of (operand (get_or X.words index 0))))) (name_in (get_or sets 129 0) (stretch 192 64 numbers) i) ≡ called =
+        ap (λ (x : ℕ). same_name (Some x) (name_in (get_or sets 129 0) (stretch 192 64 numbers) i)) (sym n.0) ∙ sym (ec low) in
         (low, (d, room, o ∙ ap (λ (x : Bool). cond x (some (here script sets numbers top d)) none) same))
 
     pub at_other : called ≡ false → Looks program script sets numbers choices top somes left index limits c (No c) 4

@@ -9,7 +9,7 @@ use lib.Dec.{eqb}
 use lib.ListN.{get_or, set, length}
 use lib.Seq.{get_or-set_same, get_or-set_other}
 use borrow.Author.Tests.{eqb-true, eqb-false}
-use Rattle.read_messages.specs.declared.Named.TheVariants.{Called}
+use Rattle.std.specs.Prelude.{Some}
 use Rattle.base_sets.specs.Sets.{members, elem}
 use Rattle.theory_machine.specs.Moves.{same_name}
 use Rattle.base_slices.proofs.Tests.{by_test}
@@ -21,11 +21,11 @@ use Rattle.walk_states.specs.declared.Step.TheVariants.{Move, Place}
 
 -- a part's name, by the lent numbers
 module _ (named : ℕ) (numbers : List ℕ) (i n : ℕ) where
-  pub called-named : elem i (members named) ≡ true → i < 64 → eqb (get_or numbers (192 + i) 0) n ≡ same_name (Called n) (name_in named (stretch 192 64 numbers) i)
+  pub called-named : elem i (members named) ≡ true → i < 64 → eqb (get_or numbers (192 + i) 0) n ≡ same_name (Some n) (name_in named (stretch 192 64 numbers) i)
   unfolding name_in same_name
   called-named e h = rw e (ap (λ (x : ℕ). eqb x n) (sym (get_or-stretch 192 64 i numbers h)))
 
-  pub called-none : elem i (members named) ≡ false → false ≡ same_name (Called n) (name_in named (stretch 192 64 numbers) i)
+  pub called-none : elem i (members named) ≡ false → false ≡ same_name (Some n) (name_in named (stretch 192 64 numbers) i)
   unfolding name_in same_name
   called-none e = rw e
 

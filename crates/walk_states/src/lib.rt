@@ -2,9 +2,8 @@
 // being lent as two arrays and made only where a move or PLACED changes it.
 #![tactic(auto)]
 
-ghost use Rattle.std.specs.Prelude.{◌≡◌, ℕ, ◌+◌, ◌-◌, ◌≤◌, ◌<◌, length, get_or};
+ghost use Rattle.std.specs.Prelude.{◌≡◌, ℕ, ◌+◌, ◌-◌, ◌≤◌, ◌<◌, length, get_or, Some};
 ghost use Rattle.read_messages.specs.Message.{name as called};
-ghost use Rattle.read_messages.specs.declared.Named.TheVariants.{Called};
 ghost use Rattle.base_sets.specs.Sets.{members};
 ghost use Rattle.read_scripts.specs.Tree.{ambient, close, part, times_in};
 ghost use Rattle.read_scripts.specs.Represents.{body_in};
@@ -62,7 +61,7 @@ pub enum Step {
 
 // Whether the part i is an ambient of that name.
 pub fn is_called<'a>(sets: &'a [u64; 131], numbers: &'a [u32; 481], i: usize, name: u32) -> bool
-    ensures { i < 64 → result ≡ same_name (Called name) (name_in (get_or sets.now 129 0) (stretch 192 64 numbers.now) i) }
+    ensures { i < 64 → result ≡ same_name (Some name) (name_in (get_or sets.now 129 0) (stretch 192 64 numbers.now) i) }
 {
     if 64 <= i {
         return false;
