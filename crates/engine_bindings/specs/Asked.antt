@@ -1,5 +1,5 @@
 -- What the passes over words ask of what they are lent. Assumes nothing: these are definitions.
-use Rattle.std.specs.Prelude.{ℕ, ◌+◌, ◌^◌, ◌<◌, List, ◌≡◌, length}
+use Rattle.std.specs.Prelude.{ℕ, ◌+◌, ◌^◌, ◌<◌, List, length}
 
 -- where a pass over the items of the first `pending` messages of the words is to step behind the first word's own items
 pub record AfterOwnAsked (words : List ℕ) (pending : ℕ) : Type 0 where
@@ -7,10 +7,3 @@ pub record AfterOwnAsked (words : List ℕ) (pending : ℕ) : Type 0 where
   pub some : 0 < pending
   -- the messages and the words can be counted together
   pub room : pending + length words < 2 ^ 64
-
--- where the first `pending` messages of the words are to be counted, by the value that is kept with each binding
-pub record CountAsked (words : List ℕ) (pending : ℕ) (variables values : List ℕ) : Type 0 where
-  -- the messages and the words can be counted together
-  pub room : pending + length words < 2 ^ 64
-  -- there is one value for each variable
-  pub aligned : length values ≡ length variables

@@ -1,21 +1,24 @@
 // Messages under bindings, read from the script's words. A binding says that a receipt was given the message at a word
-// of the script. Bindings are lent newest first, in slices: the variables, the indices of the messages' first words,
-// and the number of items that was counted of each message when it was bound. What is older than a binding is the tail
-// behind it. Each operation is one pass over words, since a variable's count is at hand; counts stop at 2^32 - 1.
+// of the script. Bindings are lent in one slice, newest first; each comes with what was counted of its message when it was
+// bound, as the number of its items. The older bindings are those behind it. Each operation is one pass over words, since
+// a variable's count is at hand; counts stop at 2^32 - 1.
 #![tactic(auto)]
 
-ghost use Rattle.std.specs.Prelude.{◌≡◌, ℕ, ◌+◌, ◌-◌, ◌<◌, ◌^◌, List, length, drop};
+ghost use Rattle.std.specs.Prelude.{◌≡◌, ℕ, ◌+◌, ◌<◌, ◌^◌, List, length, drop};
 ghost use Rattle.read_messages.specs.Message.{items, name_of};
 ghost use Rattle.read_messages.specs.Spelling.{spelled, message_at};
 ghost use Rattle.theory_closures.specs.Resolve.{resolve};
 ghost use Rattle.engine_bindings.specs.Bindings.{bindings_in, message_of};
 ghost use Rattle.base_slices.specs.Sums.{capped};
-ghost use Rattle.engine_bindings.specs.Measures.{item_count, Kept};
+ghost use Rattle.engine_bindings.specs.Measures.{Counted};
 ghost use Rattle.engine_bindings.specs.Passes.{firsts, all_items, own_items, Skipped, Passed};
-ghost use Rattle.engine_bindings.specs.Asked.{AfterOwnAsked, CountAsked};
+ghost use Rattle.engine_bindings.specs.Asked.{AfterOwnAsked};
 
 use base_slices::{sum, tail, wide};
-use engine_message_words::{arity, bound, first_word, given, plain_name, shape_of};
+use engine_message_words::{Binding, arity, bound, first_word, given, plain_name, shape_of};
+
+// From here on a part's start is no word of the script: the rest is a name that the part was given directly.
+const FIRST_NAME: u32 = 65536;
 
 // Where a pass stands behind a word's own items: the words used, and the messages still pending.
 #[derive(Drop)]
@@ -25,32 +28,24 @@ pub struct Behind {
 }
 
 // The name that the message at the first of the words is, after the bindings.
-pub fn name_of(script: &[u32], words: &[u32], variables: &[u32], sources: &[u32]) -> Option<u32>
-    requires { length sources.now ≡ length variables.now }
-    ensures { result ≡ name_of (resolve (bindings_in script.now variables.now sources.now) (message_at words.now)) }
+pub fn name_of(script: &[u32], words: &[u32], bindings: &[Binding]) -> Option<u32>
+    ensures { result ≡ name_of (resolve (bindings_in script.now bindings.now) (message_at words.now)) }
 {
     let m = first_word(words);
-    let k = bound(m, variables);
-    if k < variables.len() {
-        return name_of(
-            script,
-            given(script, sources, k),
-            tail(variables, k + 1),
-            tail(sources, k + 1),
-        );
+    match bound(m, bindings) {
+        Some(k) => name_of(script, given(script, bindings, k), &bindings[k + 1..]),
+        None => plain_name(m),
     }
-    plain_name(m)
 }
 
 // The name that a part's message is, after the bindings: the message at a word of the script, or a name given directly.
-pub fn name_at(script: &[u32], start: u32, variables: &[u32], sources: &[u32]) -> Option<u32>
-    requires { length sources.now ≡ length variables.now }
-    ensures { result ≡ name_of (resolve (bindings_in script.now variables.now sources.now) (message_of script.now start)) }
+pub fn name_at(script: &[u32], start: u32, bindings: &[Binding]) -> Option<u32>
+    ensures { result ≡ name_of (resolve (bindings_in script.now bindings.now) (message_of script.now start)) }
 {
-    if start < 65536 {
-        return name_of(script, tail(script, wide(start)), variables, sources);
+    if start < FIRST_NAME {
+        return name_of(script, tail(script, wide(start)), bindings);
     }
-    Some(start - 65536)
+    Some(start - FIRST_NAME)
 }
 
 // How many words the first `pending` messages of the words have.
@@ -69,17 +64,14 @@ fn skip(words: &[u32], pending: usize) -> usize
 }
 
 // The number of items that the first of the words has of its own.
-pub fn own(words: &[u32], variables: &[u32], counts: &[u32]) -> u32
-    requires { length counts.now ≡ length variables.now }
-    ensures { (script sources : List ℕ) → Kept item_count script variables.now sources counts.now → result ≡ capped (length (own_items (bindings_in script variables.now sources) words.now)) }
+pub fn own(words: &[u32], bindings: &[Binding]) -> u32
+    ensures { (script : List ℕ) → Counted script bindings.now → result ≡ capped (length (own_items (bindings_in script bindings.now) words.now)) }
 {
     let m = first_word(words);
-    let k = bound(m, variables);
-    if k < variables.len() {
-        return counts[k];
+    match bound(m, bindings) {
+        Some(k) => bindings[k].count,
+        None => shape_of(m).items,
     }
-    let s = shape_of(m);
-    s.items
 }
 
 // Where a pass over the items of the first `pending` messages stands behind the first word's own items.
@@ -97,30 +89,24 @@ pub fn after_own(words: &[u32], pending: usize) -> Behind
 }
 
 // The number of items of the first `pending` messages of the words, after the bindings.
-fn count_from(words: &[u32], pending: usize, variables: &[u32], counts: &[u32]) -> u32
-    requires { CountAsked words.now pending variables.now counts.now }
-    ensures { (script sources : List ℕ) → Kept item_count script variables.now sources counts.now → result ≡ capped (length (all_items (bindings_in script variables.now sources) (firsts pending (spelled words.now)))) }
+fn count_from(words: &[u32], pending: usize, bindings: &[Binding]) -> u32
+    requires { pending + length words.now < 2 ^ 64 }
+    ensures { (script : List ℕ) → Counted script bindings.now → result ≡ capped (length (all_items (bindings_in script bindings.now) (firsts pending (spelled words.now)))) }
 {
     if pending == 0 {
         return 0;
     }
-    let o = own(words, variables, counts);
     let b = after_own(words, pending);
-    let used = b.used;
-    let left = b.left;
-    sum(o, count_from(tail(words, used), left, variables, counts))
+    sum(
+        own(words, bindings),
+        count_from(tail(words, b.used), b.left, bindings),
+    )
 }
 
 // The number of items of the message at a word of the script, after the bindings.
-pub fn item_count(
-    script: &[u32],
-    at: usize,
-    variables: &[u32],
-    sources: &[u32],
-    counts: &[u32],
-) -> u32
-    requires { Kept item_count script.now variables.now sources.now counts.now }
-    ensures { result ≡ capped (length (items (resolve (bindings_in script.now variables.now sources.now) (message_at (drop at script.now))))) }
+pub fn item_count(script: &[u32], at: usize, bindings: &[Binding]) -> u32
+    requires { Counted script.now bindings.now }
+    ensures { result ≡ capped (length (items (resolve (bindings_in script.now bindings.now) (message_at (drop at script.now))))) }
 {
-    count_from(tail(script, at), 1, variables, counts)
+    count_from(tail(script, at), 1, bindings)
 }

@@ -1,2 +1,1 @@
--- The laws of `engine_first_items`. Assumes nothing.
-mod Searching
+-- The laws.

@@ -1,2 +1,1 @@
--- The laws of `engine_held_bindings` that its own proofs cite.
-pub mod Sizing
+-- The laws.

@@ -5,8 +5,9 @@ use Rattle.read_messages.specs.Message.{Message, name, variable, enter, exit, op
 use Rattle.read_messages.specs.declared.MessageWord.{MessageWord}
 use Rattle.read_messages.specs.declared.MessageWord.TheVariants.{Name, Variable, Enter, Exit, Open, Empty, Path, Unfit}
 use Rattle.theory_closures.specs.Resolve.{resolve}
+use Rattle.engine_message_words.specs.declared.Binding.{Binding}
 use Rattle.engine_bindings.specs.Bindings.{bindings_in}
-use Rattle.engine_bindings.specs.Measures.{item_count, Kept}
+use Rattle.engine_bindings.specs.Measures.{Kept, Counted}
 use Rattle.engine_bindings.specs.Passes.{own_items}
 
 -- the number of words that a message is written with
@@ -53,33 +54,37 @@ own_size σ Empty = 1
 own_size σ Path = 1
 own_size σ Unfit = 1
 
+-- the number of words is kept with each binding
+abbrev pub Sized : (script : List ℕ) → List Binding → Type 0
+Sized script bs = Kept message_size (λ (b : Binding). b.size) script bs
+
 -- the three counts that are kept with the bindings are right
-pub record Cached (script variables sources counts sizes bulks : List ℕ) : Type 0 where
-  pub counted : Kept item_count script variables sources counts
-  pub sized : Kept message_size script variables sources sizes
-  pub bulked : Kept item_bulk script variables sources bulks
+pub record Cached (script : List ℕ) (bindings : List Binding) : Type 0 where
+  pub counted : Counted script bindings
+  pub sized : Sized script bindings
+  pub bulked : Kept item_bulk (λ (b : Binding). b.bulk) script bindings
 
 -- what is asked where the bulk of the items that a word has of its own is counted from an offset on
-pub record OwnAsked (script words : List ℕ) (offset : ℕ) (variables sources counts sizes bulks : List ℕ) : Type 0 where
+pub record OwnAsked (script words : List ℕ) (offset : ℕ) (bindings : List Binding) : Type 0 where
   -- what is kept with the bindings is right
-  pub cached : Cached script variables sources counts sizes bulks
+  pub cached : Cached script bindings
   -- the offset is no count that stopped
   pub below : offset < 4294967295
   -- the word has an item there
-  pub within : offset < length (own_items (bindings_in script variables sources) words)
+  pub within : offset < length (own_items (bindings_in script bindings) words)
 
 -- and where it is that of the items of the messages that are pending
-pub record PendingAsked (script words : List ℕ) (pending offset : ℕ) (variables sources counts sizes bulks : List ℕ) : Type 0 where
+pub record PendingAsked (script words : List ℕ) (pending offset : ℕ) (bindings : List Binding) : Type 0 where
   -- the messages and the words can be counted together
   pub room : pending + length words < 2 ^ 64
   -- what is kept with the bindings is right
-  pub cached : Cached script variables sources counts sizes bulks
+  pub cached : Cached script bindings
   -- the offset is no count that stopped
   pub below : offset < 4294967295
 
--- and where the words are counted that an action's items from an offset on are written with
-pub record ItemWordsAsked (script : List ℕ) (offset : ℕ) (variables sources counts sizes bulks : List ℕ) : Type 0 where
+-- and where it is that of a message's items, or the words are counted that these are written with
+pub record ItemWordsAsked (script : List ℕ) (offset : ℕ) (bindings : List Binding) : Type 0 where
   -- what is kept with the bindings is right
-  pub cached : Cached script variables sources counts sizes bulks
+  pub cached : Cached script bindings
   -- the offset is no count that stopped
   pub below : offset < 4294967295

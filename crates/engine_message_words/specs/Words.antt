@@ -1,12 +1,13 @@
 -- The first word of a message: how it begins the message, what it is by itself, and where it is bound. Words that end too
 -- early are read as if EMPTY stood behind them, as they are spelled. Assumes nothing: these are definitions.
-use Rattle.std.specs.Prelude.{ℕ, suc, ◌+◌, cond, List, [], ◌∷◌, eqb, length, Some, None}
+use Rattle.std.specs.Prelude.{ℕ, ◌+◌, List, [], ◌∷◌, ◌==◌, get_or, position, Option, Some, None}
 use Rattle.read_messages.specs.ReadMessage.{message_word}
 use Rattle.read_messages.specs.declared.MessageWord.{MessageWord}
 use Rattle.read_messages.specs.declared.MessageWord.TheVariants.{Name, Variable, Enter, Exit, Open, Empty, Path, Unfit}
 use Rattle.read_messages.specs.Message.{Named}
 use Rattle.read_messages.specs.declared.First.{First}
 use Rattle.read_messages.specs.declared.First.TheVariants.{Enter as AskEnter, Exit as AskExit, Open as AskOpen, Other}
+use Rattle.engine_message_words.specs.declared.Binding.{Binding}
 use Rattle.engine_message_words.specs.declared.Shape.{Shape}
 
 -- the first of the words
@@ -33,21 +34,24 @@ shape_of Unfit = shape_with 0 0 0
 abbrev pub arity_of : MessageWord → ℕ
 arity_of m = (shape_of m).closed + (shape_of m).opened
 
--- the index of the newest binding of a variable, or the number of bindings
-unfoldable pub newest_binding : List ℕ → ℕ → ℕ
-newest_binding [] u = 0
-newest_binding (v ∷ vs) u = cond (eqb u v) 0 (suc (newest_binding vs u))
+-- the binding at that index, and past the end one of zeros
+abbrev pub binding_at : List Binding → ℕ → Binding
+binding_at bs k = get_or bs k (record { variable = 0; source = 0; count = 0; size = 0; bulk = 0 })
 
--- the index of the newest binding of a word that is a variable; of other words the number of bindings
-unfoldable pub bound_at : MessageWord → List ℕ → ℕ
-bound_at (Name n) vs = length vs
-bound_at (Variable v) vs = newest_binding vs v
-bound_at Enter vs = length vs
-bound_at Exit vs = length vs
-bound_at Open vs = length vs
-bound_at Empty vs = length vs
-bound_at Path vs = length vs
-bound_at Unfit vs = length vs
+-- the index of the newest binding of a variable, if it has one
+unfoldable pub newest_binding : List Binding → ℕ → Option ℕ
+newest_binding bs v = position (λ (b : Binding). b.variable == v) bs
+
+-- the index of the newest binding of a word, if it is a variable that has one
+unfoldable pub bound_at : MessageWord → List Binding → Option ℕ
+bound_at (Name n) bs = None
+bound_at (Variable v) bs = newest_binding bs v
+bound_at Enter bs = None
+bound_at Exit bs = None
+bound_at Open bs = None
+bound_at Empty bs = None
+bound_at Path bs = None
+bound_at Unfit bs = None
 
 -- the name that a message is whose first word is no variable with a binding
 unfoldable pub plain_name : MessageWord → Named

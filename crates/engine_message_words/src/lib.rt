@@ -1,12 +1,24 @@
 // The first word of a message: how it begins the message, what it is by itself, and which binding it has where it is a
-// variable. Bindings are lent newest first, in slices: the variables, and the indices of the messages' first words.
+// variable. Bindings are lent in one slice, newest first.
 #![tactic(auto)]
 
-ghost use Rattle.std.specs.Prelude.{◌≡◌, ◌<◌, length, drop, get_or};
-ghost use Rattle.engine_message_words.specs.Words.{newest_binding, first_word, shape_with, shape_of, arity_of, bound_at, plain_name, plain_item};
+ghost use Rattle.std.specs.Prelude.{◌≡◌, ◌<◌, IfSome, length, drop};
+ghost use Rattle.engine_message_words.specs.Words.{newest_binding, binding_at, first_word, shape_with, shape_of, arity_of, bound_at, plain_name, plain_item};
 
 use base_slices::{tail, wide};
 use read_messages::{First, MessageWord, message_word};
+
+// A binding: the variable of a receipt, the index in the script of the first word of the message that it was given, and what
+// was counted of that message when it was bound: its items, the words that it is written with, and the words of its items
+// with one PATH each.
+#[derive(Clone, Copy)]
+pub struct Binding {
+    pub variable: u32,
+    pub source: u32,
+    pub count: u32,
+    pub size: u32,
+    pub bulk: u32,
+}
 
 // How a word begins a message: the items that it is of its own, the messages behind it that are closed in such an item,
 // and those that stand open.
@@ -18,6 +30,7 @@ pub struct Shape {
 }
 
 // The first of the words; where there is none, EMPTY.
+#[tactic(auto, unfolding(crate::specs::Words::first_word))]
 pub fn first_word(words: &[u32]) -> MessageWord
     ensures { result ≡ first_word words.now }
 {
@@ -39,22 +52,20 @@ fn shaped(items: u32, closed: usize, opened: usize) -> Shape
 }
 
 // How the word begins a message.
+#[tactic(auto, unfolding(crate::specs::Words::shape_of))]
 pub fn shape_of(m: MessageWord) -> Shape
     ensures { result ≡ shape_of m }
 {
     match m {
-        MessageWord::Name(_) => shaped(1, 0, 0),
-        MessageWord::Variable(_) => shaped(1, 0, 0),
-        MessageWord::Enter => shaped(1, 1, 0),
-        MessageWord::Exit => shaped(1, 1, 0),
-        MessageWord::Open => shaped(1, 1, 0),
-        MessageWord::Empty => shaped(0, 0, 0),
+        MessageWord::Name(_) | MessageWord::Variable(_) => shaped(1, 0, 0),
+        MessageWord::Enter | MessageWord::Exit | MessageWord::Open => shaped(1, 1, 0),
         MessageWord::Path => shaped(0, 0, 2),
-        MessageWord::Unfit => shaped(0, 0, 0),
+        MessageWord::Empty | MessageWord::Unfit => shaped(0, 0, 0),
     }
 }
 
 // How many messages stand in a message that begins with this word.
+#[tactic(auto, unfolding(crate::specs::Words::shape_of))]
 pub fn arity(m: MessageWord) -> usize
     ensures { result ≡ arity_of m }
 {
@@ -63,73 +74,55 @@ pub fn arity(m: MessageWord) -> usize
 }
 
 // The name that a message is which begins with this word, no variable with a binding.
+#[tactic(auto, unfolding(crate::specs::Words::plain_name))]
 pub fn plain_name(m: MessageWord) -> Option<u32>
     ensures { result ≡ plain_name m }
 {
     match m {
         MessageWord::Name(n) => Some(n),
-        MessageWord::Variable(_) => None,
-        MessageWord::Enter => None,
-        MessageWord::Exit => None,
-        MessageWord::Open => None,
-        MessageWord::Empty => None,
-        MessageWord::Path => None,
-        MessageWord::Unfit => None,
+        _ => None,
     }
 }
 
 // The first item that a word is, no variable with a binding; inside is the name that the message behind it is, for which
 // IN, EXIT and OPEN ask.
+#[tactic(auto, unfolding(crate::specs::Words::plain_item))]
 pub fn plain_item(m: MessageWord, inside: Option<u32>) -> First
     ensures { result ≡ plain_item m inside }
 {
     match m {
-        MessageWord::Name(_) => First::Other,
-        MessageWord::Variable(_) => First::Other,
         MessageWord::Enter => First::Enter(inside),
         MessageWord::Exit => First::Exit(inside),
         MessageWord::Open => First::Open(inside),
-        MessageWord::Empty => First::Other,
-        MessageWord::Path => First::Other,
-        MessageWord::Unfit => First::Other,
+        _ => First::Other,
     }
 }
 
-// The index of the newest binding of a variable, or the number of bindings.
-pub fn find(variables: &[u32], v: u32) -> usize
-    ensures { result ≡ newest_binding variables.now v }
+// The index of the newest binding of a variable, if it has one.
+#[tactic(auto, unfolding(crate::specs::Words::newest_binding))]
+pub fn find(bindings: &[Binding], v: u32) -> Option<usize>
+    ensures newest { result ≡ newest_binding bindings.now v }
+    ensures within { IfSome result (λ k. k < length bindings.now) }
 {
-    let n = variables.len();
-    let mut i: usize = 0;
-    while i < n {
-        if variables[i] == v {
-            return i;
-        }
-        i += 1;
-    }
-    n
+    bindings.iter().position(|b| b.variable == v)
 }
 
-// The index of the newest binding of a word that is a variable; of other words the number of bindings.
-pub fn bound(m: MessageWord, variables: &[u32]) -> usize
-    ensures { result ≡ bound_at m variables.now }
+// The index of the newest binding of a word, if it is a variable that has one.
+#[tactic(auto, unfolding(crate::specs::Words::bound_at))]
+pub fn bound(m: MessageWord, bindings: &[Binding]) -> Option<usize>
+    ensures newest { result ≡ bound_at m bindings.now }
+    ensures within { IfSome result (λ k. k < length bindings.now) }
 {
     match m {
-        MessageWord::Name(_) => variables.len(),
-        MessageWord::Variable(v) => find(variables, v),
-        MessageWord::Enter => variables.len(),
-        MessageWord::Exit => variables.len(),
-        MessageWord::Open => variables.len(),
-        MessageWord::Empty => variables.len(),
-        MessageWord::Path => variables.len(),
-        MessageWord::Unfit => variables.len(),
+        MessageWord::Variable(v) => find(bindings, v),
+        _ => None,
     }
 }
 
 // The words of the message of the binding at that index.
-pub fn given<'a, 'b>(script: &'a [u32], sources: &'b [u32], k: usize) -> &'a [u32]
-    requires { k < length sources.now }
-    ensures { result.now ≡ drop (get_or sources.now k 0) script.now }
+pub fn given<'a, 'b>(script: &'a [u32], bindings: &'b [Binding], k: usize) -> &'a [u32]
+    requires { k < length bindings.now }
+    ensures { result.now ≡ drop (binding_at bindings.now k).source script.now }
 {
-    tail(script, wide(sources[k]))
+    tail(script, wide(bindings[k].source))
 }
