@@ -12,28 +12,23 @@ pub fn wide(x: u32) -> usize
 }
 
 // The sum, at most 2^32 - 1.
+#[tactic(auto, unfolding(crate::specs::Sums::capped))]
 pub fn sum(a: u32, b: u32) -> u32
     ensures { result ≡ capped (a + b) }
 {
-    if a <= 4294967295 - b {
-        a + b
-    } else {
-        4294967295
-    }
+    a.saturating_add(b)
 }
 
 // The words at the start of a slice, or all of it where there are no more.
 pub fn head(s: &[u32], n: usize) -> &[u32]
     ensures { result.now ≡ take n s.now }
 {
-    let most = s.len();
-    if n <= most { &s[..n] } else { &s[..most] }
+    &s[..n.min(s.len())]
 }
 
 // What stands from an index on, nothing where there is not so much.
 pub fn tail(s: &[u32], at: usize) -> &[u32]
     ensures { result.now ≡ drop at s.now }
 {
-    let n = s.len();
-    if at <= n { &s[at..] } else { &s[n..] }
+    &s[at.min(s.len())..]
 }
