@@ -5,7 +5,7 @@ ghost use Rattle.std.specs.Prelude.{◌≡◌, true, false, ◌<◌, get_or};
 ghost use Rattle.engine_targets.specs.Makes.{Opens, Enters, Exits, Receives, Moves, MakesOrLeaves};
 ghost use Rattle.engine_state_arrays.specs.Lent.{kinds_in, starts_in, own_state, LentReady};
 
-use base_arrays::{put_numbers, put_sets};
+use base_arrays::put;
 use engine_settling::{received, settle, spend};
 use engine_state_arrays::{bodies, from_arrays, to_arrays};
 use engine_targets::{locate, targets};
@@ -77,8 +77,8 @@ fn receive_part<'a, 'b>(
     let l = to_arrays(kinds, starts, s);
     let new_sets = l.sets;
     let new_numbers = l.numbers;
-    put_sets(sets, 0, &new_sets);
-    put_numbers(numbers, 0, &new_numbers);
+    put(sets, 0, &new_sets);
+    put(numbers, 0, &new_numbers);
     settle(sets, numbers)
 }
 

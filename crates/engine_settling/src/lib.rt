@@ -16,7 +16,7 @@ ghost use Rattle.engine_states.specs.Represents.{head_of, bound_in, Counted, Rea
 ghost use Rattle.engine_targets.specs.Makes.{Received};
 ghost use Rattle.engine_state_arrays.specs.Lent.{kinds_in, starts_in, bindings_at, own_state, LentReady};
 
-use base_arrays::{numbers_32, numbers_64};
+use base_arrays::stretch;
 use base_slices::{tail, wide};
 use engine_held_bindings::{bind, none};
 use engine_state_arrays::{TabledState, from_arrays, to_arrays};
@@ -77,9 +77,9 @@ fn item_under(script: &[u32], start: u32, offset: u32, numbers: &[u32; 481]) -> 
     requires { Counted script.now (bindings_at numbers.now) }
     ensures { offset < 4294967295 → result ≡ first_of (view_under (bindings_of script.now (bindings_at numbers.now))) (head_of script.now 2 start offset) }
 {
-    let variables = numbers_32(numbers, 320);
-    let sources = numbers_32(numbers, 352);
-    let counts = numbers_32(numbers, 384);
+    let variables: [u32; 32] = stretch(numbers, 320);
+    let sources: [u32; 32] = stretch(numbers, 352);
+    let counts: [u32; 32] = stretch(numbers, 384);
     let first = wide(numbers[480]);
     part_item(
         script,
@@ -115,7 +115,7 @@ pub fn spend<'a, 'b>(
         return;
     }
     let item = item_under(script, start, offset + 1, numbers);
-    let names = numbers_64(numbers, 192);
+    let names: [u32; 64] = stretch(numbers, 192);
     let d = item_deed(item, sets[129], &names);
     let act = d.act;
     let busy = sets[130];

@@ -5,7 +5,7 @@ ghost use Rattle.std.specs.Prelude.{◌≡◌, ℕ, ◌+◌, ◌≤◌, get_or, 
 ghost use Rattle.base_arrays.specs.Stretches.{stretch};
 ghost use Rattle.engine_state_arrays.specs.Lent.{kinds_in, starts_in, state_in, own_state, Small};
 
-use base_arrays::{narrow, numbers_32, numbers_64, put_numbers, put_sets, sets_64, sets_65, widen};
+use base_arrays::{narrow, put, stretch, widen};
 use base_slices::wide;
 use engine_held_bindings::Bindings;
 use engine_states::{PartNotes, State};
@@ -41,11 +41,11 @@ fn part_numbers(
     let wide_kinds = widen(kinds);
     let wide_acts = widen(acts);
     let mut r: [u32; 481] = [0; 481];
-    put_numbers(&mut r, 0, &wide_kinds);
-    put_numbers(&mut r, 64, &starts);
-    put_numbers(&mut r, 128, &offsets);
-    put_numbers(&mut r, 192, &names);
-    put_numbers(&mut r, 256, &wide_acts);
+    put(&mut r, 0, &wide_kinds);
+    put(&mut r, 64, &starts);
+    put(&mut r, 128, &offsets);
+    put(&mut r, 192, &names);
+    put(&mut r, 256, &wide_acts);
     r
 }
 
@@ -62,11 +62,11 @@ fn with_bindings(numbers: [u32; 481], bindings: Bindings) -> [u32; 481]
     let bulks = bindings.bulks;
     let first = bindings.first;
     let mut r = numbers;
-    put_numbers(&mut r, 320, &variables);
-    put_numbers(&mut r, 352, &sources);
-    put_numbers(&mut r, 384, &counts);
-    put_numbers(&mut r, 416, &sizes);
-    put_numbers(&mut r, 448, &bulks);
+    put(&mut r, 320, &variables);
+    put(&mut r, 352, &sources);
+    put(&mut r, 384, &counts);
+    put(&mut r, 416, &sizes);
+    put(&mut r, 448, &bulks);
     r[480] = first as u32;
     r
 }
@@ -76,8 +76,8 @@ fn all_sets(kids: [u64; 65], aims: [u64; 64], named: u64, busy: u64) -> [u64; 13
     ensures { (stretch 0 65 result ≡ kids) × (stretch 65 64 result ≡ aims) × (get_or result 129 0 ≡ named) × (get_or result 130 0 ≡ busy) }
 {
     let mut r: [u64; 131] = [0; 131];
-    put_sets(&mut r, 0, &kids);
-    put_sets(&mut r, 65, &aims);
+    put(&mut r, 0, &kids);
+    put(&mut r, 65, &aims);
     r[129] = named;
     r[130] = busy;
     r
@@ -105,7 +105,7 @@ pub fn to_arrays(kinds: [u8; 64], starts: [u32; 64], state: State) -> StateArray
 pub fn bodies(sets: &[u64; 131], top: u64) -> [u64; 65]
     ensures { result ≡ set (stretch 0 65 sets.now) 64 top }
 {
-    let mut kids = sets_65(sets, 0);
+    let mut kids: [u64; 65] = stretch(sets, 0);
     kids[64] = top;
     kids
 }
@@ -117,23 +117,23 @@ pub fn from_arrays<'a>(sets: &'a [u64; 131], numbers: &'a [u32; 481], top: u64) 
     let kids = bodies(sets, top);
     let notes = PartNotes {
         named: sets[129],
-        names: numbers_64(numbers, 192),
-        acts: narrow(numbers_64(numbers, 256)),
-        aims: sets_64(sets, 65),
+        names: stretch(numbers, 192),
+        acts: narrow(stretch(numbers, 256)),
+        aims: stretch(sets, 65),
         busy: sets[130],
     };
     let bindings = Bindings {
-        variables: numbers_32(numbers, 320),
-        sources: numbers_32(numbers, 352),
-        counts: numbers_32(numbers, 384),
-        sizes: numbers_32(numbers, 416),
-        bulks: numbers_32(numbers, 448),
+        variables: stretch(numbers, 320),
+        sources: stretch(numbers, 352),
+        counts: stretch(numbers, 384),
+        sizes: stretch(numbers, 416),
+        bulks: stretch(numbers, 448),
         first: wide(numbers[480]),
     };
-    let offsets = numbers_64(numbers, 128);
+    let offsets: [u32; 64] = stretch(numbers, 128);
     TabledState {
-        kinds: narrow(numbers_64(numbers, 0)),
-        starts: numbers_64(numbers, 64),
+        kinds: narrow(stretch(numbers, 0)),
+        starts: stretch(numbers, 64),
         state: State {
             kids,
             offsets,

@@ -20,7 +20,7 @@ ghost use Rattle.walk_states.specs.declared.Step.TheVariants.{Move, Place};
 ghost use Rattle.walk_stages.specs.Order.{pairs_behind, TurnWithin, Turns};
 ghost use Rattle.walk_stages.specs.Visits.{Lendable};
 
-use base_arrays::{put_numbers, put_sets};
+use base_arrays::put;
 use engine_moves::make_move;
 use engine_settling::place_part;
 use engine_state_arrays::{bodies, from_arrays, to_arrays};
@@ -175,8 +175,8 @@ fn place_within<'a, 'b>(
     let l = as_arrays(with_kind, with_start, p.state);
     let new_sets = l.sets;
     let new_numbers = l.numbers;
-    put_sets(sets, 0, &new_sets);
-    put_numbers(numbers, 0, &new_numbers);
+    put(sets, 0, &new_sets);
+    put(numbers, 0, &new_numbers);
     l.top
 }
 
