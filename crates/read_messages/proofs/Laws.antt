@@ -3,23 +3,23 @@
 use Prim.Native.Nat.{ℕ, zero, suc, ◌+◌, ◌-◌, ◌≤◌, ◌<◌}
 use mathlib.Core.Bool.{Bool, true, false, cond, false≢true}
 use mathlib.Core.List.{List, ◌∷◌}
-use mathlib.Core.Path.{◌≡◌, refl, sym, ap, ◌∙◌, subst}
+use mathlib.Core.Path.{◌≡◌, refl, sym, ap, ◌∙◌}
 use native.Mathlib.Omega.{arith}
 use native.Mathlib.Numerals.{add-one}
 use lib.Dec.{leb}
-use lib.ListN.{length, get_or, drop, length-drop}
+use lib.ListN.{length, drop, length-drop}
 use borrow.Author.Tests.{leb-true}
-use Rattle.read_messages.specs.Reading.{Cursor, cursor, Reading, refuse, got, ◌>>=◌, ask, take_word, next_word, outcome}
+use Rattle.std.specs.Prelude.{Result, Ok, Err}
+use Rattle.read_messages.specs.Reading.{Cursor, cursor, Reading, refuse, got, ◌>>=◌, ask, take_word, next_word, refusal_at, outcome}
 use Rattle.read_messages.specs.Message.{Message, name, variable, enter, exit, opens, empty_message, path}
-use Rattle.read_messages.specs.ReadMessage.{message_word, word_fits, bound, message_from, read_message, follow, asked, MessageReadable}
+use Rattle.read_messages.specs.ReadMessage.{message_word, word_fits, bound, message_from, read_message, follow, asked}
 use Rattle.read_messages.specs.declared.MessageWord.{MessageWord}
 use Rattle.read_messages.specs.declared.MessageWord.TheVariants.{Name, Variable, Enter, Exit, Open, Empty, Path, Unfit}
-use Rattle.read_messages.specs.declared.Asked.{Asked}
-use Rattle.read_messages.specs.declared.Asked.TheVariants.{Leaf, One, Two, No}
-use Rattle.read_messages.specs.declared.Outcome.{Outcome}
-use Rattle.read_messages.specs.declared.Outcome.TheVariants.{Read, Refused}
+use Rattle.read_messages.specs.declared.Arity.{Arity}
+use Rattle.read_messages.specs.declared.Arity.TheVariants.{Leaf, One, Two}
+use Rattle.read_messages.specs.declared.Refusal.{Refusal}
 use Rattle.read_messages.proofs.Readings.{refuse≢got, bind_all, got-all, bind-cong, bind-got, bind-refuse, ask-inv, Advances, stands, advances-on, Next, next, next-advances, next-shorter, advances-shorter, next-end, placed, outcome-refused, outcome-read}
-use Rattle.base_slices.proofs.Tails.{no-element, first, part, part-drop, length_part}
+use Rattle.base_slices.proofs.Tails.{no-element, part, part-drop}
 
 -- What holds where a message was read from c on, p being the message and the cursor behind it.
 pub record MessageRead (around : List ℕ) (c : Cursor) (p : Message × Cursor) : Type 0 where
@@ -125,12 +125,12 @@ message-fuel (suc f) (suc g) nest around c hf hg =
     (λ d l. message-fuel f g (suc nest) around d (omega (arith, next-shorter c w (next 5 c w e))) (omega (arith, next-shorter c w (next 5 c w e))))
     (message_word w.0) w.1 (omega arith)))))
 
--- The outcome by what the questions 2, 3 and 4 say of the first word: `i` is that word's index, the cursor stands behind it.
-abbrev counted : Asked → (i : ℕ) (read : Cursor → Reading (Message × Cursor)) → Cursor → Outcome
-counted (No q) i read c = Refused q i
-counted Leaf i read c = Read c.index
-counted One i read c = outcome (read c)
-counted Two i read c = outcome (read c >>= λ p. read p.1)
+-- The outcome by what the questions 2, 3 and 4 say of the first word: the cursor stands behind it.
+abbrev counted : Result Arity Refusal → (read : Cursor → Reading (Message × Cursor)) → Cursor → Result ℕ Refusal
+counted (Err e) read c = Err e
+counted (Ok Leaf) read c = Ok c.index
+counted (Ok One) read c = outcome (read c)
+counted (Ok Two) read c = outcome (read c >>= λ p. read p.1)
 
 -- an outcome forgets the message
 forget : (f : Message → Message) (x : Reading (Message × Cursor)) → outcome (x >>= λ p. got (f p.0, p.1)) ≡ outcome x
@@ -138,13 +138,13 @@ unfolding ◌>>=◌ outcome
 forget f (refuse q i) = refl
 forget f (got p) = refl
 
-module _ (i : ℕ) (read : Cursor → Reading (Message × Cursor)) (c : Cursor) where
+module _ (read : Cursor → Reading (Message × Cursor)) (c : Cursor) where
   forget-two : (x : Reading (Message × Cursor)) → outcome (x >>= λ p. read p.1 >>= λ q. got (path p.0 q.0, q.1)) ≡ outcome (x >>= λ p. read p.1)
   unfolding ◌>>=◌
   forget-two (refuse q j) = refl
   forget-two (got p) = forget (path p.0) (read p.1)
 
-  from-counted : (m : MessageWord) → word_fits m ≡ true → outcome (message_from read m c) ≡ counted (follow m) i read c
+  from-counted : (m : MessageWord) → word_fits m ≡ true → outcome (message_from read m c) ≡ counted (Ok (follow m)) read c
   unfolding message_from follow word_fits outcome
   from-counted (Name n) e = refl
   from-counted (Variable v) e = refl
@@ -155,33 +155,33 @@ module _ (i : ℕ) (read : Cursor → Reading (Message × Cursor)) (c : Cursor) 
   from-counted Path e = forget-two (read c)
   from-counted Unfit e = absurd (false≢true e)
 
-  questions : (t u v : Bool) (a : Asked) (x : Reading (Message × Cursor)) → (t ≡ true → outcome x ≡ counted a i read c) →
-      outcome (ask 2 i t >>= λ _. ask 3 i u >>= λ _. ask 4 i v >>= λ _. x) ≡ counted (cond t (cond u (cond v a (No 4)) (No 3)) (No 2)) i read c
+  questions : (i : ℕ) (t u v : Bool) (a : Arity) (x : Reading (Message × Cursor)) → (t ≡ true → outcome x ≡ counted (Ok a) read c) →
+      outcome (ask 2 i t >>= λ _. ask 3 i u >>= λ _. ask 4 i v >>= λ _. x) ≡ counted (cond t (cond u (cond v (Ok a) (refusal_at 4 i)) (refusal_at 3 i)) (refusal_at 2 i)) read c
   unfolding ◌>>=◌ ask outcome
-  questions false u v a x h = refl
-  questions true false v a x h = refl
-  questions true true false a x h = refl
-  questions true true true a x h = h refl
+  questions i false u v a x h = refl
+  questions i true false v a x h = refl
+  questions i true true false a x h = refl
+  questions i true true true a x h = h refl
 
 step : (f nest : ℕ) (around : List ℕ) (at number w : ℕ) (ws : List ℕ) →
-    outcome (read_message (suc f) nest around (cursor at number (w ∷ ws))) ≡ counted (asked nest around (message_word w)) at (read_message f (suc nest) around) (cursor (suc at) number ws)
+    outcome (read_message (suc f) nest around (cursor at number (w ∷ ws))) ≡ counted (asked at nest around (message_word w)) (read_message f (suc nest) around) (cursor (suc at) number ws)
 unfolding read_message take_word asked
 step f nest around at number w ws =
     ap (λ (x : Reading (Message × Cursor)). outcome x) (bind-got (take_word 5 at number (w ∷ ws)) _ (w, cursor (suc at) number ws) refl)
-    ∙ questions at (read_message f (suc nest) around) (cursor (suc at) number ws) (word_fits (message_word w)) (bound around (message_word w)) (leb nest 64) (follow (message_word w)) _
-    (from-counted at (read_message f (suc nest) around) (cursor (suc at) number ws) (message_word w))
+    ∙ questions (read_message f (suc nest) around) (cursor (suc at) number ws) at (word_fits (message_word w)) (bound around (message_word w)) (leb nest 64) (follow (message_word w)) _
+    (from-counted (read_message f (suc nest) around) (cursor (suc at) number ws) (message_word w))
 
 -- the outcome for the words s, the first of which has the index `at`
-abbrev pub read_of : (s : List ℕ) (at nest : ℕ) (around : List ℕ) (number : ℕ) → Outcome
+abbrev pub read_of : (s : List ℕ) (at nest : ℕ) (around : List ℕ) (number : ℕ) → Result ℕ Refusal
 read_of s at nest around number = outcome (read_message (length s) nest around (cursor at number s))
 
 -- no word is left
-pub read_none : (s : List ℕ) (at nest : ℕ) (around : List ℕ) (number : ℕ) → length s ≡ 0 → Refused 5 at ≡ read_of s at nest around number
+pub read_none : (s : List ℕ) (at nest : ℕ) (around : List ℕ) (number : ℕ) → length s ≡ 0 → refusal_at 5 at ≡ read_of s at nest around number
 unfolding read_message outcome
 read_none s at nest around number h = rw (no-element s h)
 
 -- a message that was read has a word, and no more than there are
-pub read-bounds : (s : List ℕ) (at nest : ℕ) (around : List ℕ) (number : ℕ) (r : Outcome) (n : ℕ) → r ≡ read_of s at nest around number → r ≡ Read n → (at < n) × (n ≤ at + length s)
+pub read-bounds : (s : List ℕ) (at nest : ℕ) (around : List ℕ) (number : ℕ) (r : Result ℕ Refusal) (n : ℕ) → r ≡ read_of s at nest around number → r ≡ Ok n → (at < n) × (n ≤ at + length s)
 read-bounds s at nest around number r n e d =
     let (p, ep, en) = outcome-read (read_message (length s) nest around (cursor at number s)) n (sym e ∙ d) in
     let m : MessageRead around (cursor at number s) p = message-advances (length s) nest around (cursor at number s) p ep in
@@ -191,45 +191,35 @@ read-bounds s at nest around number r n e d =
     between at n l i k e h w = (omega arith, omega arith)
 
 -- nesting above 64 is refused
-abbrev Level : ℕ → Asked → Type 0
-Level nest Leaf = Unit {0}
-Level nest (No q) = Unit {0}
-Level nest One = nest ≤ 64
-Level nest Two = nest ≤ 64
+level-told : (i nest : ℕ) (t u v : Bool) (a b : Arity) → leb nest 64 ≡ v → cond t (cond u (cond v (Ok a) (refusal_at 4 i)) (refusal_at 3 i)) (refusal_at 2 i) ≡ Ok b → nest ≤ 64
+level-told i nest false u v a b e d = cc
+level-told i nest true false v a b e d = cc
+level-told i nest true true false a b e d = cc
+level-told i nest true true true a b e d = leb-true nest 64 e
 
-level-told : (nest : ℕ) (t u v : Bool) (a : Asked) → leb nest 64 ≡ v → Level nest (cond t (cond u (cond v a (No 4)) (No 3)) (No 2))
-level-told nest false u v a e = tt
-level-told nest true false v a e = tt
-level-told nest true true false a e = tt
-level-told nest true true true Leaf e = tt
-level-told nest true true true (No q) e = tt
-level-told nest true true true One e = leb-true nest 64 e
-level-told nest true true true Two e = leb-true nest 64 e
-
--- The laws as the code meets them: where the questions 2, 3 and 4 were asked of the first word, and what they said; then
--- r is what the first call answers, r' what the second answers.
+-- The laws as the code meets them, where there is a first word, of which the questions 2, 3 and 4 were asked, and `answer` is
+-- what they said; then r is what the first call answers, r' what the second answers.
 pub record First : Type 0 where
   pub words : List ℕ
   pub at : ℕ
   pub nest : ℕ
   pub around : List ℕ
-  pub answer : Asked
-  pub answers : answer ≡ asked nest around (message_word (get_or words 0 0))
-  pub some : 0 < length words
+  pub word : ℕ
+  pub rest : List ℕ
+  pub answer : Result Arity Refusal
+  pub parts : words ≡ word ∷ rest
+  pub answers : answer ≡ asked at nest around (message_word word)
 
 module _ (x : First) where
-  pub level : (b : Asked) → x.answer ≡ b → Level x.nest b
+  -- the words behind the first are one less
+  pub longer : length x.words ≡ suc (length x.rest)
+  longer = ap length x.parts
+
+  pub level : (b : Arity) → x.answer ≡ Ok b → x.nest ≤ 64
   unfolding asked
   level b e =
-      let m : MessageWord = message_word (get_or x.words 0 0) in
-      subst (Level x.nest) (sym x.answers ∙ e) (level-told x.nest (word_fits m) (bound x.around m) (leb x.nest 64) (follow m) refl)
-
-  -- what stands behind the first word may be read, and is less
-  pub shorter : (t : ℕ) → length x.words ≡ t → x.nest ≤ 64 → x.at + length x.words ≤ 1024 → (length (part x.words 1) < t) × MessageReadable (part x.words 1) (x.at + 1) (x.nest + 1)
-  shorter t e n h =
-      let l = length_part x.words 1 in
-      let s = x.some in
-      (omega arith, record { few = omega arith; shallow = omega arith })
+      let m : MessageWord = message_word x.word in
+      level-told x.at x.nest (word_fits m) (bound x.around m) (leb x.nest 64) (follow m) b refl (sym x.answers ∙ e)
 
   module _ (number : ℕ) where
     -- the cursor at the first word, and the one behind it
@@ -237,52 +227,51 @@ module _ (x : First) where
     here = cursor x.at number x.words
 
     abbrev second : Cursor
-    second = cursor (suc x.at) number (drop 1 x.words)
+    second = cursor (suc x.at) number x.rest
 
     abbrev reader : Cursor → Reading (Message × Cursor)
-    reader = read_message (length (drop 1 x.words)) (suc x.nest) x.around
+    reader = read_message (length x.rest) (suc x.nest) x.around
 
-    abbrev pub full_read : Outcome
+    abbrev pub full_read : Result ℕ Refusal
     full_read = read_of x.words x.at x.nest x.around number
 
     -- the outcome of the message that begins at the index n of the words, one level further in
-    abbrev pub further : ℕ → Outcome
+    abbrev pub further : ℕ → Result ℕ Refusal
     further n = read_of (part x.words (n - x.at)) n (x.nest + 1) x.around number
 
-    arm : (b : Asked) → x.answer ≡ b → counted b x.at reader second ≡ full_read
+    arm : (b : Result Arity Refusal) → x.answer ≡ b → counted b reader second ≡ full_read
     arm b e =
-        sym (ap (λ (l : List ℕ). read_of l x.at x.nest x.around number) (first x.words x.some)
-        ∙ step (length (drop 1 x.words)) x.nest x.around x.at number (get_or x.words 0 0) (drop 1 x.words)
-        ∙ ap (λ (a : Asked). counted a x.at reader second) (sym x.answers ∙ e))
+        sym (ap (λ (l : List ℕ). read_of l x.at x.nest x.around number) x.parts
+        ∙ step (length x.rest) x.nest x.around x.at number x.word x.rest
+        ∙ ap (λ (a : Result Arity Refusal). counted a reader second) (sym x.answers ∙ e))
 
     -- what was read inside is behind the first word
     inside : (p : Message × Cursor) → reader second ≡ got p → MessageRead x.around here p
     inside p e =
-        read_behind x.around here (get_or x.words 0 0, second) p (record { words = first x.words x.some; index = refl; number = refl })
-        (behind x.around second p (message-advances (length (drop 1 x.words)) (suc x.nest) x.around second p e))
+        read_behind x.around here (x.word, second) p (record { words = x.parts; index = refl; number = refl })
+        (behind x.around second p (message-advances (length x.rest) (suc x.nest) x.around second p e))
 
-    pub no_read : (q : ℕ) → x.answer ≡ No q → Refused q x.at ≡ full_read
-    no_read q e = arm (No q) e
+    pub no_read : (q : Refusal) → x.answer ≡ Err q → Err q ≡ full_read
+    no_read q e = arm (Err q) e
 
-    pub leaf-read : x.answer ≡ Leaf → Read (x.at + 1) ≡ full_read
-    leaf-read e = rw (add-one x.at) (arm Leaf e)
+    pub leaf-read : x.answer ≡ Ok Leaf → Ok (x.at + 1) ≡ full_read
+    leaf-read e = rw (add-one x.at) (arm (Ok Leaf) e)
 
-    module _ (r : Outcome) (er : r ≡ read_of (part x.words 1) (x.at + 1) (x.nest + 1) x.around number) where
+    module _ (r : Result ℕ Refusal) (er : r ≡ read_of x.rest (x.at + 1) (x.nest + 1) x.around number) where
       read-second : r ≡ outcome (reader second)
-      read-second = rw (part-drop x.words 1, add-one x.at, add-one x.nest) at er
+      read-second = rw (add-one x.at, add-one x.nest) at er
 
-      pub one-read : x.answer ≡ One → r ≡ full_read
-      one-read e = read-second ∙ arm One e
+      pub one-read : x.answer ≡ Ok One → r ≡ full_read
+      one-read e = read-second ∙ arm (Ok One) e
 
-      pub two-refused : x.answer ≡ Two → (q i : ℕ) → r ≡ Refused q i → r ≡ full_read
-      two-refused e q i d = d ∙ sym (outcome-refused (reader second) _ q i (sym read-second ∙ d)) ∙ arm Two e
+      pub two-refused : x.answer ≡ Ok Two → (q : Refusal) → r ≡ Err q → Err q ≡ full_read
+      two-refused e q d = sym (outcome-refused (reader second) _ q (sym read-second ∙ d)) ∙ arm (Ok Two) e
 
-      module _ (n : ℕ) (d : r ≡ Read n) where
+      module _ (n : ℕ) (d : r ≡ Ok n) where
         pub first-bounds : (x.at + 1 < n) × (n ≤ x.at + length x.words)
         first-bounds =
-            let b = read-bounds (part x.words 1) (x.at + 1) (x.nest + 1) x.around number r n er d in
-            let l = length_part x.words 1 in
-            let s = x.some in
+            let b = read-bounds x.rest (x.at + 1) (x.nest + 1) x.around number r n er d in
+            let l = longer in
             (omega arith, omega arith)
 
         -- the second message's reader stands where the first one's ended
@@ -292,11 +281,11 @@ module _ (x : First) where
             rw (e, part-drop x.words (n - x.at), add-one x.nest)
             (ap (λ (y : Reading (Message × Cursor)). outcome y)
             (message-fuel _ _ (suc x.nest) x.around (cursor n number (drop (n - x.at) x.words)) (omega arith)
-            (omega (arith, length-drop 1 x.words, length-drop (n - x.at) x.words, first-bounds))))
+            (omega (arith, longer, length-drop (n - x.at) x.words, first-bounds))))
 
-        pub two-read : x.answer ≡ Two → (r' : Outcome) → r' ≡ further n → r' ≡ full_read
+        pub two-read : x.answer ≡ Ok Two → (r' : Result ℕ Refusal) → r' ≡ further n → r' ≡ full_read
         two-read e r' er' =
             let (p, ep, en) = outcome-read (reader second) n (sym read-second ∙ d) in
             er' ∙ two-on p en (inside p ep)
             ∙ sym (ap (λ (y : Reading (Message × Cursor)). outcome y) (bind-got (reader second) (λ (p : Message × Cursor). reader p.1) p ep))
-            ∙ arm Two e
+            ∙ arm (Ok Two) e

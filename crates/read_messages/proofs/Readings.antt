@@ -2,13 +2,13 @@
 use Prim.Native.Nat.{ℕ, suc, ◌+◌, ◌-◌, ◌≤◌, ◌<◌}
 use mathlib.Core.Bool.{Bool, true, false}
 use mathlib.Core.List.{List, [], ◌∷◌}
-use mathlib.Core.Path.{◌≡◌, refl, sym, ap, ◌∙◌, subst}
+use mathlib.Core.Path.{◌≡◌, refl, ap, ◌∙◌, subst}
 use native.Mathlib.Omega.{arith}
 use lib.ListN.{length, drop}
 use lib.Seq.{drop-drop}
+use Rattle.std.specs.Prelude.{Ok, Err}
 use Rattle.read_messages.specs.Reading.{Cursor, cursor, Reading, refuse, got, ◌>>=◌, ask, take_word, next_word, is_empty, outcome}
-use Rattle.read_messages.specs.declared.Outcome.{Outcome}
-use Rattle.read_messages.specs.declared.Outcome.TheVariants.{Read, Refused}
+use Rattle.read_messages.specs.declared.Refusal.{Refusal}
 
 -- A refusal is no reading that succeeds.
 pub refuse≢got : {A B : Type 0} {q i : ℕ} {a : A} → ◌≡◌ {A = Reading A} (refuse q i) (got a) → B
@@ -137,20 +137,17 @@ pub placed : (c : Cursor) (i n : ℕ) (l : List ℕ) → c.index ≡ i → c.num
 placed c i n l ei en el = rw (← ei, ← en, ← el)
 
 -- Outcomes: a reading that was refused, and one that was not.
-pub read≢refused : {B : Type 0} {n q i : ℕ} → ◌≡◌ {A = Outcome} (Read n) (Refused q i) → B
-read≢refused e = let z : ◌≡◌ {A = ℕ} 0 1 = cc in absurd (let w : ⊥ = omega arith in w)
-
-pub outcome-refused : {A B : Type 0} (x : Reading (A × Cursor)) (k : A × Cursor → Reading (B × Cursor)) (q i : ℕ) → outcome x ≡ Refused q i → outcome (x >>= k) ≡ Refused q i
+pub outcome-refused : {A B : Type 0} (x : Reading (A × Cursor)) (k : A × Cursor → Reading (B × Cursor)) (e : Refusal) → outcome x ≡ Err e → outcome (x >>= k) ≡ Err e
 unfolding ◌>>=◌ outcome
-outcome-refused (refuse q' i') k q i e = e
-outcome-refused (got p) k q i e = read≢refused e
+outcome-refused (refuse q i) k e d = d
+outcome-refused (got p) k e d = cc
 
-pub outcome-read : {A : Type 0} (x : Reading (A × Cursor)) (n : ℕ) → outcome x ≡ Read n → (p : A × Cursor) × (x ≡ got p) × (p.1.index ≡ n)
+pub outcome-read : {A : Type 0} (x : Reading (A × Cursor)) (n : ℕ) → outcome x ≡ Ok n → (p : A × Cursor) × (x ≡ got p) × (p.1.index ≡ n)
 unfolding outcome
-outcome-read (refuse q i) n e = read≢refused (sym e)
-outcome-read (got p) n e = (p, refl, cc)
+outcome-read (refuse q i) n d = cc
+outcome-read (got p) n d = (p, refl, cc)
 
-pub outcome-refuses : {A : Type 0} (x : Reading (A × Cursor)) (q i : ℕ) → outcome x ≡ Refused q i → x ≡ refuse q i
+pub outcome-refuses : {A : Type 0} (x : Reading (A × Cursor)) (e : Refusal) → outcome x ≡ Err e → x ≡ refuse e.question e.place
 unfolding outcome
-outcome-refuses (refuse p j) q i e = let a : p ≡ q = cc in let b : j ≡ i = cc in λ k. refuse (a k) (b k)
-outcome-refuses (got p) q i e = read≢refused e
+outcome-refuses (refuse q i) e d = let r : ◌≡◌ {A = Refusal} (record { question = q; place = i }) e = cc in cc
+outcome-refuses (got p) e d = cc

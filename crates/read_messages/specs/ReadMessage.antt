@@ -1,13 +1,14 @@
 -- How a message is read from words: questions 2, 3, 4 and 5 (document 01, "Questions at the door").
 -- Assumes nothing: these are definitions.
-use Rattle.std.specs.Prelude.{ℕ, zero, suc, ◌+◌, ◌≤◌, Bool, true, false, cond, List, leb, eqb, length}
+use Rattle.std.specs.Prelude.{ℕ, zero, suc, ◌+◌, ◌≤◌, Bool, true, false, cond, List, leb, eqb, length, Result, Ok}
 use Rattle.read_messages.specs.Words.{kind, operand, name_fits, member}
-use Rattle.read_messages.specs.Reading.{Cursor, Reading, refuse, got, ◌>>=◌, ask, next_word}
+use Rattle.read_messages.specs.Reading.{Cursor, Reading, refuse, got, ◌>>=◌, ask, next_word, refusal_at}
 use Rattle.read_messages.specs.Message.{Message, name, variable, enter, exit, opens, empty_message, path}
 use Rattle.read_messages.specs.declared.MessageWord.{MessageWord}
 use Rattle.read_messages.specs.declared.MessageWord.TheVariants.{Name, Variable, Enter, Exit, Open, Empty, Path, Unfit}
-use Rattle.read_messages.specs.declared.Asked.{Asked}
-use Rattle.read_messages.specs.declared.Asked.TheVariants.{Leaf, One, Two, No}
+use Rattle.read_messages.specs.declared.Arity.{Arity}
+use Rattle.read_messages.specs.declared.Arity.TheVariants.{Leaf, One, Two}
+use Rattle.read_messages.specs.declared.Refusal.{Refusal}
 
 -- "the low 28 its operand, zero unless stated"
 abbrev pub if_zero : ℕ → MessageWord → MessageWord
@@ -80,8 +81,8 @@ read_message (suc f) nest around c = do
   _ ← ask 4 c.index (leb nest 64)
   message_from (read_message f (suc nest) around) (message_word w) c₁
 
--- how many messages stand in the message that begins with such a word
-unfoldable pub follow : MessageWord → Asked
+-- how many messages stand in the message that begins with such a word, which question 2 let pass
+unfoldable pub follow : MessageWord → Arity
 follow (Name n) = Leaf
 follow (Variable v) = Leaf
 follow Enter = One
@@ -89,17 +90,13 @@ follow Exit = One
 follow Open = One
 follow Empty = Leaf
 follow Path = Two
-follow Unfit = No 2
+follow Unfit = Leaf
 
--- question 4: "Is nesting at most 64?"
-abbrev pub levelled : (nest : ℕ) → Asked → Asked
-levelled nest a = cond (leb nest 64) a (No 4)
-
--- What `ask_message` of the code answers: the first of the questions 2, 3 and 4 that is answered by no, or how many
--- messages follow.
-unfoldable pub asked : (nest : ℕ) (around : List ℕ) → MessageWord → Asked
-asked nest around m =
-    cond (word_fits m) (cond (bound around m) (levelled nest (follow m)) (No 3)) (No 2)
+-- What `ask_message` of the code answers of a word at that place: the first of the questions 2, 3 and 4 that is answered by
+-- no, or how many messages follow.
+unfoldable pub asked : (place nest : ℕ) (around : List ℕ) → MessageWord → Result Arity Refusal
+asked i nest around m =
+    cond (word_fits m) (cond (bound around m) (cond (leb nest 64) (Ok (follow m)) (refusal_at 4 i)) (refusal_at 3 i)) (refusal_at 2 i)
 
 -- what the reader of a message is called with: the words, the first of which has the index `at` and the nesting `nest`
 pub record MessageReadable (words : List ℕ) (at nest : ℕ) : Type 0 where

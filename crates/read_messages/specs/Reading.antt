@@ -1,8 +1,7 @@
 -- How the questions at the door are asked: a reading stands at a cursor, and the first question that is answered by no
 -- ends it with its number and place. Assumes nothing: these are definitions.
-use Rattle.std.specs.Prelude.{ℕ, suc, Bool, true, false, List, [], ◌∷◌}
-use Rattle.read_messages.specs.declared.Outcome.{Outcome}
-use Rattle.read_messages.specs.declared.Outcome.TheVariants.{Read, Refused}
+use Rattle.std.specs.Prelude.{ℕ, suc, Bool, true, false, List, [], ◌∷◌, Result, Ok, Err}
+use Rattle.read_messages.specs.declared.Refusal.{Refusal}
 
 -- where a reading stands: the index of the next word, the number of the next part, the words that are left
 pub record Cursor : Type 0 where
@@ -47,11 +46,14 @@ abbrev pub is_empty : List ℕ → Bool
 is_empty [] = true
 is_empty (w ∷ ws) = false
 
--- What a reader of the code answers, by cases: the index of the word behind what was read; or the first no's number and
--- place.
-unfoldable pub outcome : {A : Type 0} → Reading (A × Cursor) → Outcome
-outcome (refuse q i) = Refused q i
-outcome (got p) = Read p.1.index
+-- the refusal of the code by the question of that number, at that place
+abbrev pub refusal_at : {A : Type 0} → (question place : ℕ) → Result A Refusal
+refusal_at q i = Err (record { question = q; place = i })
+
+-- What a reader of the code answers: the index of the word behind what was read; or the first no's number and place.
+unfoldable pub outcome : {A : Type 0} → Reading (A × Cursor) → Result ℕ Refusal
+outcome (refuse q i) = refusal_at q i
+outcome (got p) = Ok p.1.index
 
 -- To unfold this is to unfold every definition of this module: for a proof by computation.
 unfoldable pub computing : Unit {0}

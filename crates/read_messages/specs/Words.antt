@@ -1,6 +1,7 @@
 -- Words of 32 bits (document 01, opening): a word's top 4 bits are its kind, the low 28 its operand.
 -- Assumes nothing: these are definitions.
-use Rattle.std.specs.Prelude.{ℕ, ◌+◌, ◌*◌, ◌/◌, ◌%◌, Bool, false, ◌&&◌, ◌||◌, List, [], ◌∷◌, leb, eqb}
+use Rattle.std.specs.Prelude.{ℕ, ◌+◌, ◌*◌, ◌/◌, ◌%◌, Bool, ◌&&◌, List, leb, eqb}
+use Rattle.std.specs.List.{list_any}
 
 unfoldable pub kind : ℕ → ℕ
 kind w = w / 268435456
@@ -18,8 +19,7 @@ name_fits n = leb 1 n && leb n 255
 
 -- whether a number is in a list
 unfoldable pub member : ℕ → List ℕ → Bool
-member n [] = false
-member n (m ∷ ms) = eqb n m || member n ms
+member n ms = list_any (λ m. eqb n m) ms
 
 -- To unfold this is to unfold every definition of this module: for a proof by computation.
 unfoldable pub computing : Unit {0}

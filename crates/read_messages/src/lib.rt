@@ -1,13 +1,28 @@
 // The reader of one message of a script: questions 2, 3, 4 and 5 of document 01.
 #![tactic(auto)]
 
-ghost use Rattle.std.specs.Prelude.{◌≡◌, ℕ, length};
+ghost use Rattle.std.specs.Prelude.{◌≡◌, ℕ, ◌≤◌, ◌<◌, drop, length, replicate};
+ghost use Rattle.base_slices.specs.Fronts.{Fronted};
 ghost use Rattle.read_messages.specs.Words.{member};
 ghost use Rattle.read_messages.specs.Reading.{cursor, outcome};
-ghost use Rattle.read_messages.specs.ReadMessage.{message_word, levelled, asked, read_message, MessageReadable};
+ghost use Rattle.read_messages.specs.ReadMessage.{message_word, asked, read_message, MessageReadable};
+
+// A word's top 4 bits are its kind and the low 28 its operand, so it is its kind times this and its operand.
+pub const KIND_UNIT: u32 = 268435456;
+
+// The kinds of the message words with an operand.
+pub const NAME: u32 = 8;
+
+pub const VARIABLE: u32 = 9;
+
+// The greatest name.
+pub const MOST_NAME: u32 = 255;
+
+// Question 4: the deepest nesting that is let in.
+pub const MOST_NESTING: usize = 64;
 
 // The first item of an action: what it asks, and of which name; another item; or none where no item is left.
-#[derive(Drop)]
+#[derive(Clone, Copy, Debug, PartialEq, Eq)]
 pub enum First {
     Nothing,
     Enter(Option<u32>),
@@ -17,7 +32,7 @@ pub enum First {
 }
 
 // What a word is where a message word is expected.
-#[derive(Clone, Copy)]
+#[derive(Clone, Copy, Debug, PartialEq, Eq)]
 pub enum MessageWord {
     Name(u32),
     Variable(u32),
@@ -29,13 +44,12 @@ pub enum MessageWord {
     Unfit,
 }
 
-// How many messages follow a word, or the number of the first question that it answers by no.
-#[derive(Drop)]
-pub enum Asked {
+// How many messages follow a word.
+#[derive(Clone, Copy, Debug, PartialEq, Eq)]
+pub enum Arity {
     Leaf,
     One,
     Two,
-    No { question: u32 },
 }
 
 // The first question that is answered by no: its number in document 01, and the index of the word of which it was asked.
@@ -45,115 +59,112 @@ pub struct Refusal {
     pub place: usize,
 }
 
-// What every reader answers: the index of the word behind what was read, or the first no's number and place.
-#[derive(Clone, Copy)]
-pub enum Outcome {
-    Read { next: usize },
-    Refused { question: u32, place: usize },
-}
-
 // The word w by its kind and operand.
+#[tactic(auto, using(std::proofs::lemmas::Bool::Decides::nat_tests), unfolding(crate::specs::ReadMessage::message_word, crate::specs::Words::kind, crate::specs::Words::operand, crate::specs::Words::name_fits))]
 pub fn message_word(w: u32) -> MessageWord
     ensures { result ≡ message_word w }
 {
-    let kind = w / 268435456;
-    let operand = w % 268435456;
-    if kind == 8 {
-        if operand == 0 {
-            return MessageWord::Unfit;
-        }
-        if 255 < operand {
-            return MessageWord::Unfit;
-        }
-        return MessageWord::Name(operand);
-    }
-    if kind == 9 {
-        return MessageWord::Variable(operand);
-    }
-    if operand != 0 {
-        return MessageWord::Unfit;
-    }
-    match kind {
-        10 => MessageWord::Enter,
-        11 => MessageWord::Exit,
-        12 => MessageWord::Open,
-        13 => MessageWord::Empty,
-        14 => MessageWord::Path,
+    let operand = w % KIND_UNIT;
+    match (w / KIND_UNIT, operand) {
+        (NAME, 1..=MOST_NAME) => MessageWord::Name(operand),
+        (VARIABLE, _) => MessageWord::Variable(operand),
+        (10, 0) => MessageWord::Enter,
+        (11, 0) => MessageWord::Exit,
+        (12, 0) => MessageWord::Open,
+        (13, 0) => MessageWord::Empty,
+        (14, 0) => MessageWord::Path,
         _ => MessageWord::Unfit,
     }
 }
 
 // Whether v is the index of one of the receipts around.
+#[tactic(auto, unfolding(crate::specs::Words::member))]
 pub fn is_around(around: &[u16], v: u32) -> bool
     ensures { result ≡ member v around.now }
 {
-    if around.len() == 0 {
-        return false;
-    }
-    if v == around[0] as u32 {
-        return true;
-    }
-    is_around(&around[1..], v)
+    around.iter().any(|i| v == *i as u32)
 }
 
-// What question 4 leaves of an answer.
-fn within(nest: usize, a: Asked) -> Asked
-    ensures { result ≡ levelled nest a }
+// Questions 2, 3 and 4 for a word of that nesting at the index place.
+#[tactic(auto, using(std::proofs::lemmas::Bool::Decides::nat_tests), unfolding(crate::specs::ReadMessage::asked, crate::specs::ReadMessage::word_fits, crate::specs::ReadMessage::bound, crate::specs::ReadMessage::follow))]
+pub fn ask_message(w: u32, place: usize, nest: usize, around: &[u16]) -> Result<Arity, Refusal>
+    ensures { result ≡ asked place nest around.now (message_word w) }
 {
-    if 64 < nest {
-        return Asked::No { question: 4 };
+    let arity = match message_word(w) {
+        MessageWord::Unfit => return Err(Refusal { question: 2, place }),
+        MessageWord::Variable(v) if !is_around(around, v) => return Err(Refusal {
+            question: 3,
+            place,
+        }),
+        MessageWord::Variable(_) | MessageWord::Name(_) | MessageWord::Empty => Arity::Leaf,
+        MessageWord::Enter | MessageWord::Exit | MessageWord::Open => Arity::One,
+        MessageWord::Path => Arity::Two,
+    };
+    if MOST_NESTING < nest {
+        return Err(Refusal { question: 4, place });
     }
-    a
+    Ok(arity)
 }
 
-// Questions 2, 3 and 4 for a word of that nesting.
-pub fn ask_message(w: u32, nest: usize, around: &[u16]) -> Asked
-    ensures { result ≡ asked nest around.now (message_word w) }
-{
-    let m = message_word(w);
-    match m {
-        MessageWord::Unfit => Asked::No { question: 2 },
-        MessageWord::Variable(v) => {
-            if is_around(around, v) {
-                return within(nest, Asked::Leaf);
-            }
-            Asked::No { question: 3 }
-        }
-        MessageWord::Name(_) => within(nest, Asked::Leaf),
-        MessageWord::Empty => within(nest, Asked::Leaf),
-        MessageWord::Enter => within(nest, Asked::One),
-        MessageWord::Exit => within(nest, Asked::One),
-        MessageWord::Open => within(nest, Asked::One),
-        MessageWord::Path => within(nest, Asked::Two),
-    }
-}
-
-// The message at the front of s, the script's words from index at on; its first word has the nesting nest.
-pub fn read_message(s: &[u32], at: usize, nest: usize, around: &[u16]) -> Outcome
+// The message at the front of s, the script's words from index at on; its first word has the nesting nest. The answer is the
+// index of the word behind it.
+pub fn read_message(s: &[u32], at: usize, nest: usize, around: &[u16]) -> Result<usize, Refusal>
     requires { MessageReadable s.now at nest }
     ensures { (number : ℕ) → result ≡ outcome (read_message (length s.now) nest around.now (cursor at number s.now)) }
 {
-    if s.len() == 0 {
-        return Outcome::Refused {
+    let Some((word, rest)) = s.split_first() else {
+        return Err(Refusal {
             question: 5,
             place: at,
-        };
-    }
-    let a = ask_message(s[0], nest, around);
-    match a {
-        Asked::No { question } => Outcome::Refused {
-            question,
-            place: at,
-        },
-        Asked::Leaf => Outcome::Read { next: at + 1 },
-        Asked::One => read_message(&s[1..], at + 1, nest + 1, around),
-        Asked::Two => {
-            let left = read_message(&s[1..], at + 1, nest + 1, around);
-            let Outcome::Read { next } = left else {
-                return left;
-            };
-            let k = next - at;
-            read_message(&s[k..], next, nest + 1, around)
+        });
+    };
+    match ask_message(*word, at, nest, around)? {
+        Arity::Leaf => Ok(at + 1),
+        Arity::One => read_message(rest, at + 1, nest + 1, around),
+        Arity::Two => {
+            let next = read_message(rest, at + 1, nest + 1, around)?;
+            read_message(&s[next - at..], next, nest + 1, around)
         }
+    }
+}
+
+// The indices of the words around a word, innermost first, from first on: of the receipts around a message, or of the SOMEs
+// around a rule.
+#[derive(Clone, Copy)]
+pub struct Innermost<const N: usize> {
+    pub indices: [u16; N],
+    pub first: usize,
+}
+
+impl<const N: usize> Innermost<N> {
+    // None around.
+    pub fn none() -> Innermost<N>
+        ensures indices { result.indices ≡ replicate N 0 }
+        ensures first { result.first ≡ N }
+    {
+        Innermost {
+            indices: [0; N],
+            first: N,
+        }
+    }
+
+    // Those around what stands in the word at the index at.
+    pub fn with(self, at: u16) -> Innermost<N>
+        requires some { 0 < self.first }
+        requires inside { self.first ≤ N }
+        ensures { Fronted at self.entry.first self.entry.indices result.first result.indices }
+    {
+        let mut inner = self;
+        inner.first -= 1;
+        inner.indices[inner.first] = at;
+        inner
+    }
+
+    pub fn as_slice(&self) -> &[u16]
+        requires { self.now.first ≤ N }
+        ensures { result.now ≡ drop self.now.first self.now.indices }
+    {
+        let all = &self.indices[..];
+        &all[self.first..]
     }
 }
