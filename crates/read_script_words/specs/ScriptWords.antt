@@ -1,35 +1,34 @@
 -- What a word of a script is where a part is expected, the questions that it is asked there (2 and 4), and the greatest name
 -- among a script's words (document 01). Assumes nothing: these are definitions.
-use Rattle.std.specs.Prelude.{ℕ, max, Bool, true, false, cond, List, [], ◌∷◌, leb, eqb}
+use Rattle.std.specs.Prelude.{ℕ, max, Bool, true, false, cond, List, [], ◌∷◌, leb, eqb, Option, Some, None, Result, Ok}
 use Rattle.read_messages.specs.Words.{kind, operand}
+use Rattle.read_messages.specs.Reading.{refusal_at}
+use Rattle.read_messages.specs.declared.Refusal.{Refusal}
 use Rattle.read_script_words.specs.declared.PartWord.{PartWord}
-use Rattle.read_script_words.specs.declared.PartWord.TheVariants.{Close, Ambient, Action, Receipt, Output, No}
+use Rattle.read_script_words.specs.declared.PartWord.TheVariants.{Close, Ambient, Action, Receipt, Output}
 
 -- "0 CLOSE. 1 AMB .. 2 ACT .. 3 REC .. 4 OUT"
-abbrev pub part_kind : ℕ → PartWord
+abbrev pub part_kind : ℕ → Option PartWord
 part_kind k =
-    cond (eqb k 0) Close
-    (cond (eqb k 1) Ambient
-    (cond (eqb k 2) Action
-    (cond (eqb k 3) Receipt
-    (cond (eqb k 4) Output (No 2)))))
+    cond (eqb k 0) (Some Close)
+    (cond (eqb k 1) (Some Ambient)
+    (cond (eqb k 2) (Some Action)
+    (cond (eqb k 3) (Some Receipt)
+    (cond (eqb k 4) (Some Output) None))))
 
 -- the word where a part or a CLOSE is expected; its operand is zero
-unfoldable pub part_word : ℕ → PartWord
-part_word w = cond (eqb (operand w) 0) (part_kind (kind w)) (No 2)
+unfoldable pub part_word : ℕ → Option PartWord
+part_word w = cond (eqb (operand w) 0) (part_kind (kind w)) None
 
 -- question 2: "Does this word's kind and operand fit (VAR: any operand)?"
-unfoldable pub part_fits : PartWord → Bool
-part_fits Close = true
-part_fits Ambient = true
-part_fits Action = true
-part_fits Receipt = true
-part_fits Output = true
-part_fits (No q) = false
+unfoldable pub part_fits : Option PartWord → Bool
+part_fits (Some p) = true
+part_fits None = false
 
--- What `ask_part` of the code answers: questions 2 and 4.
-unfoldable pub asked_part : (nest : ℕ) → PartWord → PartWord
-asked_part nest p = cond (part_fits p) (cond (leb nest 64) p (No 4)) p
+-- What `ask_part` of the code answers of a word at that place: questions 2 and 4.
+unfoldable pub asked_part : (place nest : ℕ) → Option PartWord → Result PartWord Refusal
+asked_part i nest (Some p) = cond (leb nest 64) (Ok p) (refusal_at 4 i)
+asked_part i nest None = refusal_at 2 i
 
 -- "the greatest name in script .. (0 if none)": over the script's NAME words
 unfoldable pub greatest_name : List ℕ → ℕ

@@ -5,64 +5,51 @@
 ghost use Rattle.std.specs.Prelude.{◌≡◌};
 ghost use Rattle.read_script_words.specs.ScriptWords.{part_word, asked_part, greatest_name};
 
-// What a word is where a part is expected, or the number of the first question that it answers by no.
-#[derive(Drop)]
+use read_messages::{KIND_UNIT, MOST_NESTING, NAME, Refusal};
+
+// What a word is where a part is expected.
+#[derive(Clone, Copy, Debug, PartialEq, Eq)]
 pub enum PartWord {
     Close,
     Ambient,
     Action,
     Receipt,
     Output,
-    No { question: u32 },
 }
 
-// The word w by its kind and operand.
-fn part_word(w: u32) -> PartWord
+// The word w by its kind; its operand is zero.
+#[tactic(auto, using(std::proofs::lemmas::Bool::Decides::nat_tests), unfolding(crate::specs::ScriptWords::part_word, read_messages::specs::Words::kind, read_messages::specs::Words::operand))]
+fn part_word(w: u32) -> Option<PartWord>
     ensures { result ≡ part_word w }
 {
-    let kind = w / 268435456;
-    if w % 268435456 != 0 {
-        return PartWord::No { question: 2 };
-    }
-    match kind {
-        0 => PartWord::Close,
-        1 => PartWord::Ambient,
-        2 => PartWord::Action,
-        3 => PartWord::Receipt,
-        4 => PartWord::Output,
-        _ => PartWord::No { question: 2 },
+    match (w / KIND_UNIT, w % KIND_UNIT) {
+        (0, 0) => Some(PartWord::Close),
+        (1, 0) => Some(PartWord::Ambient),
+        (2, 0) => Some(PartWord::Action),
+        (3, 0) => Some(PartWord::Receipt),
+        (4, 0) => Some(PartWord::Output),
+        _ => None,
     }
 }
 
-// Questions 2 and 4 for a word of that nesting.
-pub fn ask_part(w: u32, nest: usize) -> PartWord
-    ensures { result ≡ asked_part nest (part_word w) }
+// Questions 2 and 4 for a word of that nesting at the index place.
+#[tactic(auto, using(std::proofs::lemmas::Bool::Decides::nat_tests), unfolding(crate::specs::ScriptWords::asked_part))]
+pub fn ask_part(w: u32, place: usize, nest: usize) -> Result<PartWord, Refusal>
+    ensures { result ≡ asked_part place nest (part_word w) }
 {
-    let p = part_word(w);
-    if let PartWord::No { question } = p {
-        return PartWord::No { question };
+    let part = part_word(w).ok_or(Refusal { question: 2, place })?;
+    if MOST_NESTING < nest {
+        return Err(Refusal { question: 4, place });
     }
-    if 64 < nest {
-        return PartWord::No { question: 4 };
-    }
-    p
+    Ok(part)
 }
 
 // The greatest name among the NAME words, 0 if there is none.
 pub fn greatest_name(s: &[u32]) -> u32
     ensures { result ≡ greatest_name s.now }
 {
-    let mut greatest: u32 = 0;
-    let mut i: usize = s.len();
-    while 0 < i {
-        i -= 1;
-        let w = s[i];
-        if w / 268435456 == 8 {
-            let name = w % 268435456;
-            if greatest < name {
-                greatest = name;
-            }
-        }
-    }
-    greatest
+    s.iter()
+        .filter(|w| **w / KIND_UNIT == NAME)
+        .map(|w| *w % KIND_UNIT)
+        .fold(0, |greatest, name| greatest.max(name))
 }
