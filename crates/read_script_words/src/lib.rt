@@ -45,11 +45,12 @@ pub fn ask_part(w: u32, place: usize, nest: usize) -> Result<PartWord, Refusal>
 }
 
 // The greatest name among the NAME words, 0 if there is none.
+#[tactic(auto, using(crate::proofs::Words::names_folded), unfolding(read_messages::specs::Words::kind, read_messages::specs::Words::operand))]
 pub fn greatest_name(s: &[u32]) -> u32
     ensures { result ≡ greatest_name s.now }
 {
     s.iter()
         .filter(|w| **w / KIND_UNIT == NAME)
         .map(|w| *w % KIND_UNIT)
-        .fold(0, |greatest, name| greatest.max(name))
+        .fold(0, u32::max)
 }
