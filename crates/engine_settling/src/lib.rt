@@ -20,7 +20,7 @@ use base_arrays::stretch;
 use base_slices::{tail, wide};
 use engine_held_bindings::{bind, none};
 use engine_state_arrays::{TabledState, from_arrays, to_arrays};
-use engine_states::{State, item_deed, noted, part_item};
+use engine_states::{NameTable, State, item_deed, noted, part_item};
 use read_messages::First;
 
 // What becomes of the parts of left when they are settled: an action with no items left goes, and its body comes in its
@@ -115,8 +115,11 @@ pub fn spend<'a, 'b>(
         return;
     }
     let item = item_under(script, start, offset + 1, numbers);
-    let names: [u32; 64] = stretch(numbers, 192);
-    let d = item_deed(item, sets[129], &names);
+    let names = NameTable {
+        named: sets[129],
+        names: stretch(numbers, 192),
+    };
+    let d = item_deed(item, &names);
     let act = d.act;
     let busy = sets[130];
     numbers[128 + a] = offset + 1;

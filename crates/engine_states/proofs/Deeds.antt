@@ -1,13 +1,13 @@
 -- What a part does first, by its kind and first item, is what its head does. Assumes nothing.
-use Prim.Native.Nat.{ℕ, zero, suc, ◌+◌, ◌<◌}
+use Prim.Native.Nat.{ℕ, zero, suc, ◌+◌, ◌≤◌, ◌<◌}
 use mathlib.Core.Bool.{Bool, true, false, not, ◌&&◌, ◌||◌, cond}
 use mathlib.Core.List.{List, [], ◌∷◌}
 use mathlib.Core.Path.{◌≡◌, refl, sym, ap, ◌∙◌, subst}
 use native.Mathlib.Omega.{arith}
-use lib.Dec.{eqb, ltb, leb}
+use lib.Dec.{eqb, leb}
 use lib.ListN.{get_or, set, length, drop}
 use lib.Seq.{get_or-set_same, get_or-set_other}
-use borrow.Author.Tests.{lt-ltb, le-ltb, eqb-true, eqb-false, eq-eqb, ne_eqb, leb-true, leb-false, le-leb, lt-leb}
+use borrow.Author.Tests.{eqb-true, eqb-false, eq-eqb, ne_eqb, leb-true, leb-false, le-leb, lt-leb}
 use Rattle.read_messages.specs.Message.{Message, name, variable, enter, exit, opens, empty_message, path, items, asks, first_item}
 use Rattle.read_messages.specs.Spelling.{message_at}
 use Rattle.read_messages.specs.Message.{Named}
@@ -53,13 +53,9 @@ module _ (script : List ℕ) (kind start offset : ℕ) where
   unfolding is_output
   out-kind a b c = by_kind script kind start offset (λ x. is_output x ≡ true) (λ e. absurd (a e)) (λ e. absurd (b e)) (λ e. absurd (c e)) (λ x y z. refl)
 
-  pub out-test : (kind ≡ 0 → ⊥) → ltb 3 kind ≡ is_output h
+  pub not_out : 1 ≤ kind → kind ≤ 3 → false ≡ is_output h
   unfolding is_output
-  out-test n = by_kind script kind start offset (λ x. ltb 3 kind ≡ is_output x)
-      (λ e. le-ltb 3 kind (omega arith))
-      (λ e. le-ltb 3 kind (omega arith))
-      (λ e. le-ltb 3 kind (omega arith))
-      (λ x y z. lt-ltb 3 kind (omega arith))
+  not_out l m = by_kind script kind start offset (λ x. false ≡ is_output x) (λ e. refl) (λ e. refl) (λ e. refl) (λ x y z. absurd (let c : ⊥ = omega (arith, x, y, z) in c))
 
   module _ (σ : Bindings) where
     act-is : act_of kind (first_of (view_under σ) h) ≡ act_under σ h

@@ -16,11 +16,6 @@ module _ (k : ℕ → List ℕ) (left : List ℕ) (fuel : ℕ) where
   count_none z w close e h m = refl
   count_none z w (part i g s r) e h m = absurd (no-cons i (tops r) (sym e ∙ z))
 
-  pub count-no-fuel : fuel ≡ 0 → CountsParts k left fuel 0
-  unfolding total_over
-  count-no-fuel d w close e h m = refl
-  count-no-fuel d w (part i g s r) e h m = absurd (let z : ⊥ = omega arith in z)
-
   module _ (i a b : ℕ) (l : List ℕ) (first : left ≡ i ∷ l) (inside : CountsParts k (k i) (fuel - 1) a) (rest : CountsParts k l (fuel - 1) b) where
     by_first : (w : ℕ → ClosureHead) (c : Closure) → left ≡ tops c → Held k w c → parts c ≤ fuel → parts c ≡ 1 + a + b
     unfolding tops total_over

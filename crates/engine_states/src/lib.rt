@@ -19,9 +19,28 @@ use engine_first_items::first_item;
 use engine_held_bindings::Bindings;
 use read_messages::First;
 
-// What is kept of the parts: the set of those that have a name, and their names; what each does first (1 OPEN, 2 IN,
-// 3 EXIT, 4 it receives, 0 nothing) and the set of the parts to which that can be done; the set of those that settling
-// has to do with.
+// The kinds of parts, as the part table has them; every other kind is an output.
+const AMBIENT: u8 = 1;
+
+const ACTION: u8 = 2;
+
+const RECEIPT: u8 = 3;
+
+// What a part does first: what an action's first item asks, or that a receipt receives.
+const NO_ACT: u8 = 0;
+
+const OPEN: u8 = 1;
+
+const ENTER: u8 = 2;
+
+const EXIT: u8 = 3;
+
+const RECEIVE: u8 = 4;
+
+// What is kept of the parts: the set of those that have a name, and their names; what each does first, its act, and the set
+// of the parts to which that can be done; the set of those that settling has to do with.
+// Kinds and acts are numbers and no enums: a state is lent as two arrays of numbers (engine_state_arrays), of which they are
+// entries.
 #[derive(Clone, Copy)]
 pub struct PartNotes {
     pub named: u64,
@@ -32,12 +51,19 @@ pub struct PartNotes {
 }
 
 // What one part does first.
-#[derive(Drop)]
+#[derive(Clone, Copy)]
 pub struct Deed {
     pub act: u8,
     pub aim: u64,
     pub busy: bool,
 }
+
+// What a part does that does nothing and with which settling has nothing to do.
+const IDLE: Deed = Deed {
+    act: NO_ACT,
+    aim: 0,
+    busy: false,
+};
 
 // The parts' names.
 #[derive(Drop)]
@@ -57,11 +83,17 @@ pub struct State {
 }
 
 // The name of a part of that kind and start, under the bindings.
-fn part_name(script: &[u32], kind: u8, start: u32, variables: &[u32], sources: &[u32]) -> Option<u32>
+fn part_name(
+    script: &[u32],
+    kind: u8,
+    start: u32,
+    variables: &[u32],
+    sources: &[u32],
+) -> Option<u32>
     requires { length sources.now ≡ length variables.now }
     ensures { (offset : ℕ) → result ≡ head_name (view_under (bindings_in script.now variables.now sources.now)) (head_of script.now kind start offset) }
 {
-    if kind != 1 {
+    if kind != AMBIENT {
         return None;
     }
     name_at(script, start, variables, sources)
@@ -80,10 +112,7 @@ pub fn part_item(
     requires { Kept item_count script.now variables.now sources.now counts.now }
     ensures { offset < 4294967295 → result ≡ first_of (view_under (bindings_in script.now variables.now sources.now)) (head_of script.now kind start offset) }
 {
-    if kind != 2 {
-        return First::Nothing;
-    }
-    if offset >= 4294967295 {
+    if kind != ACTION || offset == u32::MAX {
         return First::Nothing;
     }
     first_item(script, wide(start), offset, variables, sources, counts)
@@ -94,16 +123,12 @@ fn with_name(t: NameTable, i: usize, name: Option<u32>) -> NameTable
     requires { (i < 64) × (elem i (members t.named) ≡ false) }
     ensures { (j : ℕ) → name_in result.named result.names j ≡ cond (eqb j i) name (name_in t.named t.names j) }
 {
-    match name {
-        Some(n) => {
-            let named = t.named;
-            let mut next = t;
-            next.named = base_sets::with(named, i);
-            next.names[i] = n;
-            next
-        }
-        None => t,
+    let mut next = t;
+    if let Some(n) = name {
+        next.named = base_sets::with(next.named, i);
+        next.names[i] = n;
     }
+    next
 }
 
 // The names of all parts under the bindings.
@@ -121,37 +146,30 @@ fn name_parts<'a>(
         named: 0,
         names: [0; 64],
     };
-    let mut i: usize = 0;
-    while i < 64 {
-        let kind = kinds[i];
-        let start = starts[i];
-        let name = part_name(script, kind, start, variables, sources);
+    for i in 0..64 {
+        let name = part_name(script, kinds[i], starts[i], variables, sources);
         t = with_name(t, i, name);
-        i += 1;
     }
     t
 }
 
 // The parts whose name is n.
-fn parts_called(named: u64, names: &[u32; 64], n: u32) -> u64
-    ensures { (i : ℕ) → i < 64 → elem i (members result) ≡ is_that n (name_in named names.now i) }
+fn parts_called(names: &NameTable, n: u32) -> u64
+    ensures { (i : ℕ) → i < 64 → elem i (members result) ≡ is_that n (name_in names.now.named names.now.names i) }
 {
     let mut found: u64 = 0;
-    let mut i: usize = 0;
-    while i < 64 {
-        let name = names[i];
-        found = base_sets::with_if(found, i, name == n);
-        i += 1;
+    for i in 0..64 {
+        found = base_sets::with_if(found, i, names.names[i] == n);
     }
-    base_sets::intersection(found, named)
+    base_sets::intersection(found, names.named)
 }
 
 // The parts that have that name, if it is one.
-fn aimed(named: u64, names: &[u32; 64], name: Option<u32>) -> u64
-    ensures { (i : ℕ) → i < 64 → elem i (members result) ≡ same_name name (name_in named names.now i) }
+fn aimed(names: &NameTable, name: Option<u32>) -> u64
+    ensures { (i : ℕ) → i < 64 → elem i (members result) ≡ same_name name (name_in names.now.named names.now.names i) }
 {
     match name {
-        Some(n) => parts_called(named, names, n),
+        Some(n) => parts_called(names, n),
         None => 0,
     }
 }
@@ -160,10 +178,10 @@ fn aimed(named: u64, names: &[u32; 64], name: Option<u32>) -> u64
 fn is_output(kind: u8) -> bool
     ensures { (script : List ℕ) (start offset : ℕ) → result ≡ is_output (head_of script kind start offset) }
 {
-    if kind == 0 {
-        return true;
+    match kind {
+        AMBIENT | ACTION | RECEIPT => false,
+        _ => true,
     }
-    3 < kind
 }
 
 // The parts that are outputs.
@@ -171,66 +189,50 @@ fn outputs(kinds: &[u8; 64]) -> u64
     ensures { (script starts offsets : List ℕ) (i : ℕ) → i < 64 → elem i (members result) ≡ is_output (heads script kinds.now starts offsets i) }
 {
     let mut found: u64 = 0;
-    let mut i: usize = 0;
-    while i < 64 {
-        let kind = kinds[i];
-        found = base_sets::with_if(found, i, is_output(kind));
-        i += 1;
+    for i in 0..64 {
+        found = base_sets::with_if(found, i, is_output(kinds[i]));
     }
     found
 }
 
 // What an action does by its first item.
-pub fn item_deed(item: First, named: u64, names: &[u32; 64]) -> Deed
-    ensures { (o : Bool) → (result.act ≡ act_of 2 item) × ((i : ℕ) → i < 64 → elem i (members result.aim) ≡ aim_of 2 item o (name_in named names.now i)) × (result.busy ≡ busy_of 2 item) }
+pub fn item_deed(item: First, names: &NameTable) -> Deed
+    ensures { (o : Bool) → (result.act ≡ act_of 2 item) × ((i : ℕ) → i < 64 → elem i (members result.aim) ≡ aim_of 2 item o (name_in names.now.named names.now.names i)) × (result.busy ≡ busy_of 2 item) }
 {
     match item {
-        First::Nothing => Deed {
-            act: 0,
-            aim: 0,
-            busy: true,
-        },
+        First::Nothing => Deed { busy: true, ..IDLE },
         First::Enter(n) => Deed {
-            act: 2,
-            aim: aimed(named, names, n),
-            busy: false,
+            act: ENTER,
+            aim: aimed(names, n),
+            ..IDLE
         },
         First::Exit(n) => Deed {
-            act: 3,
-            aim: aimed(named, names, n),
-            busy: false,
+            act: EXIT,
+            aim: aimed(names, n),
+            ..IDLE
         },
         First::Open(n) => Deed {
-            act: 1,
-            aim: aimed(named, names, n),
-            busy: false,
+            act: OPEN,
+            aim: aimed(names, n),
+            ..IDLE
         },
-        First::Other => Deed {
-            act: 0,
-            aim: 0,
-            busy: false,
-        },
+        First::Other => IDLE,
     }
 }
 
 // What a part of that kind and first item does.
-fn kind_deed(kind: u8, item: First, outs: u64, named: u64, names: &[u32; 64]) -> Deed
-    ensures { (result.act ≡ act_of kind item) × ((i : ℕ) → i < 64 → elem i (members result.aim) ≡ aim_of kind item (elem i (members outs)) (name_in named names.now i)) × (result.busy ≡ busy_of kind item) }
+fn kind_deed(kind: u8, item: First, outs: u64, names: &NameTable) -> Deed
+    ensures { (result.act ≡ act_of kind item) × ((i : ℕ) → i < 64 → elem i (members result.aim) ≡ aim_of kind item (elem i (members outs)) (name_in names.now.named names.now.names i)) × (result.busy ≡ busy_of kind item) }
 {
-    if kind == 2 {
-        return item_deed(item, named, names);
-    }
-    if kind == 3 {
-        return Deed {
-            act: 4,
+    match kind {
+        AMBIENT => Deed { busy: true, ..IDLE },
+        ACTION => item_deed(item, names),
+        RECEIPT => Deed {
+            act: RECEIVE,
             aim: outs,
-            busy: false,
-        };
-    }
-    Deed {
-        act: 0,
-        aim: 0,
-        busy: kind == 1,
+            ..IDLE
+        },
+        _ => IDLE,
     }
 }
 
@@ -244,14 +246,13 @@ fn deed_at<'a>(
     sources: &'a [u32],
     counts: &'a [u32],
     outs: u64,
-    named: u64,
-    names: &'a [u32; 64],
+    names: &'a NameTable,
 ) -> Deed
     requires { Kept item_count script.now variables.now sources.now counts.now }
-    ensures { (w : ℕ → ClosureHead) → offset < 4294967295 → ((j : ℕ) → j < 64 → elem j (members outs) ≡ is_output (w j)) → ((j : ℕ) → j < 64 → name_in named names.now j ≡ head_name (view_under (bindings_in script.now variables.now sources.now)) (w j)) → Does (bindings_in script.now variables.now sources.now) w (head_of script.now kind start offset) result }
+    ensures { (w : ℕ → ClosureHead) → offset < 4294967295 → ((j : ℕ) → j < 64 → elem j (members outs) ≡ is_output (w j)) → ((j : ℕ) → j < 64 → name_in names.now.named names.now.names j ≡ head_name (view_under (bindings_in script.now variables.now sources.now)) (w j)) → Does (bindings_in script.now variables.now sources.now) w (head_of script.now kind start offset) result }
 {
     let item = part_item(script, kind, start, offset, variables, sources, counts);
-    kind_deed(kind, item, outs, named, names)
+    kind_deed(kind, item, outs, names)
 }
 
 // What is kept, with what part i does.
@@ -261,12 +262,10 @@ fn with_deed(l: PartNotes, i: usize, d: Deed) -> PartNotes
     ensures others { (j : ℕ) → (j ≡ i → ⊥) → deed_in result j ≡ deed_in l j }
     ensures names { (result.named ≡ l.named) × (result.names ≡ l.names) }
 {
-    let so = d.busy;
-    let busy = l.busy;
     let mut next = l;
     next.acts[i] = d.act;
     next.aims[i] = d.aim;
-    next.busy = base_sets::with_if(base_sets::without(busy, i), i, so);
+    next.busy = base_sets::with_if(base_sets::without(next.busy, i), i, d.busy);
     next
 }
 
@@ -292,16 +291,11 @@ fn note_deeds<'a>(
         aims: [0; 64],
         busy: 0,
     };
-    let mut i: usize = 0;
-    while i < 64 {
-        let kind = kinds[i];
-        let start = starts[i];
-        let offset = offsets[i];
+    for i in 0..64 {
         let d = deed_at(
-            script, kind, start, offset, variables, sources, counts, outs, t.named, &t.names,
+            script, kinds[i], starts[i], offsets[i], variables, sources, counts, outs, &t,
         );
         l = with_deed(l, i, d);
-        i += 1;
     }
     l
 }
@@ -347,10 +341,7 @@ fn count_below<'a>(kids: &'a [u64; 65], left: u64, fuel: usize) -> usize
     ensures most { result ≤ 65 }
     ensures counted { fuel ≤ 64 → CountsParts (body_in kids.now) (members left) fuel result }
 {
-    if left == 0 {
-        return 0;
-    }
-    if fuel == 0 {
+    if left == 0 || fuel == 0 {
         return 0;
     }
     let i = base_sets::first(left);
@@ -370,9 +361,5 @@ pub fn weigh(state: State) -> usize
     ensures { (script kinds starts : List ℕ) (weight spent : ℕ) (b : Closure) → Represents script kinds starts weight spent state b → result ≡ parts b + 2 * (32 - state.bindings.first) }
 {
     let kids = state.kids;
-    let bindings = state.bindings;
-    let first = bindings.first;
-    let top = kids[64];
-    let n = count_below(&kids, top, 64);
-    n + 2 * (32 - first)
+    count_below(&kids, kids[64], 64) + 2 * (32 - state.bindings.first)
 }

@@ -8,10 +8,15 @@ use Rattle.base_sets.proofs.Members.{first-is, first_below, not_none, members-em
 use Rattle.read_scripts.specs.Represents.{body_in}
 use Rattle.engine_states.specs.Searches.{CountsParts}
 use Rattle.engine_states.proofs.Weighing.{count_none, count-part, count-many}
+use Rattle.engine_states.proofs.+count_below.Goals.{then-left-eq0-via-then-left-eq0, then-left-eq0-via-else-left-eq0+then-fuel-eq0}
 use Rattle.engine_states.proofs.+count_below.Goals as goal
 
 pub returns-then-left-eq0-clause-counted : goal.returns-then-left-eq0-clause-counted
-returns-then-left-eq0-clause-counted t c few = count_none (body_in c.args.kids.now) (members c.args.left) c.args.fuel (ap members c.if-left-eq0.true ∙ members-empty)
+returns-then-left-eq0-clause-counted t c few =
+    elim c.then-left-eq0.branch [
+      | then-left-eq0-via-then-left-eq0 w ↦ count_none (body_in c.args.kids.now) (members c.args.left) c.args.fuel (ap members w.if-left-eq0.true ∙ members-empty)
+      | then-left-eq0-via-else-left-eq0+then-fuel-eq0 w ↦ λ g b e h m. omega (arith, w.if-fuel-eq0.true)
+    ]
 
 pub rest-others-requires : goal.rest-others-requires
 rest-others-requires t c = not_none c.args.left c.ranges.left.fits c.if-left-eq0.false

@@ -9,8 +9,8 @@ use Rattle.engine_states.proofs.aimed.Goals as goal
 
 pub returns-in-Some : goal.returns-in-Some
 unfolding same_name elem
-returns-in-Some c i m = c.parts_called.ensures i m ∙ ap (λ (x : Named). same_name x (name_in c.args.named c.args.names.now i)) (sym c.in-Some.is)
+returns-in-Some c i m = c.parts_called.ensures i m ∙ ap (λ (x : Named). same_name x (name_in c.args.names.now.named c.args.names.now.names i)) (sym c.in-Some.is)
 
 pub returns-in-None : goal.returns-in-None
 unfolding same_name elem
-returns-in-None c i m = ap (elem i) members-empty ∙ ap (λ (x : Named). same_name x (name_in c.args.named c.args.names.now i)) (sym c.in-None.is)
+returns-in-None c i m = ap (elem i) members-empty ∙ ap (λ (x : Named). same_name x (name_in c.args.names.now.named c.args.names.now.names i)) (sym c.in-None.is)

@@ -1,5 +1,5 @@
--- `name_parts` meets its contract: the names of the parts below i. Assumes nothing.
-use Prim.Native.Nat.{ℕ, ◌≤◌, ◌-◌}
+-- `name_parts`: the names of the parts below i. Assumes nothing.
+use Prim.Native.Nat.{ℕ}
 use mathlib.Core.List.{List}
 use Rattle.engine_bindings.specs.Bindings.{bindings_in}
 use Rattle.theory_machine.specs.Moves.{head_name}
@@ -9,7 +9,4 @@ use Rattle.engine_states.proofs.Filling.{Filled}
 use Rattle.engine_states.proofs.name_parts.Given as goal
 
 abbrev pub invariant-loop-i : goal.invariant-loop-i
-invariant-loop-i l = (l.i ≤ 64) × ((offsets : List ℕ) → Filled (λ j. head_name (view_under (bindings_in l.script l.variables l.sources)) (heads l.script l.kinds l.starts offsets j)) l.i l.t.named l.t.names)
-
-abbrev pub decreases-loop-i : goal.decreases-loop-i
-decreases-loop-i l = 64 - l.i
+invariant-loop-i l = (offsets : List ℕ) → Filled (λ j. head_name (view_under (bindings_in l.script l.variables l.sources)) (heads l.script l.kinds l.starts offsets j)) l.i l.t.named l.t.names

@@ -1,5 +1,5 @@
--- `outputs` meets its contract: the outputs below i. Assumes nothing.
-use Prim.Native.Nat.{ℕ, ◌≤◌, ◌-◌}
+-- `outputs`: the outputs below i. Assumes nothing.
+use Prim.Native.Nat.{ℕ}
 use mathlib.Core.List.{List}
 use Rattle.base_sets.specs.Sets.{members}
 use Rattle.engine_states.specs.Represents.{heads}
@@ -8,7 +8,4 @@ use Rattle.engine_states.proofs.Filling.{Upto}
 use Rattle.engine_states.proofs.outputs.Given as goal
 
 abbrev pub invariant-loop-i : goal.invariant-loop-i
-invariant-loop-i l = (l.i ≤ 64) × ((script starts offsets : List ℕ) → Upto (λ j. is_output (heads script l.kinds starts offsets j)) l.i (members l.found))
-
-abbrev pub decreases-loop-i : goal.decreases-loop-i
-decreases-loop-i l = 64 - l.i
+invariant-loop-i l = (script starts offsets : List ℕ) → Upto (λ j. is_output (heads script l.kinds starts offsets j)) l.i (members l.found)
