@@ -5,16 +5,16 @@ ghost use Rattle.std.specs.Prelude.{◌≡◌, true, false, ◌<◌, get_or};
 ghost use Rattle.engine_targets.specs.Makes.{Opens, Enters, Exits, Receives, Moves, MakesOrLeaves};
 ghost use Rattle.engine_state_arrays.specs.Lent.{kinds_in, starts_in, own_state, LentReady};
 
-use base_arrays::put;
 use engine_settling::{received, settle, spend};
-use engine_state_arrays::{bodies, from_arrays, to_arrays};
+use engine_state_arrays::{ACTS, AIMS, NAMED, NUMBERS, SETS, TOP, bodies, from_arrays, to_arrays};
+use engine_states::{ENTER, OPEN, RECEIVE};
 use engine_targets::{locate, targets};
 
 // OPEN: the part t goes from the body of p, in which the actor stands, and its body stays.
 fn open_part<'a, 'b>(
     script: &'a [u32],
-    sets: &'b mut [u64; 131],
-    numbers: &'b mut [u32; 481],
+    sets: &'b mut [u64; SETS],
+    numbers: &'b mut [u32; NUMBERS],
     p: usize,
     a: usize,
     t: usize,
@@ -34,8 +34,8 @@ fn open_part<'a, 'b>(
 // IN and EXIT: the part p goes from one body into another.
 fn carry<'a, 'b>(
     script: &'a [u32],
-    sets: &'b mut [u64; 131],
-    numbers: &'b mut [u32; 481],
+    sets: &'b mut [u64; SETS],
+    numbers: &'b mut [u32; NUMBERS],
     p: usize,
     from: usize,
     into: usize,
@@ -58,8 +58,8 @@ fn carry<'a, 'b>(
 // A receipt: the receipt a and the output t go from the body of p.
 fn receive_part<'a, 'b>(
     script: &'a [u32],
-    sets: &'b mut [u64; 131],
-    numbers: &'b mut [u32; 481],
+    sets: &'b mut [u64; SETS],
+    numbers: &'b mut [u32; NUMBERS],
     p: usize,
     a: usize,
     t: usize,
@@ -69,24 +69,19 @@ fn receive_part<'a, 'b>(
     ensures table { (kinds_in numbers.new ≡ kinds_in numbers.old) × (starts_in numbers.new ≡ starts_in numbers.old) }
     ensures made { Receives script.now (kinds_in numbers.old) (starts_in numbers.old) (own_state sets.old numbers.old) (own_state sets.new numbers.new) p a t }
 {
-    let top = sets[64];
-    let b = from_arrays(sets, numbers, top);
-    let kinds = b.kinds;
-    let starts = b.starts;
-    let s = received(script, &kinds, &starts, b.state, p, a, t);
-    let l = to_arrays(kinds, starts, s);
-    let new_sets = l.sets;
-    let new_numbers = l.numbers;
-    put(sets, 0, &new_sets);
-    put(numbers, 0, &new_numbers);
+    let b = from_arrays(sets, numbers, sets[TOP]);
+    let s = received(script, &b.kinds, &b.starts, b.state, p, a, t);
+    let l = to_arrays(b.kinds, b.starts, s);
+    *sets = l.sets;
+    *numbers = l.numbers;
     settle(sets, numbers)
 }
 
 // IN, or where it is none EXIT, of the actor a in the body of p.
 fn carry_around<'a, 'b>(
     script: &'a [u32],
-    sets: &'b mut [u64; 131],
-    numbers: &'b mut [u32; 481],
+    sets: &'b mut [u64; SETS],
+    numbers: &'b mut [u32; NUMBERS],
     homes: &'a [usize; 64],
     p: usize,
     a: usize,
@@ -101,13 +96,13 @@ fn carry_around<'a, 'b>(
 {
     if enters {
         let q = homes[p];
-        if q >= 65 {
+        if q > TOP {
             return;
         }
         return carry(script, sets, numbers, p, q, t, a);
     }
     let q = homes[t];
-    if q >= 65 {
+    if q > TOP {
         return;
     }
     carry(script, sets, numbers, p, t, q, a)
@@ -116,8 +111,8 @@ fn carry_around<'a, 'b>(
 // The move of the actor a to t, one of its targets, homes being those of all parts.
 pub fn make_move<'a, 'b>(
     script: &'a [u32],
-    sets: &'b mut [u64; 131],
-    numbers: &'b mut [u32; 481],
+    sets: &'b mut [u64; SETS],
+    numbers: &'b mut [u32; NUMBERS],
     homes: &'a [usize; 64],
     a: usize,
     t: usize,
@@ -128,27 +123,27 @@ pub fn make_move<'a, 'b>(
     ensures made { Moves script.now (kinds_in numbers.old) (starts_in numbers.old) (own_state sets.old numbers.old) (own_state sets.new numbers.new) (λ i. get_or homes.now i 0) a t }
 {
     let p = homes[a];
-    if p >= 65 {
+    if p > TOP {
         return;
     }
-    let act = numbers[256 + a];
-    if act == 1 {
+    let act = numbers[ACTS + a];
+    if act == OPEN as u32 {
         return open_part(script, sets, numbers, p, a, t);
     }
-    if act == 4 {
+    if act == RECEIVE as u32 {
         return receive_part(script, sets, numbers, p, a, t);
     }
-    if p == 64 {
+    if p == TOP {
         return;
     }
-    carry_around(script, sets, numbers, homes, p, a, t, act == 2)
+    carry_around(script, sets, numbers, homes, p, a, t, act == ENTER as u32)
 }
 
 // The move (a, t) where the machine can make it, and whether it can.
 pub fn make_if_possible<'a, 'b>(
     script: &'a [u32],
-    sets: &'b mut [u64; 131],
-    numbers: &'b mut [u32; 481],
+    sets: &'b mut [u64; SETS],
+    numbers: &'b mut [u32; NUMBERS],
     a: usize,
     t: usize,
 ) -> bool
@@ -157,10 +152,9 @@ pub fn make_if_possible<'a, 'b>(
     ensures table { (kinds_in numbers.new ≡ kinds_in numbers.old) × (starts_in numbers.new ≡ starts_in numbers.old) }
     ensures made { MakesOrLeaves script.now (kinds_in numbers.old) (starts_in numbers.old) (own_state sets.old numbers.old) (own_state sets.new numbers.new) result a t }
 {
-    let top = sets[64];
-    let kids = bodies(sets, top);
-    let homes = locate(&kids, sets[129]);
-    let aimed = targets(&kids, numbers[256 + a], sets[65 + a], &homes, a);
+    let kids = bodies(sets, sets[TOP]);
+    let homes = locate(&kids, sets[NAMED]);
+    let aimed = targets(&kids, numbers[ACTS + a], sets[AIMS + a], &homes, a);
     if base_sets::has(aimed, t) {
         make_move(script, sets, numbers, &homes, a, t);
         return true;

@@ -17,17 +17,23 @@ ghost use Rattle.engine_targets.specs.Makes.{Received};
 ghost use Rattle.engine_state_arrays.specs.Lent.{kinds_in, starts_in, bindings_at, own_state, LentReady};
 
 use base_arrays::stretch;
-use base_slices::{tail, wide};
-use engine_held_bindings::{bind, none};
-use engine_state_arrays::{TabledState, from_arrays, to_arrays};
-use engine_states::{NameTable, State, item_deed, noted, part_item};
+use base_slices::wide;
+use engine_held_bindings::Bindings;
+use engine_state_arrays::{
+    ACTS, AIMS, BUSY, FIRST, NAMED, NAMES, NUMBERS, OFFSETS, SETS, STARTS, TOP, TabledState,
+    bindings_from, from_arrays, to_arrays,
+};
+use engine_states::{ACTION, AMBIENT, NameTable, State, item_deed, noted, part_item};
 use read_messages::First;
+
+// From here on a part's start is no word of the script: the rest is a name that the part was given directly.
+const FIRST_NAME: u32 = 65536;
 
 // What becomes of the parts of left when they are settled: an action with no items left goes, and its body comes in its
 // place; in the bodies of ambients too, which sets then holds. Where none of them is busy, nothing changes.
 fn settle_below<'a, 'b>(
-    sets: &'b mut [u64; 131],
-    numbers: &'a [u32; 481],
+    sets: &'b mut [u64; SETS],
+    numbers: &'a [u32; NUMBERS],
     busy: u64,
     left: u64,
     fuel: usize,
@@ -49,8 +55,7 @@ fn settle_below<'a, 'b>(
     if base_sets::has(busy, i) {
         let inside = sets[i];
         let s = settle_below(sets, numbers, busy, inside, fuel - 1);
-        let kind = numbers[i];
-        if kind == 1 {
+        if numbers[i] == AMBIENT as u32 {
             sets[i] = s;
             return base_sets::with(rest, i);
         }
@@ -60,43 +65,30 @@ fn settle_below<'a, 'b>(
 }
 
 // Every action with no items left goes.
-pub fn settle<'a, 'b>(sets: &'b mut [u64; 131], numbers: &'a [u32; 481])
+pub fn settle<'a, 'b>(sets: &'b mut [u64; SETS], numbers: &'a [u32; NUMBERS])
     requires { length sets.old ≡ 131 }
     ensures kept { length sets.new ≡ 131 }
     ensures same { (i : ℕ) → 65 ≤ i → get_or sets.new i 0 ≡ get_or sets.old i 0 }
     ensures settled { (script kinds starts : List ℕ) (weight spent : ℕ) (b : Closure) → kinds_in numbers.now ≡ kinds → Ready script kinds starts (own_state sets.old numbers.now) → spent < 4294967295 → Represents script kinds starts weight spent (own_state sets.old numbers.now) b → Represents script kinds starts weight spent (own_state sets.new numbers.now) (settle_under (bound_in script (own_state sets.old numbers.now)) b) }
 {
-    let top = sets[64];
-    let busy = sets[130];
-    let s = settle_below(sets, numbers, busy, top, 64);
-    sets[64] = s;
+    let top = settle_below(sets, numbers, sets[BUSY], sets[TOP], 64);
+    sets[TOP] = top;
 }
 
 // The first item of an action that is not spent, under the bindings that are lent.
-fn item_under(script: &[u32], start: u32, offset: u32, numbers: &[u32; 481]) -> First
+fn item_under(script: &[u32], start: u32, offset: u32, numbers: &[u32; NUMBERS]) -> First
     requires { Counted script.now (bindings_at numbers.now) }
     ensures { offset < 4294967295 → result ≡ first_of (view_under (bindings_of script.now (bindings_at numbers.now))) (head_of script.now 2 start offset) }
 {
-    let variables: [u32; 32] = stretch(numbers, 320);
-    let sources: [u32; 32] = stretch(numbers, 352);
-    let counts: [u32; 32] = stretch(numbers, 384);
-    let first = wide(numbers[480]);
-    part_item(
-        script,
-        2,
-        start,
-        offset,
-        tail(&variables, first),
-        tail(&sources, first),
-        tail(&counts, first),
-    )
+    let bindings = bindings_from(numbers, wide(numbers[FIRST]));
+    part_item(script, ACTION, start, offset, bindings.held())
 }
 
 // What the action a does first, at the next offset.
 pub fn spend<'a, 'b>(
     script: &'a [u32],
-    sets: &'b mut [u64; 131],
-    numbers: &'b mut [u32; 481],
+    sets: &'b mut [u64; SETS],
+    numbers: &'b mut [u32; NUMBERS],
     a: usize,
 )
     requires { (a < 64) × LentReady script.now sets.old numbers.old }
@@ -105,27 +97,20 @@ pub fn spend<'a, 'b>(
     ensures same { ((own_state sets.new numbers.new).kids ≡ (own_state sets.old numbers.old).kids) × ((own_state sets.new numbers.new).bindings ≡ (own_state sets.old numbers.old).bindings) }
     ensures raised { get_or (kinds_in numbers.old) a 0 ≡ 2 → get_or (own_state sets.old numbers.old).offsets a 0 < 4294967295 → (own_state sets.new numbers.new).offsets ≡ set (own_state sets.old numbers.old).offsets a (get_or (own_state sets.old numbers.old).offsets a 0 + 1) }
 {
-    let kind = numbers[a];
-    let start = numbers[64 + a];
-    let offset = numbers[128 + a];
-    if kind != 2 {
+    let offset = numbers[OFFSETS + a];
+    if numbers[a] != ACTION as u32 || offset == u32::MAX {
         return;
     }
-    if offset >= 4294967295 {
-        return;
-    }
-    let item = item_under(script, start, offset + 1, numbers);
+    let item = item_under(script, numbers[STARTS + a], offset + 1, numbers);
     let names = NameTable {
-        named: sets[129],
-        names: stretch(numbers, 192),
+        named: sets[NAMED],
+        names: stretch(numbers, NAMES),
     };
     let d = item_deed(item, &names);
-    let act = d.act;
-    let busy = sets[130];
-    numbers[128 + a] = offset + 1;
-    numbers[256 + a] = act as u32;
-    sets[65 + a] = d.aim;
-    sets[130] = base_sets::with_if(base_sets::without(busy, a), a, d.busy);
+    numbers[OFFSETS + a] = offset + 1;
+    numbers[ACTS + a] = d.act as u32;
+    sets[AIMS + a] = d.aim;
+    sets[BUSY] = base_sets::with_if(base_sets::without(sets[BUSY], a), a, d.busy);
 }
 
 // The state before it is settled: the receipt a and the output t are gone from the body of p, the receipt's body stands
@@ -143,19 +128,15 @@ pub fn received<'a>(
     ensures ready { Ready script.now kinds.now starts.now result }
     ensures bound { (state.bindings.first ≡ 0 → ⊥) → Received script.now kinds.now starts.now state result p a t }
 {
-    let old = state.bindings;
-    if old.first == 0 {
+    if state.bindings.first == 0 {
         return state;
     }
-    let variable = starts[a];
-    let message = starts[t];
-    let bound = bind(script, old, variable, message);
+    let bound = state.bindings.bind(script, starts[a], starts[t]);
     let here = state.kids[p];
     let inside = state.kids[a];
-    let offsets = state.offsets;
     let mut kids = state.kids;
     kids[p] = base_sets::union(inside, base_sets::without(base_sets::without(here, a), t));
-    noted(script, kinds, starts, kids, offsets, bound)
+    noted(script, kinds, starts, kids, state.offsets, bound)
 }
 
 // The state before the first move, from the script's part table, whose sets are kids.
@@ -168,14 +149,11 @@ pub fn first_state<'a>(
     ensures ready { Ready script.now kinds.now starts.now result × (bound_in script.now result ≡ []) }
     ensures begun { (count : ℕ) (b : Script) → Tabled script.now (record { kinds = kinds.entry.now; starts = starts.now; kids = kids; count = count }) b → Represents script.now kinds.entry.now starts.now (parts b) 0 result (settle_under [] (closure_of b)) }
 {
-    let begun = noted(script, kinds, starts, kids, [0; 64], none());
+    let begun = noted(script, kinds, starts, kids, [0; 64], Bindings::none());
     let l = to_arrays(*kinds, *starts, begun);
     let mut sets = l.sets;
-    let numbers = l.numbers;
-    settle(&mut sets, &numbers);
-    let top = sets[64];
-    let b = from_arrays(&sets, &numbers, top);
-    b.state
+    settle(&mut sets, &l.numbers);
+    from_arrays(&sets, &l.numbers, sets[TOP]).state
 }
 
 // PLACED: the top parts as the body of a new part i, an ambient of that name. Its start represents the name itself.
@@ -192,19 +170,18 @@ pub fn place_part(
     ensures placed { (weight spent : ℕ) (b : Closure) → Represents script.now kinds starts weight spent state b → times_in i b ≡ 0 → weight < 64 → Represents script.now result.kinds result.starts (weight + 1) spent result.state (part i (ambient (named name)) b close) }
 {
     let mut with_kind = kinds;
-    with_kind[i] = 1;
+    with_kind[i] = AMBIENT;
     let mut with_start = starts;
-    with_start[i] = 65536 + name;
+    with_start[i] = FIRST_NAME + name;
     let mut kids = state.kids;
-    kids[i] = kids[64];
-    kids[64] = base_sets::single(i);
-    let offsets = state.offsets;
+    kids[i] = kids[TOP];
+    kids[TOP] = base_sets::single(i);
     let next = noted(
         script,
         &with_kind,
         &with_start,
         kids,
-        offsets,
+        state.offsets,
         state.bindings,
     );
     TabledState {

@@ -1,7 +1,8 @@
 -- A state and its part table as two arrays, so that the walk lends two and not twenty: which numbers stand where.
 -- Assumes nothing: these are definitions.
-use Rattle.std.specs.Prelude.{ℕ, ◌+◌, ◌<◌, List, ◌≡◌, get_or, set, length}
+use Rattle.std.specs.Prelude.{ℕ, zero, suc, ◌+◌, ◌<◌, List, [], ◌∷◌, ◌≡◌, get_or, set, length}
 use Rattle.base_arrays.specs.Stretches.{stretch}
+use Rattle.engine_message_words.specs.declared.Binding.{Binding}
 use Rattle.engine_held_bindings.specs.declared.Bindings.{Bindings}
 use Rattle.engine_states.specs.Represents.{Ready}
 use Rattle.engine_states.specs.declared.State.{State}
@@ -12,15 +13,23 @@ kinds_in numbers = stretch 0 64 numbers
 abbrev pub starts_in : (numbers : List ℕ) → List ℕ
 starts_in numbers = stretch 64 64 numbers
 
-abbrev pub bindings_at : (numbers : List ℕ) → Bindings
-bindings_at numbers = record {
-  variables = stretch 320 32 numbers;
-  sources = stretch 352 32 numbers;
-  counts = stretch 384 32 numbers;
-  sizes = stretch 416 32 numbers;
-  bulks = stretch 448 32 numbers;
-  first = get_or numbers 480 0;
+-- a row of the bindings is five numbers
+abbrev pub row_at : (at : ℕ) (numbers : List ℕ) → Binding
+row_at at numbers = record {
+  variable = get_or numbers at 0;
+  source = get_or numbers (at + 1) 0;
+  count = get_or numbers (at + 2) 0;
+  size = get_or numbers (at + 3) 0;
+  bulk = get_or numbers (at + 4) 0;
 }
+
+-- n rows, one behind the other
+unfoldable pub rows_at : (at n : ℕ) (numbers : List ℕ) → List Binding
+rows_at at zero numbers = []
+rows_at at (suc n) numbers = row_at at numbers ∷ rows_at (at + 5) n numbers
+
+abbrev pub bindings_at : (numbers : List ℕ) → Bindings
+bindings_at numbers = record { rows = rows_at 320 32 numbers; first = get_or numbers 480 0 }
 
 -- the state, with `top` as the set of its top parts
 abbrev pub state_in : (sets numbers : List ℕ) (top : ℕ) → State

@@ -1,14 +1,49 @@
 // A state as two arrays, for lending: written into them and read out again.
 #![tactic(auto)]
 
-ghost use Rattle.std.specs.Prelude.{◌≡◌, ℕ, ◌+◌, ◌≤◌, get_or, set};
+ghost use Rattle.std.specs.Prelude.{◌≡◌, ℕ, ◌+◌, ◌≤◌, get_or, set, drop};
 ghost use Rattle.base_arrays.specs.Stretches.{stretch};
-ghost use Rattle.engine_state_arrays.specs.Lent.{kinds_in, starts_in, state_in, own_state, Small};
+ghost use Rattle.engine_state_arrays.specs.Lent.{kinds_in, starts_in, row_at, bindings_at, state_in, own_state, Small};
 
 use base_arrays::{narrow, put, stretch, widen};
 use base_slices::wide;
 use engine_held_bindings::Bindings;
+use engine_message_words::Binding;
 use engine_states::{PartNotes, State};
+
+// The sets: the bodies of the parts, the top parts, the parts that each part aims at, the named parts and the busy ones.
+pub const SETS: usize = 131;
+
+pub const TOP: usize = 64;
+
+pub const AIMS: usize = 65;
+
+pub const NAMED: usize = 129;
+
+pub const BUSY: usize = 130;
+
+// The numbers: the kinds of the parts, their starts, offsets, names and acts, 64 of each; then the rows of the bindings, and
+// the first of them.
+pub const NUMBERS: usize = 481;
+
+pub const KINDS: usize = 0;
+
+pub const STARTS: usize = 64;
+
+pub const OFFSETS: usize = 128;
+
+pub const NAMES: usize = 192;
+
+pub const ACTS: usize = 256;
+
+pub const ROWS: usize = 320;
+
+pub const FIRST: usize = 480;
+
+// How many rows there are, and how many numbers a row is.
+const MOST: usize = 32;
+
+const ROW: usize = 5;
 
 // A state beside the part table to which it belongs.
 #[derive(Drop)]
@@ -18,13 +53,11 @@ pub struct TabledState {
     pub state: State,
 }
 
-// A state and its part table as two arrays: in sets the bodies, the parts that are aimed at from 65 on, the named parts at
-// 129 and the busy ones at 130; in numbers the kinds, starts, offsets, names and acts, 64 of each, from 320 on the five
-// arrays of the bindings, 32 of each, and at 480 the first binding.
+// A state and its part table as two arrays.
 #[derive(Drop)]
 pub struct StateArrays {
-    pub sets: [u64; 131],
-    pub numbers: [u32; 481],
+    pub sets: [u64; SETS],
+    pub numbers: [u32; NUMBERS],
 }
 
 // The numbers of the parts, where they belong.
@@ -34,52 +67,49 @@ fn part_numbers(
     offsets: [u32; 64],
     names: [u32; 64],
     acts: [u8; 64],
-) -> [u32; 481]
+) -> [u32; NUMBERS]
     ensures tables { (kinds_in result ≡ kinds) × (starts_in result ≡ starts) × (stretch 128 64 result ≡ offsets) × (stretch 192 64 result ≡ names) × (stretch 256 64 result ≡ acts) }
     ensures small { Small result }
 {
     let wide_kinds = widen(kinds);
     let wide_acts = widen(acts);
-    let mut r: [u32; 481] = [0; 481];
-    put(&mut r, 0, &wide_kinds);
-    put(&mut r, 64, &starts);
-    put(&mut r, 128, &offsets);
-    put(&mut r, 192, &names);
-    put(&mut r, 256, &wide_acts);
+    let mut r: [u32; NUMBERS] = [0; 481];
+    put(&mut r, KINDS, &wide_kinds);
+    put(&mut r, STARTS, &starts);
+    put(&mut r, OFFSETS, &offsets);
+    put(&mut r, NAMES, &names);
+    put(&mut r, ACTS, &wide_acts);
     r
 }
 
 // The same, with those of the bindings.
-fn with_bindings(numbers: [u32; 481], bindings: Bindings) -> [u32; 481]
+fn with_bindings(numbers: [u32; NUMBERS], bindings: Bindings) -> [u32; NUMBERS]
     requires { bindings.first ≤ 32 }
-    ensures arrays { (stretch 320 32 result ≡ bindings.variables) × (stretch 352 32 result ≡ bindings.sources) × (stretch 384 32 result ≡ bindings.counts) × (stretch 416 32 result ≡ bindings.sizes) × (stretch 448 32 result ≡ bindings.bulks) × (get_or result 480 0 ≡ bindings.first) }
+    ensures rows { bindings_at result ≡ bindings }
     ensures others { (i n : ℕ) → i + n ≤ 320 → stretch i n result ≡ stretch i n numbers }
 {
-    let variables = bindings.variables;
-    let sources = bindings.sources;
-    let counts = bindings.counts;
-    let sizes = bindings.sizes;
-    let bulks = bindings.bulks;
-    let first = bindings.first;
     let mut r = numbers;
-    put(&mut r, 320, &variables);
-    put(&mut r, 352, &sources);
-    put(&mut r, 384, &counts);
-    put(&mut r, 416, &sizes);
-    put(&mut r, 448, &bulks);
-    r[480] = first as u32;
+    for i in 0..MOST {
+        let b = bindings.rows[i];
+        put(
+            &mut r,
+            ROWS + ROW * i,
+            &[b.variable, b.source, b.count, b.size, b.bulk],
+        );
+    }
+    r[FIRST] = bindings.first as u32;
     r
 }
 
 // The sets, where they belong.
-fn all_sets(kids: [u64; 65], aims: [u64; 64], named: u64, busy: u64) -> [u64; 131]
+fn all_sets(kids: [u64; 65], aims: [u64; 64], named: u64, busy: u64) -> [u64; SETS]
     ensures { (stretch 0 65 result ≡ kids) × (stretch 65 64 result ≡ aims) × (get_or result 129 0 ≡ named) × (get_or result 130 0 ≡ busy) }
 {
-    let mut r: [u64; 131] = [0; 131];
+    let mut r: [u64; SETS] = [0; 131];
     put(&mut r, 0, &kids);
-    put(&mut r, 65, &aims);
-    r[129] = named;
-    r[130] = busy;
+    put(&mut r, AIMS, &aims);
+    r[NAMED] = named;
+    r[BUSY] = busy;
     r
 }
 
@@ -102,43 +132,59 @@ pub fn to_arrays(kinds: [u8; 64], starts: [u32; 64], state: State) -> StateArray
 }
 
 // The bodies that were lent, with top as the set of the top parts.
-pub fn bodies(sets: &[u64; 131], top: u64) -> [u64; 65]
+pub fn bodies(sets: &[u64; SETS], top: u64) -> [u64; 65]
     ensures { result ≡ set (stretch 0 65 sets.now) 64 top }
 {
     let mut kids: [u64; 65] = stretch(sets, 0);
-    kids[64] = top;
+    kids[TOP] = top;
     kids
 }
 
+// The row of a binding that begins at a number.
+fn row(numbers: &[u32; NUMBERS], at: usize) -> Binding
+    requires { at + 5 ≤ 481 }
+    ensures { result ≡ row_at at numbers.now }
+{
+    Binding {
+        variable: numbers[at],
+        source: numbers[at + 1],
+        count: numbers[at + 2],
+        size: numbers[at + 3],
+        bulk: numbers[at + 4],
+    }
+}
+
+// The bindings that were lent, of which only the rows from that one on are read, and the others are free.
+pub fn bindings_from(numbers: &[u32; NUMBERS], from: usize) -> Bindings
+    ensures { (result.first ≡ (bindings_at numbers.now).first) × (drop from result.rows ≡ drop from (bindings_at numbers.now).rows) }
+{
+    let mut bindings = Bindings::none();
+    bindings.first = wide(numbers[FIRST]);
+    for i in from..MOST {
+        bindings.rows[i] = row(numbers, ROWS + ROW * i);
+    }
+    bindings
+}
+
 // What was lent, with top as the set of the top parts.
-pub fn from_arrays<'a>(sets: &'a [u64; 131], numbers: &'a [u32; 481], top: u64) -> TabledState
+pub fn from_arrays<'a>(sets: &'a [u64; SETS], numbers: &'a [u32; NUMBERS], top: u64) -> TabledState
     ensures { Small numbers.now → (result.kinds ≡ kinds_in numbers.now) × (result.starts ≡ starts_in numbers.now) × (result.state ≡ state_in sets.now numbers.now top) }
 {
-    let kids = bodies(sets, top);
     let notes = PartNotes {
-        named: sets[129],
-        names: stretch(numbers, 192),
-        acts: narrow(stretch(numbers, 256)),
-        aims: stretch(sets, 65),
-        busy: sets[130],
+        named: sets[NAMED],
+        names: stretch(numbers, NAMES),
+        acts: narrow(stretch(numbers, ACTS)),
+        aims: stretch(sets, AIMS),
+        busy: sets[BUSY],
     };
-    let bindings = Bindings {
-        variables: stretch(numbers, 320),
-        sources: stretch(numbers, 352),
-        counts: stretch(numbers, 384),
-        sizes: stretch(numbers, 416),
-        bulks: stretch(numbers, 448),
-        first: wide(numbers[480]),
-    };
-    let offsets: [u32; 64] = stretch(numbers, 128);
     TabledState {
-        kinds: narrow(stretch(numbers, 0)),
-        starts: stretch(numbers, 64),
+        kinds: narrow(stretch(numbers, KINDS)),
+        starts: stretch(numbers, STARTS),
         state: State {
-            kids,
-            offsets,
+            kids: bodies(sets, top),
+            offsets: stretch(numbers, OFFSETS),
             notes,
-            bindings,
+            bindings: bindings_from(numbers, 0),
         },
     }
 }

@@ -6,36 +6,37 @@ ghost use Rattle.base_sets.specs.Sets.{members, elem};
 ghost use Rattle.read_scripts.specs.Tree.{parts};
 ghost use Rattle.read_scripts.specs.Represents.{body_in};
 ghost use Rattle.engine_bindings.specs.Bindings.{bindings_in};
-ghost use Rattle.engine_bindings.specs.Measures.{Kept, item_count};
+ghost use Rattle.engine_bindings.specs.Measures.{Counted as KeptCounts};
 ghost use Rattle.theory_machine.specs.Moves.{is_that, same_name, head_name, first_of};
 ghost use Rattle.theory_closures.specs.Closure.{ClosureHead, Closure, view_under};
 ghost use Rattle.engine_states.specs.Searches.{CountsParts};
 ghost use Rattle.engine_states.specs.Represents.{head_of, heads, Counted, Ready, Represents};
 ghost use Rattle.engine_states.specs.Seen.{name_in, act_of, aim_of, busy_of, is_output, Does, deed_in, Seen};
 
-use base_slices::{tail, wide};
+use base_slices::wide;
 use engine_bindings::name_at;
 use engine_first_items::first_item;
 use engine_held_bindings::Bindings;
+use engine_message_words::Binding;
 use read_messages::First;
 
 // The kinds of parts, as the part table has them; every other kind is an output.
-const AMBIENT: u8 = 1;
+pub const AMBIENT: u8 = 1;
 
-const ACTION: u8 = 2;
+pub const ACTION: u8 = 2;
 
-const RECEIPT: u8 = 3;
+pub const RECEIPT: u8 = 3;
 
 // What a part does first: what an action's first item asks, or that a receipt receives.
-const NO_ACT: u8 = 0;
+pub const NO_ACT: u8 = 0;
 
-const OPEN: u8 = 1;
+pub const OPEN: u8 = 1;
 
-const ENTER: u8 = 2;
+pub const ENTER: u8 = 2;
 
-const EXIT: u8 = 3;
+pub const EXIT: u8 = 3;
 
-const RECEIVE: u8 = 4;
+pub const RECEIVE: u8 = 4;
 
 // What is kept of the parts: the set of those that have a name, and their names; what each does first, its act, and the set
 // of the parts to which that can be done; the set of those that settling has to do with.
@@ -83,39 +84,24 @@ pub struct State {
 }
 
 // The name of a part of that kind and start, under the bindings.
-fn part_name(
-    script: &[u32],
-    kind: u8,
-    start: u32,
-    variables: &[u32],
-    sources: &[u32],
-) -> Option<u32>
-    requires { length sources.now ≡ length variables.now }
-    ensures { (offset : ℕ) → result ≡ head_name (view_under (bindings_in script.now variables.now sources.now)) (head_of script.now kind start offset) }
+fn part_name(script: &[u32], kind: u8, start: u32, bindings: &[Binding]) -> Option<u32>
+    ensures { (offset : ℕ) → result ≡ head_name (view_under (bindings_in script.now bindings.now)) (head_of script.now kind start offset) }
 {
     if kind != AMBIENT {
         return None;
     }
-    name_at(script, start, variables, sources)
+    name_at(script, start, bindings)
 }
 
 // The first item that is not spent of a part of that kind, start and offset, under the bindings.
-pub fn part_item(
-    script: &[u32],
-    kind: u8,
-    start: u32,
-    offset: u32,
-    variables: &[u32],
-    sources: &[u32],
-    counts: &[u32],
-) -> First
-    requires { Kept item_count script.now variables.now sources.now counts.now }
-    ensures { offset < 4294967295 → result ≡ first_of (view_under (bindings_in script.now variables.now sources.now)) (head_of script.now kind start offset) }
+pub fn part_item(script: &[u32], kind: u8, start: u32, offset: u32, bindings: &[Binding]) -> First
+    requires { KeptCounts script.now bindings.now }
+    ensures { offset < 4294967295 → result ≡ first_of (view_under (bindings_in script.now bindings.now)) (head_of script.now kind start offset) }
 {
     if kind != ACTION || offset == u32::MAX {
         return First::Nothing;
     }
-    first_item(script, wide(start), offset, variables, sources, counts)
+    first_item(script, wide(start), offset, bindings)
 }
 
 // The table with the name of part i, which had none.
@@ -136,18 +122,16 @@ fn name_parts<'a>(
     script: &'a [u32],
     kinds: &'a [u8; 64],
     starts: &'a [u32; 64],
-    variables: &'a [u32],
-    sources: &'a [u32],
+    bindings: &'a [Binding],
 ) -> NameTable
-    requires { length sources.now ≡ length variables.now }
-    ensures { (offsets : List ℕ) (i : ℕ) → i < 64 → name_in result.named result.names i ≡ head_name (view_under (bindings_in script.now variables.now sources.now)) (heads script.now kinds.now starts.now offsets i) }
+    ensures { (offsets : List ℕ) (i : ℕ) → i < 64 → name_in result.named result.names i ≡ head_name (view_under (bindings_in script.now bindings.now)) (heads script.now kinds.now starts.now offsets i) }
 {
     let mut t = NameTable {
         named: 0,
         names: [0; 64],
     };
     for i in 0..64 {
-        let name = part_name(script, kinds[i], starts[i], variables, sources);
+        let name = part_name(script, kinds[i], starts[i], bindings);
         t = with_name(t, i, name);
     }
     t
@@ -242,16 +226,14 @@ fn deed_at<'a>(
     kind: u8,
     start: u32,
     offset: u32,
-    variables: &'a [u32],
-    sources: &'a [u32],
-    counts: &'a [u32],
+    bindings: &'a [Binding],
     outs: u64,
     names: &'a NameTable,
 ) -> Deed
-    requires { Kept item_count script.now variables.now sources.now counts.now }
-    ensures { (w : ℕ → ClosureHead) → offset < 4294967295 → ((j : ℕ) → j < 64 → elem j (members outs) ≡ is_output (w j)) → ((j : ℕ) → j < 64 → name_in names.now.named names.now.names j ≡ head_name (view_under (bindings_in script.now variables.now sources.now)) (w j)) → Does (bindings_in script.now variables.now sources.now) w (head_of script.now kind start offset) result }
+    requires { KeptCounts script.now bindings.now }
+    ensures { (w : ℕ → ClosureHead) → offset < 4294967295 → ((j : ℕ) → j < 64 → elem j (members outs) ≡ is_output (w j)) → ((j : ℕ) → j < 64 → name_in names.now.named names.now.names j ≡ head_name (view_under (bindings_in script.now bindings.now)) (w j)) → Does (bindings_in script.now bindings.now) w (head_of script.now kind start offset) result }
 {
-    let item = part_item(script, kind, start, offset, variables, sources, counts);
+    let item = part_item(script, kind, start, offset, bindings);
     kind_deed(kind, item, outs, names)
 }
 
@@ -275,14 +257,12 @@ fn note_deeds<'a>(
     kinds: &'a [u8; 64],
     starts: &'a [u32; 64],
     offsets: &'a [u32; 64],
-    variables: &'a [u32],
-    sources: &'a [u32],
-    counts: &'a [u32],
+    bindings: &'a [Binding],
 ) -> PartNotes
-    requires { Kept item_count script.now variables.now sources.now counts.now }
-    ensures { ((i : ℕ) → get_or offsets.now i 0 < 4294967295) → Seen (bindings_in script.now variables.now sources.now) (heads script.now kinds.now starts.now offsets.now) result }
+    requires { KeptCounts script.now bindings.now }
+    ensures { ((i : ℕ) → get_or offsets.now i 0 < 4294967295) → Seen (bindings_in script.now bindings.now) (heads script.now kinds.now starts.now offsets.now) result }
 {
-    let t = name_parts(script, kinds, starts, variables, sources);
+    let t = name_parts(script, kinds, starts, bindings);
     let outs = outputs(kinds);
     let mut l = PartNotes {
         named: t.named,
@@ -292,9 +272,7 @@ fn note_deeds<'a>(
         busy: 0,
     };
     for i in 0..64 {
-        let d = deed_at(
-            script, kinds[i], starts[i], offsets[i], variables, sources, counts, outs, &t,
-        );
+        let d = deed_at(script, kinds[i], starts[i], offsets[i], bindings, outs, &t);
         l = with_deed(l, i, d);
     }
     l
@@ -313,19 +291,7 @@ pub fn noted<'a>(
     ensures ready { Ready script.now kinds.now starts.now result }
     ensures same { (result.kids ≡ kids) × (result.offsets ≡ offsets) × (result.bindings ≡ bindings) }
 {
-    let variables = bindings.variables;
-    let sources = bindings.sources;
-    let counts = bindings.counts;
-    let first = bindings.first;
-    let notes = note_deeds(
-        script,
-        kinds,
-        starts,
-        &offsets,
-        tail(&variables, first),
-        tail(&sources, first),
-        tail(&counts, first),
-    );
+    let notes = note_deeds(script, kinds, starts, &offsets, bindings.held());
     State {
         kids,
         offsets,

@@ -9,4 +9,4 @@ use Rattle.engine_states.proofs.Filling.{Filled}
 use Rattle.engine_states.proofs.name_parts.Given as goal
 
 abbrev pub invariant-loop-i : goal.invariant-loop-i
-invariant-loop-i l = (offsets : List ℕ) → Filled (λ j. head_name (view_under (bindings_in l.script l.variables l.sources)) (heads l.script l.kinds l.starts offsets j)) l.i l.t.named l.t.names
+invariant-loop-i l = (offsets : List ℕ) → Filled (λ j. head_name (view_under (bindings_in l.script l.bindings)) (heads l.script l.kinds l.starts offsets j)) l.i l.t.named l.t.names

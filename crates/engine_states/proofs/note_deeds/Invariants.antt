@@ -12,5 +12,5 @@ abbrev pub invariant-loop-i : goal.invariant-loop-i
 invariant-loop-i l = record {
   named : l.l.named ≡ l.t.named;
   names : l.l.names ≡ l.t.names;
-  done : ((j : ℕ) → get_or l.offsets j 0 < 4294967295) → Done (bindings_in l.script l.variables l.sources) (heads l.script l.kinds l.starts l.offsets) l.i l.l;
+  done : ((j : ℕ) → get_or l.offsets j 0 < 4294967295) → Done (bindings_in l.script l.bindings) (heads l.script l.kinds l.starts l.offsets) l.i l.l;
 }

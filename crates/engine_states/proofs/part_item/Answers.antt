@@ -9,10 +9,10 @@ use Rattle.engine_states.proofs.part_item.Goals as goal
 pub returns-then-kind-ne-ACTION : goal.returns-then-kind-ne-ACTION
 returns-then-kind-ne-ACTION c l = let x = c.args in
     elim c.then-kind-ne-ACTION.branch [
-      | then-kind-ne-ACTION-via-then-kind-ne-ACTION w ↦ no_item x.script.now x.kind x.start x.offset (bindings_in x.script.now x.variables.now x.sources.now) w.if-kind-ne-ACTION.true
+      | then-kind-ne-ACTION-via-then-kind-ne-ACTION w ↦ no_item x.script.now x.kind x.start x.offset (bindings_in x.script.now x.bindings.now) w.if-kind-ne-ACTION.true
       | then-kind-ne-ACTION-via-else-kind-ne-ACTION+then-offset-eq4294967295 w ↦ absurd (let z : ⊥ = omega (arith, w.if-offset-eq4294967295.true) in z)
     ]
 
 pub returns : goal.returns
 returns c l = let x = c.args in
-    c.first_item.ensures ∙ rw c.wide.ensures (the-item x.script.now x.kind x.start x.offset (bindings_in x.script.now x.variables.now x.sources.now) c.if-kind-ne-ACTION.false)
+    c.first_item.ensures ∙ rw c.wide.ensures (the-item x.script.now x.kind x.start x.offset (bindings_in x.script.now x.bindings.now) c.if-kind-ne-ACTION.false)

@@ -6,8 +6,8 @@ use Rattle.engine_states.proofs.part_name.Goals as goal
 
 pub returns-then-kind-ne-AMBIENT : goal.returns-then-kind-ne-AMBIENT
 returns-then-kind-ne-AMBIENT c o = let x = c.args in
-    no_name x.script.now x.kind x.start o (bindings_in x.script.now x.variables.now x.sources.now) c.if-kind-ne-AMBIENT.true
+    no_name x.script.now x.kind x.start o (bindings_in x.script.now x.bindings.now) c.if-kind-ne-AMBIENT.true
 
 pub returns : goal.returns
 returns c o = let x = c.args in
-    c.name_at.ensures ∙ the-name x.script.now x.kind x.start o (bindings_in x.script.now x.variables.now x.sources.now) c.if-kind-ne-AMBIENT.false
+    c.name_at.ensures ∙ the-name x.script.now x.kind x.start o (bindings_in x.script.now x.bindings.now) c.if-kind-ne-AMBIENT.false
