@@ -1,9 +1,13 @@
 -- The name that a term says, by the names chosen so far. Assumes nothing.
-use Prim.Native.Nat.{ℕ, ◌≤◌, ◌<◌}
+use Prim.Native.Nat.{ℕ, ◌≤◌}
 use mathlib.Core.List.{List}
 use mathlib.Core.Path.{◌≡◌, sym, ap, ◌∙◌}
-use lib.ListN.{get_or}
-use borrow.Author.Tests.{lt-ltb, le-ltb}
+use mathlib.Core.Bool.{cond}
+use native.Mathlib.Omega.{arith}
+use lib.Dec.{ltb}
+use lib.ListN.{get_or, length, get_or-eq_default}
+use borrow.Author.Tests.{ltb-false}
+use Rattle.base_slices.proofs.Tests.{by_test}
 use Rattle.read_rule_words.specs.Rule.{Term}
 use Rattle.read_rule_words.specs.RuleWords.{term_word}
 use Rattle.read_rule_words.specs.declared.RuleTerm.{RuleTerm}
@@ -16,10 +20,13 @@ module _ (choices : List ℕ) (t : Term) where
   unfolding name_said
   said-constant n y f e = sym (ap (name_said choices) (constant-told t n (sym f ∙ e)))
 
-  pub said-chosen : (i : ℕ) (y : RuleTerm) → y ≡ terms.Chosen i → y ≡ term_word t → i < 256 → get_or choices i 0 ≡ name_said choices t
-  unfolding name_said
-  said-chosen i y f e h = sym (ap (name_said choices) (chosen-told t i (sym f ∙ e)) ∙ rw (lt-ltb i 256 h))
+  -- the name at an index, 0 where there is none
+  index_said : length choices ≡ 256 → (i : ℕ) → get_or choices i 0 ≡ cond (ltb i 256) (get_or choices i 0) 0
+  index_said long i =
+      by_test (ltb i 256)
+      (λ e. sym (rw e))
+      (λ e. let h : length choices ≤ i = omega (arith, ltb-false i 256 e, long) in get_or-eq_default choices 0 h ∙ sym (rw e))
 
-  pub said-none : (i : ℕ) (y : RuleTerm) → y ≡ terms.Chosen i → y ≡ term_word t → 256 ≤ i → 0 ≡ name_said choices t
+  pub said-chosen : (i : ℕ) (y : RuleTerm) → y ≡ terms.Chosen i → y ≡ term_word t → length choices ≡ 256 → get_or choices i 0 ≡ name_said choices t
   unfolding name_said
-  said-none i y f e h = sym (ap (name_said choices) (chosen-told t i (sym f ∙ e)) ∙ rw (le-ltb i 256 h))
+  said-chosen i y f e long = index_said long i ∙ sym (ap (name_said choices) (chosen-told t i (sym f ∙ e)))

@@ -12,41 +12,34 @@ ghost use Rattle.walk_rule_answers.specs.ChosenNames.{ChosenAt, LastNameAsked};
 
 use base_slices::wide;
 use read_rule_words::{RuleTerm, term_of};
-use walk_stages::{Counts, Limits, Walked};
+use walk_stages::{Counts, DEPTHS, Limits, PLACINGS, PROGRAM, RIGHTS, Walked};
 
 // The counts after one more visit, with that many depths left, its own among them.
 pub fn next_count(c: Counts, left: usize) -> Counts
     requires { VisitAsked c left }
     ensures { OneMoreVisit c left result }
 {
-    let deepest = c.deepest;
-    let d = (257 - left) as u32;
-    if deepest < d {
-        return Counts {
-            visits: c.visits + 1,
-            deepest: d,
-        };
-    }
+    let depth = (DEPTHS + 1 - left) as u32;
     Counts {
         visits: c.visits + 1,
-        deepest,
+        deepest: depth.max(c.deepest),
     }
 }
 
 // Where the right rule stands of the rule that begins at that word.
-pub fn right_rule(program: &[u32; 768], at: usize) -> usize
+pub fn right_rule(program: &[u32; PROGRAM], at: usize) -> usize
     requires { at < 256 }
     ensures { result ≡ get_or program.now (256 + at) 0 }
 {
-    wide(program[256 + at])
+    wide(program[RIGHTS + at])
 }
 
 // Which of the rule's PLACED words that word is.
-pub fn placing(program: &[u32; 768], at: usize) -> usize
+pub fn placing(program: &[u32; PROGRAM], at: usize) -> usize
     requires { at < 256 }
     ensures { result ≡ get_or program.now (512 + at) 0 }
 {
-    wide(program[512 + at])
+    wide(program[PLACINGS + at])
 }
 
 // The last name that a SOME tries inside so many others: G + d, d being the SOMEs around, itself counted.
@@ -64,7 +57,7 @@ pub fn turned(w: Walked) -> Walked
     match w {
         Walked::Yes(c) => Walked::No(c),
         Walked::No(c) => Walked::Yes(c),
-        Walked::Stopped(q, p, v) => Walked::Stopped(q, p, v),
+        Walked::Stopped(..) => w,
     }
 }
 
@@ -85,23 +78,8 @@ pub fn name_said(w: u32, chosen: &[u32; 256]) -> u32
     let t = term_of(w);
     match t {
         RuleTerm::Constant(n) => n,
-        RuleTerm::Chosen(i) => {
-            if 256 <= i {
-                return 0;
-            }
-            chosen[i as usize]
-        }
+        RuleTerm::Chosen(i) => chosen.get(i as usize).copied().unwrap_or(0),
     }
-}
-
-// The names with n at that index.
-fn replaced(names: [u32; 256], at: usize, n: u32) -> [u32; 256]
-    requires { at < 256 }
-    ensures { ChosenAt names at n result }
-{
-    let mut next = names;
-    next[at] = n;
-    next
 }
 
 // The chosen names with n for the SOME at that index.
@@ -109,6 +87,7 @@ pub fn with_name(chosen: &[u32; 256], at: usize, n: u32) -> [u32; 256]
     requires { at < 256 }
     ensures { ChosenAt chosen.now at n result }
 {
-    let old = *chosen;
-    replaced(old, at, n)
+    let mut next = *chosen;
+    next[at] = n;
+    next
 }

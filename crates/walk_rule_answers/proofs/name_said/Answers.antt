@@ -1,13 +1,14 @@
 -- `name_said` meets its contract: a name, or the one chosen. Assumes nothing.
-use Rattle.walk_rule_answers.proofs.Said.{said-constant, said-chosen, said-none}
+use mathlib.Core.Path.{◌≡◌, ◌∙◌}
+use lib.ListN.{get_or}
+use Rattle.walk_rule_answers.proofs.Said.{said-constant, said-chosen}
 use borrow.Author.Rules.{rules}
 use Rattle.walk_rule_answers.proofs.name_said.Goals as goal
-
-pub returns-then-i-ge256 : goal.returns-then-i-ge256
-returns-then-i-ge256 c = search (said-none, rules)
 
 pub returns-in-Constant : goal.returns-in-Constant
 returns-in-Constant c = search (said-constant, rules)
 
-pub returns-else-i-ge256 : goal.returns-else-i-ge256
-returns-else-i-ge256 c = search (said-chosen, rules)
+pub returns-in-Chosen : goal.returns-in-Chosen
+returns-in-Chosen c =
+    let e : c.unwrap_or.result ≡ get_or c.args.chosen.now c.in-Chosen.i 0 = search rules in
+    e ∙ said-chosen _ _ c.in-Chosen.i _ c.in-Chosen.is c.term_of-t.ensures c.told-chosen
