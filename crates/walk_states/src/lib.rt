@@ -26,6 +26,15 @@ use engine_settling::place_part;
 use engine_state_arrays::{bodies, from_arrays, to_arrays};
 use engine_states::State;
 use engine_targets::{put_homes, targets};
+use walk_stages::{Limits, PROGRAM};
+
+// What a walk never changes: the rule's words and table as one array, the script, and the call's numbers.
+#[derive(Clone, Copy)]
+pub struct Walk<'a> {
+    pub program: &'a [u32; PROGRAM],
+    pub script: &'a [u32],
+    pub limits: Limits,
+}
 
 // Where a visit is made: the word's index, the set of the top parts, the SOMEs around, and the depths left.
 #[derive(Clone, Copy)]
@@ -60,7 +69,7 @@ pub enum Step {
 }
 
 // Whether the part i is an ambient of that name.
-pub fn is_called<'a>(sets: &'a [u64; 131], numbers: &'a [u32; 481], i: usize, name: u32) -> bool
+pub fn is_called(sets: &[u64; 131], numbers: &[u32; 481], i: usize, name: u32) -> bool
     ensures { i < 64 → result ≡ same_name (Some name) (name_in (get_or sets.now 129 0) (stretch 192 64 numbers.now) i) }
 {
     if 64 <= i {
@@ -74,12 +83,12 @@ pub fn is_called<'a>(sets: &'a [u64; 131], numbers: &'a [u32; 481], i: usize, na
 
 // The homes of all parts of the state that is lent; the targets of each actor below the limit are put into `found`, which is
 // lent since to hand it up would cost a copy.
-pub fn all_targets<'a, 'b>(
-    sets: &'a [u64; 131],
-    numbers: &'a [u32; 481],
+pub fn all_targets(
+    sets: &[u64; 131],
+    numbers: &[u32; 481],
     top: u64,
     limit: usize,
-    found: &'b mut [u64; 64],
+    found: &mut [u64; 64],
 ) -> [usize; 64]
     requires { (limit ≤ 64) × (length found.old ≡ 64) }
     ensures homes { Located (members (get_or sets.now 129 0)) (body_in (state_in sets.now numbers.now top).kids) (λ i. get_or result i 0) }
@@ -88,32 +97,36 @@ pub fn all_targets<'a, 'b>(
     let kids = bodies(sets, top);
     let mut homes: [usize; 64] = [65; 64];
     put_homes(&mut homes, &kids, sets[129]);
-    let mut a: usize = 0;
-    while a < limit {
+    for a in 0..limit {
         found[a] = targets(&kids, numbers[256 + a], sets[65 + a], &homes, a);
-        a += 1;
     }
     homes
 }
 
 // The turn behind the first move of the turn before `start` with the inner ones `left`; of all turns the first is behind 0 with none.
-pub fn next_turn<'a>(inner: &'a [u64; 64], start: usize, left: u64, limit: usize) -> Turn
+pub fn next_turn(inner: &[u64; 64], start: usize, left: u64, limit: usize) -> Turn
     requires { (limit ≤ 64) × TurnWithin limit start left }
     ensures { Turns inner.now limit result.from result.rest (pairs_behind inner.now limit start left) }
 {
-    let mut from = start;
-    let mut rest = left;
-    if rest != 0 {
-        rest = base_sets::rest(rest);
-    }
-    while from < limit {
+    if left != 0 {
+        let rest = base_sets::rest(left);
         if rest != 0 {
-            return Turn { from, rest };
+            return Turn { from: start, rest };
         }
-        rest = inner[from];
-        from += 1;
     }
-    Turn { from, rest }
+    for from in start..limit {
+        let rest = inner[from];
+        if rest != 0 {
+            return Turn {
+                from: from + 1,
+                rest,
+            };
+        }
+    }
+    Turn {
+        from: limit,
+        rest: 0,
+    }
 }
 
 // The state for lending.
@@ -133,12 +146,12 @@ pub fn as_arrays(kinds: [u8; 64], starts: [u32; 64], state: State) -> LentState
 }
 
 // The top parts after the move of the actor a to its target t, which is made in the lent state, with top as its top parts.
-fn after_move<'a, 'b>(
-    script: &'a [u32],
-    sets: &'b mut [u64; 131],
-    numbers: &'b mut [u32; 481],
+fn after_move(
+    script: &[u32],
+    sets: &mut [u64; 131],
+    numbers: &mut [u32; 481],
     top: u64,
-    homes: &'a [usize; 64],
+    homes: &[usize; 64],
     a: usize,
     t: usize,
 ) -> u64
@@ -153,10 +166,10 @@ fn after_move<'a, 'b>(
 }
 
 // The top parts where top is the body of a new part i, an ambient of that name, which is made in the lent state.
-fn place_within<'a, 'b>(
-    script: &'a [u32],
-    sets: &'b mut [u64; 131],
-    numbers: &'b mut [u32; 481],
+fn place_within(
+    script: &[u32],
+    sets: &mut [u64; 131],
+    numbers: &mut [u32; 481],
     top: u64,
     i: usize,
     name: u32,
@@ -182,12 +195,12 @@ fn place_within<'a, 'b>(
 
 // The top parts after that step, which is made in the lent state, with top as its top parts. Moves and PLACED share it, so
 // that it is not put into the frames of a deep walk; to hand up a state would cost copies of it.
-pub fn next_state<'a, 'b>(
-    script: &'a [u32],
-    sets: &'b mut [u64; 131],
-    numbers: &'b mut [u32; 481],
+pub fn next_state(
+    script: &[u32],
+    sets: &mut [u64; 131],
+    numbers: &mut [u32; 481],
     top: u64,
-    homes: &'a [usize; 64],
+    homes: &[usize; 64],
     step: Step,
 ) -> u64
     requires { ((a t : ℕ) → step ≡ Move a t → (a < 64) × (t < 64)) × ((i n : ℕ) → step ≡ Place i n → (i < 64) × (n < 536870912)) × Lendable script.now sets.old numbers.old top }
