@@ -8,127 +8,122 @@ ghost use Rattle.walk_stages.specs.Visits.{Visitable, Visits as Answers, Looks a
 use walk_rule_answers::{
     last_name, name_said, next_count, placing, right_rule, turned, void_rule, with_name,
 };
-use walk_stages::{Counts, Limits, Walked};
-use walk_states::{Spot, Step, all_targets, is_called, next_state, next_turn};
+use walk_stages::{
+    Counts, EARLY_END, MANY_PARTS, MANY_SOMES, NO_DEPTH, NO_VISIT, ODD_WORD, OPERANDS, WORDS,
+    Walked,
+};
+use walk_states::{Spot, Step, Walk, all_targets, is_called, next_state, next_turn};
 
 // A visit at the word of the spot, whose depth is among the depths left.
 #[cycle(at_name_beside_either_negation_placed_in_some_name_sometime_somewhere_split_visit)]
-pub fn visit<'a>(
-    program: &'a [u32; 768],
-    script: &'a [u32],
-    sets: &'a [u64; 131],
-    numbers: &'a [u32; 481],
-    chosen: &'a [u32; 256],
+pub fn visit(
+    walk: &Walk,
+    sets: &[u64; 131],
+    numbers: &[u32; 481],
+    chosen: &[u32; 256],
     spot: Spot,
-    limits: Limits,
     c: Counts,
 ) -> Walked
-    requires { (spot.left ≤ 256) × Visitable script.now sets.now numbers.now spot.top spot.somes limits }
-    ensures { Answers program.now script.now sets.now numbers.now chosen.now spot.top spot.somes spot.left spot.at limits c result }
+    requires { (spot.left ≤ 256) × Visitable walk.now.script.now sets.now numbers.now spot.top spot.somes walk.now.limits }
+    ensures { Answers walk.now.program.now walk.now.script.now sets.now numbers.now chosen.now spot.top spot.somes spot.left spot.at walk.now.limits c result }
 {
     let visits = c.visits;
     let at = spot.at;
     let left = spot.left;
     if left == 0 {
-        return Walked::Stopped(17, at, visits);
+        return Walked::Stopped(NO_DEPTH, at, visits);
     }
-    if limits.patience <= visits {
-        return Walked::Stopped(18, at, visits);
+    if walk.limits.patience <= visits {
+        return Walked::Stopped(NO_VISIT, at, visits);
     }
-    if 256 <= at {
-        return Walked::Stopped(11, at, visits);
+    if WORDS <= at {
+        return Walked::Stopped(EARLY_END, at, visits);
     }
-    let kind = program[at] / 268435456;
+    let kind = walk.program[at] / OPERANDS;
     let n = next_count(c, left);
     let mut below = spot;
     below.left = left - 1;
     match kind {
         0 => Walked::Yes(n),
-        1 => negation(program, script, sets, numbers, chosen, below, limits, n),
-        2 => either(program, script, sets, numbers, chosen, below, limits, n),
+        1 => negation(walk, sets, numbers, chosen, below, n),
+        2 => either(walk, sets, numbers, chosen, below, n),
         3 => void_rule(spot.top, n),
-        4 => at_name(program, script, sets, numbers, chosen, below, limits, n),
-        5 => beside(program, script, sets, numbers, chosen, below, limits, n),
-        6 => some_name(program, script, sets, numbers, chosen, below, limits, n),
-        7 => sometime(program, script, sets, numbers, chosen, below, limits, n),
-        8 => somewhere(program, script, sets, numbers, chosen, below, limits, n),
-        9 => placed_in(program, script, sets, numbers, chosen, below, limits, n),
-        10..=4294967295 => Walked::Stopped(8, at, visits),
+        4 => at_name(walk, sets, numbers, chosen, below, n),
+        5 => beside(walk, sets, numbers, chosen, below, n),
+        6 => some_name(walk, sets, numbers, chosen, below, n),
+        7 => sometime(walk, sets, numbers, chosen, below, n),
+        8 => somewhere(walk, sets, numbers, chosen, below, n),
+        9 => placed_in(walk, sets, numbers, chosen, below, n),
+        10..=4294967295 => Walked::Stopped(ODD_WORD, at, visits),
     }
 }
 
 // NOT: the inner rule.
 #[cycle(at_name_beside_either_negation_placed_in_some_name_sometime_somewhere_split_visit)]
-fn negation<'a>(
-    program: &'a [u32; 768],
-    script: &'a [u32],
-    sets: &'a [u64; 131],
-    numbers: &'a [u32; 481],
-    chosen: &'a [u32; 256],
+fn negation(
+    walk: &Walk,
+    sets: &[u64; 131],
+    numbers: &[u32; 481],
+    chosen: &[u32; 256],
     spot: Spot,
-    limits: Limits,
     c: Counts,
 ) -> Walked
-    requires { (spot.at < 256) × (spot.left ≤ 255) × Visitable script.now sets.now numbers.now spot.top spot.somes limits }
-    ensures { Finds program.now script.now sets.now numbers.now chosen.now spot.top spot.somes spot.left spot.at limits c result 1 }
+    requires { (spot.at < 256) × (spot.left ≤ 255) × Visitable walk.now.script.now sets.now numbers.now spot.top spot.somes walk.now.limits }
+    ensures { Finds walk.now.program.now walk.now.script.now sets.now numbers.now chosen.now spot.top spot.somes spot.left spot.at walk.now.limits c result 1 }
 {
     let mut inner = spot;
     inner.at = spot.at + 1;
-    let w = visit(program, script, sets, numbers, chosen, inner, limits, c);
+    let w = visit(walk, sets, numbers, chosen, inner, c);
     turned(w)
 }
 
 // OR: left, and on no right.
 #[cycle(at_name_beside_either_negation_placed_in_some_name_sometime_somewhere_split_visit)]
-fn either<'a>(
-    program: &'a [u32; 768],
-    script: &'a [u32],
-    sets: &'a [u64; 131],
-    numbers: &'a [u32; 481],
-    chosen: &'a [u32; 256],
+fn either(
+    walk: &Walk,
+    sets: &[u64; 131],
+    numbers: &[u32; 481],
+    chosen: &[u32; 256],
     spot: Spot,
-    limits: Limits,
     c: Counts,
 ) -> Walked
-    requires { (spot.at < 256) × (spot.left ≤ 255) × Visitable script.now sets.now numbers.now spot.top spot.somes limits }
-    ensures { Finds program.now script.now sets.now numbers.now chosen.now spot.top spot.somes spot.left spot.at limits c result 2 }
+    requires { (spot.at < 256) × (spot.left ≤ 255) × Visitable walk.now.script.now sets.now numbers.now spot.top spot.somes walk.now.limits }
+    ensures { Finds walk.now.program.now walk.now.script.now sets.now numbers.now chosen.now spot.top spot.somes spot.left spot.at walk.now.limits c result 2 }
 {
     let mut inner = spot;
     inner.at = spot.at + 1;
-    let on_left = visit(program, script, sets, numbers, chosen, inner, limits, c);
+    let on_left = visit(walk, sets, numbers, chosen, inner, c);
     let Walked::No(c2) = on_left else {
         return on_left;
     };
     let mut right = spot;
-    right.at = right_rule(program, spot.at);
-    visit(program, script, sets, numbers, chosen, right, limits, c2)
+    right.at = right_rule(walk.program, spot.at);
+    visit(walk, sets, numbers, chosen, right, c2)
 }
 
 // AT: the inner rule inside the one top part, if that is an ambient of the name.
 #[cycle(at_name_beside_either_negation_placed_in_some_name_sometime_somewhere_split_visit)]
-fn at_name<'a>(
-    program: &'a [u32; 768],
-    script: &'a [u32],
-    sets: &'a [u64; 131],
-    numbers: &'a [u32; 481],
-    chosen: &'a [u32; 256],
+fn at_name(
+    walk: &Walk,
+    sets: &[u64; 131],
+    numbers: &[u32; 481],
+    chosen: &[u32; 256],
     spot: Spot,
-    limits: Limits,
     c: Counts,
 ) -> Walked
-    requires { (spot.at < 256) × (spot.left ≤ 255) × Visitable script.now sets.now numbers.now spot.top spot.somes limits }
-    ensures { Finds program.now script.now sets.now numbers.now chosen.now spot.top spot.somes spot.left spot.at limits c result 4 }
+    requires { (spot.at < 256) × (spot.left ≤ 255) × Visitable walk.now.script.now sets.now numbers.now spot.top spot.somes walk.now.limits }
+    ensures { Finds walk.now.program.now walk.now.script.now sets.now numbers.now chosen.now spot.top spot.somes spot.left spot.at walk.now.limits c result 4 }
 {
     let at = spot.at;
     let top = spot.top;
     if base_sets::is_single(top) {
         let i = base_sets::first(top);
-        let name = name_said(program[at], chosen);
+        let name = name_said(walk.program[at], chosen);
         if is_called(sets, numbers, i, name) {
             let mut inside = spot;
             inside.at = at + 1;
             inside.top = sets[i];
-            return visit(program, script, sets, numbers, chosen, inside, limits, c);
+            return visit(walk, sets, numbers, chosen, inside, c);
         }
     }
     Walked::No(c)
@@ -136,53 +131,47 @@ fn at_name<'a>(
 
 // Left with the share, on yes right with the rest.
 #[cycle(at_name_beside_either_negation_placed_in_some_name_sometime_somewhere_split_visit)]
-fn split<'a>(
-    program: &'a [u32; 768],
-    script: &'a [u32],
-    sets: &'a [u64; 131],
-    numbers: &'a [u32; 481],
-    chosen: &'a [u32; 256],
+fn split(
+    walk: &Walk,
+    sets: &[u64; 131],
+    numbers: &[u32; 481],
+    chosen: &[u32; 256],
     spot: Spot,
-    limits: Limits,
     c: Counts,
     share: u64,
 ) -> Walked
-    requires { (spot.at < 256) × (spot.left ≤ 255) × Visitable script.now sets.now numbers.now spot.top spot.somes limits }
-    ensures { Splits program.now script.now sets.now numbers.now chosen.now spot.top spot.somes spot.left spot.at limits c result share }
+    requires { (spot.at < 256) × (spot.left ≤ 255) × Visitable walk.now.script.now sets.now numbers.now spot.top spot.somes walk.now.limits }
+    ensures { Splits walk.now.program.now walk.now.script.now sets.now numbers.now chosen.now spot.top spot.somes spot.left spot.at walk.now.limits c result share }
 {
     let mut side = spot;
     side.at = spot.at + 1;
     side.top = share;
-    let w = visit(program, script, sets, numbers, chosen, side, limits, c);
+    let w = visit(walk, sets, numbers, chosen, side, c);
     let Walked::Yes(c2) = w else {
         return w;
     };
-    side.at = right_rule(program, spot.at);
+    side.at = right_rule(walk.program, spot.at);
     side.top = base_sets::difference(spot.top, share);
-    visit(program, script, sets, numbers, chosen, side, limits, c2)
+    visit(walk, sets, numbers, chosen, side, c2)
 }
 
 // BESIDE: the shares in rising order of the sum of 2^number over their parts.
 #[cycle(at_name_beside_either_negation_placed_in_some_name_sometime_somewhere_split_visit)]
-fn beside<'a>(
-    program: &'a [u32; 768],
-    script: &'a [u32],
-    sets: &'a [u64; 131],
-    numbers: &'a [u32; 481],
-    chosen: &'a [u32; 256],
+fn beside(
+    walk: &Walk,
+    sets: &[u64; 131],
+    numbers: &[u32; 481],
+    chosen: &[u32; 256],
     spot: Spot,
-    limits: Limits,
     c: Counts,
 ) -> Walked
-    requires { (spot.at < 256) × (spot.left ≤ 255) × Visitable script.now sets.now numbers.now spot.top spot.somes limits }
-    ensures { Finds program.now script.now sets.now numbers.now chosen.now spot.top spot.somes spot.left spot.at limits c result 5 }
+    requires { (spot.at < 256) × (spot.left ≤ 255) × Visitable walk.now.script.now sets.now numbers.now spot.top spot.somes walk.now.limits }
+    ensures { Finds walk.now.program.now walk.now.script.now sets.now numbers.now chosen.now spot.top spot.somes spot.left spot.at walk.now.limits c result 5 }
 {
     let mut now = c;
     let mut share: u64 = 0;
     loop {
-        let w = split(
-            program, script, sets, numbers, chosen, spot, limits, now, share,
-        );
+        let w = split(walk, sets, numbers, chosen, spot, now, share);
         if share == spot.top {
             return w;
         }
@@ -196,67 +185,61 @@ fn beside<'a>(
 
 // SOME: the names 1 to G + d in order.
 #[cycle(at_name_beside_either_negation_placed_in_some_name_sometime_somewhere_split_visit)]
-fn some_name<'a>(
-    program: &'a [u32; 768],
-    script: &'a [u32],
-    sets: &'a [u64; 131],
-    numbers: &'a [u32; 481],
-    chosen: &'a [u32; 256],
+fn some_name(
+    walk: &Walk,
+    sets: &[u64; 131],
+    numbers: &[u32; 481],
+    chosen: &[u32; 256],
     spot: Spot,
-    limits: Limits,
     c: Counts,
 ) -> Walked
-    requires { (spot.at < 256) × (spot.left ≤ 255) × Visitable script.now sets.now numbers.now spot.top spot.somes limits }
-    ensures { Finds program.now script.now sets.now numbers.now chosen.now spot.top spot.somes spot.left spot.at limits c result 6 }
+    requires { (spot.at < 256) × (spot.left ≤ 255) × Visitable walk.now.script.now sets.now numbers.now spot.top spot.somes walk.now.limits }
+    ensures { Finds walk.now.program.now walk.now.script.now sets.now numbers.now chosen.now spot.top spot.somes spot.left spot.at walk.now.limits c result 6 }
 {
     let somes = spot.somes;
     if 8 <= somes {
-        return Walked::Stopped(10, spot.at, c.visits);
+        return Walked::Stopped(MANY_SOMES, spot.at, c.visits);
     }
-    let last = last_name(limits, somes);
+    let last = last_name(walk.limits, somes);
     let mut now = c;
-    let mut n: u32 = 1;
-    while n <= last {
+    for n in 1..=last {
         let names = with_name(chosen, spot.at, n);
         let mut inner = spot;
         inner.at = spot.at + 1;
         inner.somes = spot.somes + 1;
-        let w = visit(program, script, sets, numbers, &names, inner, limits, now);
+        let w = visit(walk, sets, numbers, &names, inner, now);
         let Walked::No(c2) = w else {
             return w;
         };
         now = c2;
-        n += 1;
     }
     Walked::No(now)
 }
 
 // SOMETIME: the inner rule; on no, SOMETIME after each move by rising actor, then target.
 #[cycle(at_name_beside_either_negation_placed_in_some_name_sometime_somewhere_split_visit)]
-fn sometime<'a>(
-    program: &'a [u32; 768],
-    script: &'a [u32],
-    sets: &'a [u64; 131],
-    numbers: &'a [u32; 481],
-    chosen: &'a [u32; 256],
+fn sometime(
+    walk: &Walk,
+    sets: &[u64; 131],
+    numbers: &[u32; 481],
+    chosen: &[u32; 256],
     spot: Spot,
-    limits: Limits,
     c: Counts,
 ) -> Walked
-    requires { (spot.at < 256) × (spot.left ≤ 255) × Visitable script.now sets.now numbers.now spot.top spot.somes limits }
-    ensures { Finds program.now script.now sets.now numbers.now chosen.now spot.top spot.somes spot.left spot.at limits c result 7 }
+    requires { (spot.at < 256) × (spot.left ≤ 255) × Visitable walk.now.script.now sets.now numbers.now spot.top spot.somes walk.now.limits }
+    ensures { Finds walk.now.program.now walk.now.script.now sets.now numbers.now chosen.now spot.top spot.somes spot.left spot.at walk.now.limits c result 7 }
 {
     // One spot for the visits: each more is one in the frame of a deep walk.
     let mut there = spot;
     there.at = spot.at + 1;
-    let w = visit(program, script, sets, numbers, chosen, there, limits, c);
+    let w = visit(walk, sets, numbers, chosen, there, c);
     let Walked::No(c2) = w else {
         return w;
     };
     let mut targets: [u64; 64] = [0; 64];
-    let homes = all_targets(sets, numbers, spot.top, limits.limit, &mut targets);
+    let homes = all_targets(sets, numbers, spot.top, walk.limits.limit, &mut targets);
     let mut now = c2;
-    let mut turn = next_turn(&targets, 0, 0, limits.limit);
+    let mut turn = next_turn(&targets, 0, 0, walk.limits.limit);
     while turn.rest != 0 {
         let a = turn.from - 1;
         let t = base_sets::first(turn.rest);
@@ -265,35 +248,33 @@ fn sometime<'a>(
         let mut s = *sets;
         let mut n = *numbers;
         there = spot;
-        there.top = next_state(script, &mut s, &mut n, spot.top, &homes, step);
-        let w2 = visit(program, script, &s, &n, chosen, there, limits, now);
+        there.top = next_state(walk.script, &mut s, &mut n, spot.top, &homes, step);
+        let w2 = visit(walk, &s, &n, chosen, there, now);
         let Walked::No(c3) = w2 else {
             return w2;
         };
         now = c3;
-        turn = next_turn(&targets, turn.from, turn.rest, limits.limit);
+        turn = next_turn(&targets, turn.from, turn.rest, walk.limits.limit);
     }
     Walked::No(now)
 }
 
 // SOMEWHERE: the inner rule; on no, SOMEWHERE inside each named top ambient by rising number.
 #[cycle(at_name_beside_either_negation_placed_in_some_name_sometime_somewhere_split_visit)]
-fn somewhere<'a>(
-    program: &'a [u32; 768],
-    script: &'a [u32],
-    sets: &'a [u64; 131],
-    numbers: &'a [u32; 481],
-    chosen: &'a [u32; 256],
+fn somewhere(
+    walk: &Walk,
+    sets: &[u64; 131],
+    numbers: &[u32; 481],
+    chosen: &[u32; 256],
     spot: Spot,
-    limits: Limits,
     c: Counts,
 ) -> Walked
-    requires { (spot.at < 256) × (spot.left ≤ 255) × Visitable script.now sets.now numbers.now spot.top spot.somes limits }
-    ensures { Finds program.now script.now sets.now numbers.now chosen.now spot.top spot.somes spot.left spot.at limits c result 8 }
+    requires { (spot.at < 256) × (spot.left ≤ 255) × Visitable walk.now.script.now sets.now numbers.now spot.top spot.somes walk.now.limits }
+    ensures { Finds walk.now.program.now walk.now.script.now sets.now numbers.now chosen.now spot.top spot.somes spot.left spot.at walk.now.limits c result 8 }
 {
     let mut inner = spot;
     inner.at = spot.at + 1;
-    let w = visit(program, script, sets, numbers, chosen, inner, limits, c);
+    let w = visit(walk, sets, numbers, chosen, inner, c);
     let Walked::No(c2) = w else {
         return w;
     };
@@ -304,7 +285,7 @@ fn somewhere<'a>(
         let others = base_sets::rest(rest);
         let mut inside = spot;
         inside.top = sets[i];
-        let w2 = visit(program, script, sets, numbers, chosen, inside, limits, now);
+        let w2 = visit(walk, sets, numbers, chosen, inside, now);
         let Walked::No(c3) = w2 else {
             return w2;
         };
@@ -316,31 +297,29 @@ fn somewhere<'a>(
 
 // PLACED: the inner rule on the process as the inside of one new ambient.
 #[cycle(at_name_beside_either_negation_placed_in_some_name_sometime_somewhere_split_visit)]
-fn placed_in<'a>(
-    program: &'a [u32; 768],
-    script: &'a [u32],
-    sets: &'a [u64; 131],
-    numbers: &'a [u32; 481],
-    chosen: &'a [u32; 256],
+fn placed_in(
+    walk: &Walk,
+    sets: &[u64; 131],
+    numbers: &[u32; 481],
+    chosen: &[u32; 256],
     spot: Spot,
-    limits: Limits,
     c: Counts,
 ) -> Walked
-    requires { (spot.at < 256) × (spot.left ≤ 255) × Visitable script.now sets.now numbers.now spot.top spot.somes limits }
-    ensures { Finds program.now script.now sets.now numbers.now chosen.now spot.top spot.somes spot.left spot.at limits c result 9 }
+    requires { (spot.at < 256) × (spot.left ≤ 255) × Visitable walk.now.script.now sets.now numbers.now spot.top spot.somes walk.now.limits }
+    ensures { Finds walk.now.program.now walk.now.script.now sets.now numbers.now chosen.now spot.top spot.somes spot.left spot.at walk.now.limits c result 9 }
 {
     let at = spot.at;
-    let number = placing(program, at);
+    let number = placing(walk.program, at);
     if 64 <= number {
-        return Walked::Stopped(12, at, c.visits);
+        return Walked::Stopped(MANY_PARTS, at, c.visits);
     }
-    let i = limits.parts + number;
-    let name = name_said(program[at], chosen);
+    let i = walk.limits.parts + number;
+    let name = name_said(walk.program[at], chosen);
     if 64 <= i {
-        return Walked::Stopped(12, at, c.visits);
+        return Walked::Stopped(MANY_PARTS, at, c.visits);
     }
     if 536870912 <= name {
-        return Walked::Stopped(8, at, c.visits);
+        return Walked::Stopped(ODD_WORD, at, c.visits);
     }
     let nowhere: [usize; 64] = [65; 64];
     let step = Step::Place(i, name);
@@ -348,6 +327,6 @@ fn placed_in<'a>(
     let mut n = *numbers;
     let mut inner = spot;
     inner.at = at + 1;
-    inner.top = next_state(script, &mut s, &mut n, spot.top, &nowhere, step);
-    visit(program, script, &s, &n, chosen, inner, limits, c)
+    inner.top = next_state(walk.script, &mut s, &mut n, spot.top, &nowhere, step);
+    visit(walk, &s, &n, chosen, inner, c)
 }
