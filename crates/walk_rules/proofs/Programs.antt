@@ -1,26 +1,19 @@
 -- A rule and its table in one array: before the first entry, one entry more, and all. Assumes nothing.
-use Prim.Native.Nat.{ℕ, ◌+◌, ◌≤◌, ◌<◌}
+use Prim.Native.Nat.{ℕ, ◌+◌, ◌<◌}
 use mathlib.Core.List.{List}
 use mathlib.Core.Path.{◌≡◌, refl, sym, ◌∙◌, subst}
 use native.Mathlib.Omega.{arith}
 use lib.Dec.{eqb}
-use lib.ListN.{get_or, set, length, length-set, replicate, get_or-eq_default}
+use lib.ListN.{get_or, set, length, length-set, replicate}
 use lib.Seq.{get_or-set_same, get_or-set_other}
 use borrow.Author.Tests.{eqb-true, eqb-false}
 use Rattle.base_slices.proofs.Tests.{by_test}
 use Rattle.walk_rules.specs.Walking.{Loading}
 
--- there is no word behind the last
-pub word_none : (words : List ℕ) (i : ℕ) → length words ≤ i → 0 ≡ get_or words i 0
-word_none words i h = sym (get_or-eq_default words 0 h)
-
 pub loading-none : (words rights placings : List ℕ) → Loading words rights placings (replicate 768 0) 0
 loading-none words rights placings =
     let none : (j : ℕ) → j < 0 → ⊥ = λ j h. omega arith in
     record { long = refl; word = λ j h. absurd (none j h); right = λ j h. absurd (none j h); number = λ j h. absurd (none j h) }
-
-pub loading-whole : {words rights placings program : List ℕ} {i : ℕ} → Loading words rights placings program i → i ≤ 256 → 256 ≤ i → Loading words rights placings program 256
-loading-whole {words} {rights} {placings} {program} {i} L h n = let e : i ≡ 256 = omega arith in subst (Loading words rights placings program) e L
 
 module _ {words rights placings program : List ℕ} {i w r n : ℕ} (L : Loading words rights placings program i) (low : i < 256) (ew : w ≡ get_or words i 0) (er : r ≡ get_or rights i 0) (en : n ≡ get_or placings i 0) where
   abbrev once : List ℕ

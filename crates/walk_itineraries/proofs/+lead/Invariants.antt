@@ -7,14 +7,14 @@ use Rattle.walk_stages.proofs.Turns.{Trying}
 use Rattle.walk_itineraries.proofs.+lead.Given as goal
 
 abbrev pub decreases-lead : goal.decreases-lead
-decreases-lead l = l.arrival.spot.left
+decreases-lead l = l.spot.left
 
 abbrev pub invariant-loop-turn : goal.invariant-loop-turn
 invariant-loop-turn l = record {
   long : length l.list ≡ 256;
   small : l.turn.rest < 2 ^ 64;
-  trying : Trying l.program l.script l.sets l.numbers l.chosen l.spot.top l.spot.somes (l.spot.left - 1) l.spot.at l.limits l.targets l.initial.now l.now l.turn.from l.turn.rest;
+  trying : Trying l.walk.program.now l.walk.script.now l.sets l.numbers l.chosen l.spot.top l.spot.somes (l.spot.left - 1) l.spot.at l.walk.limits l.targets l.initial.now l.now l.turn.from l.turn.rest;
 }
 
 abbrev pub decreases-loop-turn : goal.decreases-loop-turn
-decreases-loop-turn l = length (pairs_left l.targets l.limits.limit l.turn.from l.turn.rest)
+decreases-loop-turn l = length (pairs_left l.targets l.walk.limits.limit l.turn.from l.turn.rest)

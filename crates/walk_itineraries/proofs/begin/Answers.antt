@@ -7,8 +7,8 @@ use Rattle.walk_itineraries.proofs.begin.Goals as goal
 pub returns-then-left-eq0 : goal.returns-then-left-eq0
 returns-then-left-eq0 c = search (begins-stopped, deep-visits, rules)
 
-pub returns-then-limits-visits : goal.returns-then-limits-visits
-returns-then-limits-visits c = search (begins-stopped, over-visits, rules)
+pub returns-then-walk-visits : goal.returns-then-walk-visits
+returns-then-walk-visits c = search (begins-stopped, over-visits, rules)
 
 pub returns : goal.returns
 returns c = search (begins-inner, rules)

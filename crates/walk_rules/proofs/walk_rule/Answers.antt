@@ -7,8 +7,8 @@ use Rattle.walk_rules.proofs.walk_rule.Goals as goal
 pub lead-requires : goal.lead-requires
 lead-requires c = search (first-visitable, rules)
 
-pub returns-then-program-eq7 : goal.returns-then-program-eq7
-returns-then-program-eq7 c = record { walked = search (led-walk, rules); routed = search (led-routed, rules) }
+pub returns-then-program-eq-SOMETIME : goal.returns-then-program-eq-SOMETIME
+returns-then-program-eq-SOMETIME c = record { walked = search (led-walk, rules); routed = search (led-routed, rules) }
 
 pub visit-walked-requires : goal.visit-walked-requires
 visit-walked-requires c = (omega arith, search (first-visitable, rules))
