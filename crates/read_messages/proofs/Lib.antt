@@ -5,4 +5,4 @@ pub mod Cases
 pub mod Spells
 pub mod Places
 pub mod Mentioning
-pub mod Greatest
+pub mod Folds

@@ -1,6 +1,6 @@
 -- Words of 32 bits (document 01, opening): a word's top 4 bits are its kind, the low 28 its operand.
 -- Assumes nothing: these are definitions.
-use Rattle.std.specs.Prelude.{ℕ, ◌+◌, ◌*◌, ◌/◌, ◌%◌, Bool, ◌&&◌, List, leb, eqb}
+use Rattle.std.specs.Prelude.{ℕ, ◌+◌, ◌*◌, ◌/◌, ◌%◌, Bool, ◌&&◌, List, leb, eqb, fold, max}
 use Rattle.std.specs.List.{list_any}
 
 unfoldable pub kind : ℕ → ℕ
@@ -20,6 +20,10 @@ name_fits n = leb 1 n && leb n 255
 -- whether a number is in a list
 unfoldable pub member : ℕ → List ℕ → Bool
 member n ms = list_any (λ m. eqb n m) ms
+
+-- the greatest of the numbers that the words say, 0 where there is none
+abbrev pub greatest_of : (ℕ → ℕ) → List ℕ → ℕ
+greatest_of f ws = fold (λ g w. max g (f w)) 0 ws
 
 -- To unfold this is to unfold every definition of this module: for a proof by computation.
 unfoldable pub computing : Unit {0}

@@ -3,7 +3,7 @@
 
 ghost use Rattle.std.specs.Prelude.{◌≡◌, ℕ, ◌≤◌, ◌<◌, drop, length, replicate};
 ghost use Rattle.base_slices.specs.Fronts.{Fronted};
-ghost use Rattle.read_messages.specs.Words.{member};
+ghost use Rattle.read_messages.specs.Words.{member, greatest_of};
 ghost use Rattle.read_messages.specs.Reading.{cursor, outcome};
 ghost use Rattle.read_messages.specs.ReadMessage.{message_word, asked, read_message, MessageReadable};
 
@@ -126,6 +126,14 @@ pub fn read_message(s: &[u32], at: usize, nest: usize, around: &[u16]) -> Result
             read_message(&s[next - at..], next, nest + 1, around)
         }
     }
+}
+
+// The greatest of the names that the words say, 0 where there is none; name is what a word says, 0 for no name.
+pub fn greatest<F: Fn(u32) -> u32>(words: &[u32], name: F) -> u32
+    requires { F.IsAlwaysCallable name }
+    ensures { (f : ℕ → ℕ) → ((w r : _) → F.post name w r → r ≡ f w) → result ≡ greatest_of f words.now }
+{
+    words.iter().fold(0, |greatest, w| greatest.max(name(*w)))
 }
 
 // The indices of the words around a word, innermost first, from first on: of the receipts around a message, or of the SOMEs

@@ -30,6 +30,10 @@ unfoldable pub asked_part : (place nest : ℕ) → Option PartWord → Result Pa
 asked_part i nest (Some p) = cond (leb nest 64) (Ok p) (refusal_at 4 i)
 asked_part i nest None = refusal_at 2 i
 
+-- the operand of a NAME word, 0 for any other
+unfoldable pub script_name : ℕ → ℕ
+script_name w = cond (eqb (kind w) 8) (operand w) 0
+
 -- "the greatest name in script .. (0 if none)": over the script's NAME words
 unfoldable pub greatest_name : List ℕ → ℕ
 greatest_name [] = 0

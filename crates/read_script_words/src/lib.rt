@@ -3,9 +3,9 @@
 #![tactic(auto)]
 
 ghost use Rattle.std.specs.Prelude.{◌≡◌};
-ghost use Rattle.read_script_words.specs.ScriptWords.{part_word, asked_part, greatest_name};
+ghost use Rattle.read_script_words.specs.ScriptWords.{part_word, asked_part, script_name, greatest_name};
 
-use read_messages::{KIND_UNIT, MOST_NESTING, NAME, Refusal};
+use read_messages::{KIND_UNIT, MOST_NESTING, NAME, Refusal, greatest};
 
 // What a word is where a part is expected.
 #[derive(Clone, Copy, Debug, PartialEq, Eq)]
@@ -44,13 +44,21 @@ pub fn ask_part(w: u32, place: usize, nest: usize) -> Result<PartWord, Refusal>
     Ok(part)
 }
 
+// The operand of a NAME word, 0 for any other.
+#[tactic(auto, unfolding(crate::specs::ScriptWords::script_name, read_messages::specs::Words::kind, read_messages::specs::Words::operand))]
+fn script_name(w: u32) -> u32
+    ensures { result ≡ script_name w }
+{
+    if w / KIND_UNIT == NAME {
+        w % KIND_UNIT
+    } else {
+        0
+    }
+}
+
 // The greatest name among the NAME words, 0 if there is none.
-#[tactic(auto, using(crate::proofs::Words::names_folded), unfolding(read_messages::specs::Words::kind, read_messages::specs::Words::operand))]
 pub fn greatest_name(s: &[u32]) -> u32
     ensures { result ≡ greatest_name s.now }
 {
-    s.iter()
-        .filter(|w| **w / KIND_UNIT == NAME)
-        .map(|w| *w % KIND_UNIT)
-        .fold(0, u32::max)
+    greatest(s, script_name)
 }
