@@ -8,135 +8,137 @@ ghost use Rattle.read_rule_words.specs.Rule.{rule_name, greatest_rule_name};
 ghost use Rattle.read_rule_words.specs.ReadRule.{rule_kind, term_of};
 ghost use Rattle.read_rule_words.specs.RuleWords.{term_word, levelled, asked_plain, asked_term, asked};
 
+use read_messages::{KIND_UNIT, MOST_NAME, Refusal, greatest, is_around};
+
+// The kinds of the rule words with an operand.
+const AT: u32 = 4;
+
+const PLACED: u32 = 9;
+
+// An operand with bit 27 set is this and the index of a SOME.
+const CHOSEN: u32 = 134217728;
+
+// Question 10: the most rules around a word, and the most SOMEs.
+const MOST_AROUND: usize = 64;
+
+const MOST_SOMES: usize = 8;
+
 // What a word of AT or PLACED says: a name, or the index of the SOME whose name it is.
-#[derive(Drop)]
+#[derive(Clone, Copy, Debug, PartialEq, Eq)]
 pub enum RuleTerm {
     Constant(u32),
     Chosen(u32),
 }
 
-// What stands inside the rule that begins with a word: no rule, one, two, one under a SOME, one under a PLACED; or the number
-// of the first question that the word answers by no.
-#[derive(Drop)]
-pub enum Asked {
+// What stands inside the rule that begins with a word: no rule, one, two, one under a SOME, or one under a PLACED.
+#[derive(Clone, Copy, Debug, PartialEq, Eq)]
+pub enum RuleShape {
     Leaf,
     One,
     Two,
     Choice,
     Place,
-    No { question: u32 },
 }
 
 // The term of a word of AT or PLACED.
+#[tactic(auto, using(std::proofs::lemmas::Bool::Decides::nat_tests), unfolding(crate::specs::RuleWords::term_word, crate::specs::ReadRule::term_of, crate::specs::ReadRule::is_chosen, read_messages::specs::Words::operand))]
 pub fn term_of(w: u32) -> RuleTerm
     ensures { result ≡ term_word (term_of (operand w)) }
 {
-    let n = w % 268435456;
-    if 134217728 <= n {
-        return RuleTerm::Chosen(n - 134217728);
+    let n = w % KIND_UNIT;
+    if CHOSEN <= n {
+        RuleTerm::Chosen(n - CHOSEN)
+    } else {
+        RuleTerm::Constant(n)
     }
-    RuleTerm::Constant(n)
 }
 
 // Question 10: at most 64 rules around, and at most 8 SOMEs.
-fn within(around: usize, somes: usize, a: Asked) -> Asked
-    ensures { result ≡ levelled around somes a }
+#[tactic(auto, using(std::proofs::lemmas::Bool::Decides::nat_tests), unfolding(crate::specs::RuleWords::levelled))]
+fn within(place: usize, around: usize, somes: usize, shape: RuleShape) -> Result<RuleShape, Refusal>
+    ensures { result ≡ levelled place around somes shape }
 {
-    if 64 < around {
-        return Asked::No { question: 10 };
+    if MOST_AROUND < around || MOST_SOMES < somes {
+        return Err(Refusal {
+            question: 10,
+            place,
+        });
     }
-    if 8 < somes {
-        return Asked::No { question: 10 };
-    }
-    a
+    Ok(shape)
 }
 
 // Questions 8 and 10 for a word whose operand is zero.
-fn ask_plain(w: u32, around: usize, somes: usize, a: Asked) -> Asked
-    ensures { result ≡ asked_plain around somes (operand w) a }
+#[tactic(auto, using(std::proofs::lemmas::Bool::Decides::nat_tests), unfolding(crate::specs::RuleWords::asked_plain, read_messages::specs::Words::operand))]
+fn ask_plain(
+    w: u32,
+    place: usize,
+    around: usize,
+    somes: usize,
+    shape: RuleShape,
+) -> Result<RuleShape, Refusal>
+    ensures { result ≡ asked_plain place around somes (operand w) shape }
 {
-    if w % 268435456 != 0 {
-        return Asked::No { question: 8 };
+    if w % KIND_UNIT != 0 {
+        return Err(Refusal { question: 8, place });
     }
-    within(around, somes, a)
+    within(place, around, somes, shape)
 }
 
 // Questions 8, 9 and 10 for a word of AT or PLACED.
-fn ask_term(w: u32, around: usize, somes: &[u16], a: Asked) -> Asked
-    ensures { result ≡ asked_term around somes.now (operand w) a }
+#[tactic(auto, using(std::proofs::lemmas::Bool::Decides::nat_tests), unfolding(crate::specs::RuleWords::asked_term, crate::specs::RuleWords::term_word, crate::specs::ReadRule::term_of, crate::specs::ReadRule::is_chosen, crate::specs::ReadRule::term_bound, read_messages::specs::Words::name_fits))]
+fn ask_term(
+    w: u32,
+    place: usize,
+    around: usize,
+    somes: &[u16],
+    shape: RuleShape,
+) -> Result<RuleShape, Refusal>
+    ensures { result ≡ asked_term place around somes.now (operand w) shape }
 {
-    let t = term_of(w);
-    match t {
-        RuleTerm::Constant(name) => {
-            if name == 0 {
-                return Asked::No { question: 8 };
-            }
-            if 255 < name {
-                return Asked::No { question: 8 };
-            }
-            within(around, somes.len(), a)
-        }
+    match term_of(w) {
+        RuleTerm::Constant(1..=MOST_NAME) => {}
+        RuleTerm::Constant(_) => return Err(Refusal { question: 8, place }),
         RuleTerm::Chosen(index) => {
-            if read_messages::is_around(somes, index) {
-                return within(around, somes.len(), a);
+            if !is_around(somes, index) {
+                return Err(Refusal { question: 9, place });
             }
-            Asked::No { question: 9 }
         }
     }
+    within(place, around, somes.len(), shape)
 }
 
-// Questions 8, 9 and 10 for a word with so many rules around it.
-pub fn ask_rule(w: u32, around: usize, somes: &[u16]) -> Asked
+// Questions 8, 9 and 10 for a word at the index place with so many rules around it.
+#[tactic(auto, using(std::proofs::lemmas::Bool::Decides::nat_tests), unfolding(crate::specs::RuleWords::asked, crate::specs::RuleWords::asked_plain, crate::specs::RuleWords::asked_term, crate::specs::RuleWords::follow, crate::specs::ReadRule::rule_kind, crate::specs::ReadRule::operand_fits, crate::specs::ReadRule::bound, crate::specs::ReadRule::somes_with, read_messages::specs::Words::kind))]
+pub fn ask_rule(w: u32, place: usize, around: usize, somes: &[u16]) -> Result<RuleShape, Refusal>
     requires { length somes.now ≤ 8 }
-    ensures { result ≡ asked around somes.now (rule_kind w) (operand w) }
+    ensures { result ≡ asked place around somes.now (rule_kind w) (operand w) }
 {
-    let kind = w / 268435456;
     let n = somes.len();
-    match kind {
-        0 => ask_plain(w, around, n, Asked::Leaf),
-        1 => ask_plain(w, around, n, Asked::One),
-        2 => ask_plain(w, around, n, Asked::Two),
-        3 => ask_plain(w, around, n, Asked::Leaf),
-        4 => ask_term(w, around, somes, Asked::One),
-        5 => ask_plain(w, around, n, Asked::Two),
-        6 => ask_plain(w, around, n + 1, Asked::Choice),
-        7 => ask_plain(w, around, n, Asked::One),
-        8 => ask_plain(w, around, n, Asked::One),
-        9 => ask_term(w, around, somes, Asked::Place),
-        10.. => Asked::No { question: 8 },
+    match w / KIND_UNIT {
+        0 | 3 => ask_plain(w, place, around, n, RuleShape::Leaf),
+        1 | 7 | 8 => ask_plain(w, place, around, n, RuleShape::One),
+        2 | 5 => ask_plain(w, place, around, n, RuleShape::Two),
+        AT => ask_term(w, place, around, somes, RuleShape::One),
+        6 => ask_plain(w, place, around, n + 1, RuleShape::Choice),
+        PLACED => ask_term(w, place, around, somes, RuleShape::Place),
+        _ => Err(Refusal { question: 8, place }),
     }
 }
 
 // The plain operand of a word of AT or PLACED, 0 for any other.
+#[tactic(auto, using(std::proofs::lemmas::Bool::Decides::nat_tests), unfolding(crate::specs::Rule::rule_name, read_messages::specs::Words::kind, read_messages::specs::Words::operand))]
 fn rule_name(w: u32) -> u32
     ensures { result ≡ rule_name w }
 {
-    let kind = w / 268435456;
-    let n = w % 268435456;
-    if 134217728 <= n {
-        return 0;
+    match (w / KIND_UNIT, w % KIND_UNIT) {
+        (AT | PLACED, n) if n < CHOSEN => n,
+        _ => 0,
     }
-    if kind == 4 {
-        return n;
-    }
-    if kind == 9 {
-        return n;
-    }
-    0
 }
 
 // The greatest name among the plain operands of AT and PLACED, 0 if there is none.
 pub fn greatest_rule_name(rule: &[u32]) -> u32
     ensures { result ≡ greatest_rule_name rule.now }
 {
-    let mut greatest: u32 = 0;
-    let mut i: usize = rule.len();
-    while 0 < i {
-        i -= 1;
-        let name = rule_name(rule[i]);
-        if greatest < name {
-            greatest = name;
-        }
-    }
-    greatest
+    greatest(rule, rule_name)
 }
