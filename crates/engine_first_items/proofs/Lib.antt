@@ -1,1 +1,2 @@
--- The laws.
+-- The laws of `engine_first_items`. Assumes nothing.
+mod Searching

@@ -4,12 +4,12 @@ use Rattle.engine_message_words.specs.Words.{binding_at}
 use Rattle.engine_message_words.specs.declared.Binding.{Binding}
 use Rattle.engine_first_items.specs.declared.Search.{Search}
 
--- the search s stands before those words, with so many messages pending and items ahead, under those bindings
-pub record Stands (s : Search) (words : List ℕ) (pending ahead : ℕ) (bindings : List Binding) : Type 0 where
-  pub words : s.words.now ≡ words
-  pub pending : s.pending ≡ pending
-  pub ahead : s.ahead ≡ ahead
-  pub bindings : s.bindings.now ≡ bindings
+-- the search s stands before the words ws, with p messages pending and o items ahead, under the bindings bs
+pub record Stands (s : Search) (ws : List ℕ) (p o : ℕ) (bs : List Binding) : Type 0 where
+  pub words : s.words.now ≡ ws
+  pub pending : s.pending ≡ p
+  pub ahead : s.ahead ≡ o
+  pub bindings : s.bindings.now ≡ bs
 
 -- r is how the search s goes on at a variable whose binding is the k-th
 pub record AtVariable (s : Search) (script : List ℕ) (k : ℕ) (r : Search) : Type 0 where

@@ -27,7 +27,7 @@ struct Search<'a> {
 // The search at a variable whose binding is the k-th: in its message, or behind the variable.
 fn at_variable<'a>(s: Search<'a>, script: &'a [u32], k: usize) -> Search<'a>
     requires { VariableAsked s k }
-    ensures { AtVariable s script.now k result }
+    ensures { AtVariable s.entry script.now k result }
 {
     let bindings = s.bindings;
     let count = bindings[k].count;
