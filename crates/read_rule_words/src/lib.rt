@@ -21,7 +21,7 @@ const CHOSEN: u32 = 134217728;
 // Question 10: the most rules around a word, and the most SOMEs.
 const MOST_AROUND: usize = 64;
 
-const MOST_SOMES: usize = 8;
+pub const MOST_SOMES: usize = 8;
 
 // What a word of AT or PLACED says: a name, or the index of the SOME whose name it is.
 #[derive(Clone, Copy, Debug, PartialEq, Eq)]

@@ -1,8 +1,8 @@
 -- What the readers of rules ask and answer, and the rule table that they fill, as a function of the rule that the words are
 -- read as. Assumes nothing: these are definitions.
-use Rattle.std.specs.Prelude.{ℕ, ◌+◌, ◌≤◌, ◌<◌, List, length, set, replicate}
-use Rattle.read_messages.specs.Reading.{Cursor, Reading, refuse, got}
-use Rattle.read_messages.specs.declared.Outcome.TheVariants.{Read, Refused}
+use Rattle.std.specs.Prelude.{ℕ, ◌+◌, ◌≤◌, ◌<◌, List, length, set, replicate, Result, Ok}
+use Rattle.read_messages.specs.Reading.{Cursor, Reading, refuse, got, refusal_at}
+use Rattle.read_messages.specs.declared.Refusal.{Refusal}
 use Rattle.read_rule_words.specs.Rule.{Rule, truth, negation, either, void, at, beside, some-name, sometime, somewhere, placed, rule_index}
 use Rattle.read_rules.specs.declared.RuleTable.{RuleTable}
 use Rattle.read_rules.specs.declared.RuleScan.{RuleScan}
@@ -32,13 +32,14 @@ tabulate (sometime i r) t = tabulate r t
 tabulate (somewhere i r) t = tabulate r t
 tabulate (placed i j n r) t = tabulate r (entered i j t)
 
--- What the readers of the code answer; a refusal gives the empty table.
-abbrev pub refused_at : (question place : ℕ) → RuleScan
-refused_at q i = record { outcome = Refused q i; table = vacant }
+-- What the readers of the code answer.
+unfoldable pub scanned : RuleTable → Reading (Rule × Cursor) → Result RuleScan Refusal
+scanned t (refuse q i) = refusal_at q i
+scanned t (got p) = Ok (record { next = p.1.index; table = tabulate p.0 t })
 
-unfoldable pub scanned : RuleTable → Reading (Rule × Cursor) → RuleScan
-scanned t (refuse q i) = refused_at q i
-scanned t (got p) = record { outcome = Read p.1.index; table = tabulate p.0 t }
+unfoldable pub tabled : Reading (Rule × Cursor) → Result RuleTable Refusal
+tabled (refuse q i) = refusal_at q i
+tabled (got p) = Ok (tabulate p.0 vacant)
 
 -- what the reader of rules is called with: the words, the first of which has the index `at`, so many rules around them, the
 -- index from which on the array has the SOMEs around, and so many PLACED words before
@@ -59,14 +60,7 @@ pub record Enterable (at count : ℕ) : Type 0 where
   -- the PLACED words before it are fewer: its placing is one byte
   pub fewer : count < 256
 
--- what a SOME is added to those around with: the index from which on the array has them
-pub record SomeAddable (first : ℕ) : Type 0 where
-  -- there is room for one more
-  pub room : 0 < first
-  -- they stand in an array of 8
-  pub somes : first ≤ 8
-
 -- To unfold this is to unfold every definition of this module: for a proof by computation.
 unfoldable pub computing : Unit {0}
-unfolding tabulate scanned
+unfolding tabulate scanned tabled
 computing = tt

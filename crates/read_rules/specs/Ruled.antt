@@ -1,13 +1,13 @@
 -- How the rule's words and the rule table represent the rule that was read: what a walk that stands at a word's index may
 -- know of the rule there. The law that they do is in proofs/Tabled.antt. Assumes nothing: these are definitions.
-use Rattle.std.specs.Prelude.{ℕ, suc, ◌+◌, ◌≤◌, ◌<◌, true, ◌||◌, List, [], ◌∷◌, ◌≡◌, get_or, length}
+use Rattle.std.specs.Prelude.{ℕ, suc, ◌+◌, ◌≤◌, ◌<◌, true, ◌||◌, List, [], ◌∷◌, ◌≡◌, get_or, length, Result, Ok}
 use Rattle.read_messages.specs.Words.{kind, operand, name_fits}
 use Rattle.read_messages.specs.Reading.{Cursor, got}
+use Rattle.read_messages.specs.declared.Refusal.{Refusal}
 use Rattle.read_rule_words.specs.Rule.{Term, Rule, truth, negation, either, void, at, beside, some-name, sometime, somewhere, placed, rule_index}
 use Rattle.read_rule_words.specs.ReadRule.{is_chosen, term_of, term_bound, read_whole_rule}
-use Rattle.read_rules.specs.RuleTable.{vacant, scanned}
+use Rattle.read_rules.specs.RuleTable.{tabled}
 use Rattle.read_rules.specs.declared.RuleTable.{RuleTable}
-use Rattle.read_rules.specs.declared.RuleScan.{RuleScan}
 
 module _ (words : List ℕ) where
   -- "a word's top 4 bits are its kind": the word at the index i has the kind k
@@ -45,8 +45,8 @@ pub record Tabled (n : ℕ) (words : List ℕ) (t : RuleTable) (p : Rule × Curs
   pub ruled : Ruled words t [] p.0
 
 -- what the reader of the whole rule answers, beside a script of n parts
-pub record Answers (n : ℕ) (words : List ℕ) (r : RuleScan) : Type 0 where
-  -- the outcome and the table are those of the definition
-  pub answer : r ≡ scanned vacant (read_whole_rule n words)
+pub record Answers (n : ℕ) (words : List ℕ) (r : Result RuleTable Refusal) : Type 0 where
+  -- the refusal or the table is that of the definition
+  pub answer : r ≡ tabled (read_whole_rule n words)
   -- the table of a rule that is accepted, and the words, hold that rule
-  pub table : (p : Rule × Cursor) → read_whole_rule n words ≡ got p → Tabled n words r.table p
+  pub table : (p : Rule × Cursor) (t : RuleTable) → read_whole_rule n words ≡ got p → r ≡ Ok t → Tabled n words t p

@@ -2,14 +2,19 @@
 #![tactic(auto)]
 
 ghost use Rattle.std.specs.Prelude.{◌≡◌, ◌<◌, length, drop};
-ghost use Rattle.base_slices.specs.Fronts.{Fronted};
 ghost use Rattle.read_messages.specs.Reading.{cursor};
 ghost use Rattle.read_rule_words.specs.ReadRule.{read_rule};
-ghost use Rattle.read_rules.specs.RuleTable.{vacant, refused_at, turned, entered, scanned, Readable, Enterable, SomeAddable};
+ghost use Rattle.read_rules.specs.RuleTable.{vacant, turned, entered, scanned, Readable, Enterable};
 ghost use Rattle.read_rules.specs.Ruled.{Answers};
 
-use read_messages::Outcome;
-use read_rule_words::{Asked, ask_rule};
+use read_messages::{Innermost, Refusal};
+use read_rule_words::{MOST_SOMES, RuleShape, ask_rule};
+
+// Question 7: the most words.
+const MOST_WORDS: usize = 256;
+
+// Question 12: the most parts and PLACED words.
+const MOST_PARTS: usize = 64;
 
 // The rule's words by index: of an OR or BESIDE where its right rule starts, of a PLACED its place among the PLACED words.
 // count is the number of PLACED words.
@@ -20,145 +25,105 @@ pub struct RuleTable {
     pub count: usize,
 }
 
-// The indices of the SOMEs around a word, innermost first, from first on.
-#[derive(Clone, Copy)]
-struct Somes {
-    indices: [u16; 8],
-    first: usize,
+impl RuleTable {
+    // The table of no rule.
+    fn vacant() -> RuleTable
+        ensures { result ≡ vacant }
+    {
+        RuleTable {
+            rights: [0; 256],
+            placings: [0; 256],
+            count: 0,
+        }
+    }
+
+    // The table in which the right rule of the word at the index at starts at the index right.
+    fn turn(self, at: usize, right: u16) -> RuleTable
+        requires { at < 256 }
+        ensures { result ≡ turned at right self }
+    {
+        let mut t = self;
+        t.rights[at] = right;
+        t
+    }
+
+    // The table with one PLACED word more, at the index at.
+    fn enter(self, at: usize) -> RuleTable
+        requires { Enterable at self.count }
+        ensures { result ≡ entered at self.count self }
+    {
+        let n = self.count;
+        let mut t = self;
+        t.placings[at] = n as u8;
+        t.count = n + 1;
+        t
+    }
 }
 
-// What a reader of rules answers. A refusal gives the empty table.
+// What a reader of rules answers: the index of the word behind the rule, and the table with it.
 #[derive(Drop)]
 pub struct RuleScan {
-    pub outcome: Outcome,
+    pub next: usize,
     pub table: RuleTable,
 }
 
-// The table of no rule.
-fn vacant() -> RuleTable
-    ensures { result ≡ vacant }
-{
-    RuleTable {
-        rights: [0; 256],
-        placings: [0; 256],
-        count: 0,
-    }
-}
-
-// The answer to a question that is answered by no.
-fn refused(question: u32, place: usize) -> RuleScan
-    ensures { result ≡ refused_at question place }
-{
-    let table = vacant();
-    RuleScan {
-        outcome: Outcome::Refused { question, place },
-        table,
-    }
-}
-
-// The table in which the right rule of the word at the index at starts at the index right.
-fn turn(table: RuleTable, at: usize, right: u16) -> RuleTable
-    requires { at < 256 }
-    ensures { result ≡ turned at right table }
-{
-    let mut t = table;
-    t.rights[at] = right;
-    t
-}
-
-// The table with one PLACED word more, at the index at.
-fn enter(table: RuleTable, at: usize) -> RuleTable
-    requires { Enterable at table.count }
-    ensures { result ≡ entered at table.count table }
-{
-    let n = table.count;
-    let mut t = table;
-    t.placings[at] = n as u8;
-    t.count = n + 1;
-    t
-}
-
-// The SOMEs around the rule of the SOME at the index at.
-fn with_some(somes: Somes, at: u16) -> Somes
-    requires { SomeAddable somes.first }
-    ensures { Fronted at somes.first somes.indices result.first result.indices }
-{
-    let first = somes.first - 1;
-    let mut inner = somes;
-    inner.indices[first] = at;
-    inner.first = first;
-    inner
-}
-
 // The rule at the front of s, the words from index at on, with so many rules around it.
-fn read_rule(s: &[u32], at: usize, around: usize, somes: Somes, table: RuleTable) -> RuleScan
+fn read_rule(
+    s: &[u32],
+    at: usize,
+    around: usize,
+    somes: Innermost<MOST_SOMES>,
+    table: RuleTable,
+) -> Result<RuleScan, Refusal>
     requires { Readable s.now at around somes.first table.count }
     ensures { result ≡ scanned table (read_rule (length s.now) around (drop somes.first somes.indices) (cursor at table.count s.now)) }
 {
-    if s.len() == 0 {
-        return refused(11, at);
-    }
-    let all = somes.indices;
-    let first = somes.first;
-    let a = ask_rule(s[0], around, &all[first..]);
-    match a {
-        Asked::No { question } => refused(question, at),
-        Asked::Leaf => RuleScan {
-            outcome: Outcome::Read { next: at + 1 },
+    let Some((word, rest)) = s.split_first() else {
+        return Err(Refusal {
+            question: 11,
+            place: at,
+        });
+    };
+    match ask_rule(*word, at, around, somes.as_slice())? {
+        RuleShape::Leaf => Ok(RuleScan {
+            next: at + 1,
             table,
-        },
-        Asked::One => read_rule(&s[1..], at + 1, around + 1, somes, table),
-        Asked::Two => {
-            let left = read_rule(&s[1..], at + 1, around + 1, somes, table);
-            let o = left.outcome;
-            let Outcome::Read { next } = o else {
-                return left;
-            };
-            let t = turn(left.table, at, next as u16);
-            let k = next - at;
-            read_rule(&s[k..], next, around + 1, somes, t)
+        }),
+        RuleShape::One => read_rule(rest, at + 1, around + 1, somes, table),
+        RuleShape::Two => {
+            let left = read_rule(rest, at + 1, around + 1, somes, table)?;
+            let next = left.next;
+            let t = left.table.turn(at, next as u16);
+            read_rule(&s[next - at..], next, around + 1, somes, t)
         }
-        Asked::Choice => {
-            let inner = with_some(somes, at as u16);
-            read_rule(&s[1..], at + 1, around + 1, inner, table)
-        }
-        Asked::Place => {
-            let t = enter(table, at);
-            read_rule(&s[1..], at + 1, around + 1, somes, t)
-        }
+        RuleShape::Choice => read_rule(rest, at + 1, around + 1, somes.with(at as u16), table),
+        RuleShape::Place => read_rule(rest, at + 1, around + 1, somes, table.enter(at)),
     }
 }
 
 // The whole rule beside a script of so many parts: questions 7 to 12.
-pub fn read_whole_rule(rule: &[u32], parts: usize) -> RuleScan
+pub fn read_whole_rule(rule: &[u32], parts: usize) -> Result<RuleTable, Refusal>
     ensures { Answers parts rule.now result }
 {
     let n = rule.len();
-    if n == 0 {
-        return refused(7, 0);
+    if n == 0 || MOST_WORDS < n {
+        return Err(Refusal {
+            question: 7,
+            place: 0,
+        });
     }
-    if 256 < n {
-        return refused(7, 0);
+    let a = read_rule(rule, 0, 0, Innermost::none(), RuleTable::vacant())?;
+    if a.next < n {
+        return Err(Refusal {
+            question: 11,
+            place: a.next,
+        });
     }
-    let somes = Somes {
-        indices: [0; 8],
-        first: 8,
-    };
-    let none = vacant();
-    let a = read_rule(rule, 0, 0, somes, none);
-    let o = a.outcome;
-    let Outcome::Read { next } = o else {
-        return a;
-    };
-    if next < n {
-        return refused(11, next);
+    if MOST_PARTS < parts || MOST_PARTS < parts + a.table.count {
+        return Err(Refusal {
+            question: 12,
+            place: 0,
+        });
     }
-    if 64 < parts {
-        return refused(12, 0);
-    }
-    let count = a.table.count;
-    if 64 < parts + count {
-        return refused(12, 0);
-    }
-    a
+    Ok(a.table)
 }

@@ -1,15 +1,15 @@
 -- How a part table and the script's words represent the tree that was read. The law that they do is in
 -- proofs/Tabled.antt. Assumes nothing: these are definitions.
-use Rattle.std.specs.Prelude.{ℕ, ◌+◌, ◌≤◌, cond, List, ◌≡◌, get_or, drop, eqb}
+use Rattle.std.specs.Prelude.{ℕ, ◌+◌, ◌≤◌, cond, List, ◌≡◌, get_or, drop, eqb, Result, Ok}
 use Rattle.base_sets.specs.Sets.{members}
 use Rattle.read_messages.specs.Reading.{Cursor, got}
 use Rattle.read_messages.specs.Message.{Message}
+use Rattle.read_messages.specs.declared.Refusal.{Refusal}
 use Rattle.read_messages.specs.Spelling.{message_at}
 use Rattle.read_scripts.specs.Tree.{Head, ambient, action, receipt, output, Body, close, part, kind_number, tops, parts, map_heads}
 use Rattle.read_scripts.specs.Script.{Script, read_script}
-use Rattle.read_scripts.specs.Table.{start_of, vacant, scanned}
+use Rattle.read_scripts.specs.Table.{start_of, tabled}
 use Rattle.read_scripts.specs.declared.Table.{Table}
-use Rattle.read_scripts.specs.declared.Scan.{Scan}
 
 -- "Parts (kinds 1 to 4) are numbered 0, 1, 2 in word order": from n on
 abbrev pub Numbered : {H : Type 0} → ℕ → Body H → Type 0
@@ -59,8 +59,8 @@ pub record Tabled (script : List ℕ) (t : Table) (b : Script) : Type 0 where
   pub low : (i : ℕ) → get_or t.starts i 0 ≤ 1024
 
 -- what the reader of the script answers
-pub record Answers (script : List ℕ) (r : Scan) : Type 0 where
-  -- the outcome and the table are those of the definition; the script's own body is number 64's
-  pub answer : r ≡ scanned 64 vacant (read_script script)
+pub record Answers (script : List ℕ) (r : Result Table Refusal) : Type 0 where
+  -- the refusal or the table is that of the definition; the script's own body is number 64's
+  pub answer : r ≡ tabled (read_script script)
   -- the table of a script that is accepted, and the words, hold its tree
-  pub table : (p : Script × Cursor) → read_script script ≡ got p → Tabled script r.table p.0
+  pub table : (p : Script × Cursor) (t : Table) → read_script script ≡ got p → r ≡ Ok t → Tabled script t p.0

@@ -1,13 +1,13 @@
 -- How a script is read from words: questions 1 to 6 (document 01, "Questions at the door"); and the plain machine's tree that
 -- it begins as. Assumes nothing: these are definitions.
-use Rattle.std.specs.Prelude.{ℕ, zero, suc, ◌&&◌, cond, List, [], ◌∷◌, length, leb, eqb}
+use Rattle.std.specs.Prelude.{ℕ, zero, suc, ◌&&◌, cond, List, [], ◌∷◌, length, leb, eqb, Option, Some, None}
 use Rattle.read_messages.specs.Reading.{Cursor, cursor, Reading, refuse, got, ◌>>=◌, ask, next_word, next_part, is_empty}
 use Rattle.read_messages.specs.Message.{Message, items}
 use Rattle.read_messages.specs.ReadMessage.{read_message}
 use Rattle.read_scripts.specs.Tree.{Head, ambient, action, receipt, output, Body, close, part, map_heads, Plain, PlainHead, settle}
 use Rattle.read_script_words.specs.ScriptWords.{part_word, part_fits}
 use Rattle.read_script_words.specs.declared.PartWord.{PartWord}
-use Rattle.read_script_words.specs.declared.PartWord.TheVariants.{Close, Ambient, Action, Receipt, Output, No}
+use Rattle.read_script_words.specs.declared.PartWord.TheVariants.{Close, Ambient, Action, Receipt, Output}
 
 -- A part as it is written: the index of its word, and what it is, an action being its message.
 pub record Written : Type 0 where
@@ -31,26 +31,26 @@ guarded_from written message inside around i c = do
 -- its body, `around` being the receipts around it.
 unfoldable pub part_from :
     (message : Cursor → Reading (Message × Cursor)) (inside : List ℕ → Cursor → Reading (Script × Cursor))
-    → (around : List ℕ) → PartWord → (i : ℕ) → Cursor → Reading ((Written × Script) × Cursor)
-part_from message inside around Ambient i c = guarded_from ambient message inside around i c
-part_from message inside around Action i c = guarded_from action message inside around i c
-part_from message inside around Receipt i c = do
+    → (around : List ℕ) → Option PartWord → (i : ℕ) → Cursor → Reading ((Written × Script) × Cursor)
+part_from message inside around (Some Ambient) i c = guarded_from ambient message inside around i c
+part_from message inside around (Some Action) i c = guarded_from action message inside around i c
+part_from message inside around (Some Receipt) i c = do
   (b, c₁) ← inside (i ∷ around) c
   got ((record { index = i; head = receipt i }, b), c₁)
-part_from message inside around Output i c = do
+part_from message inside around (Some Output) i c = do
   (m, c₁) ← message c
   got ((record { index = i; head = output m }, close), c₁)
-part_from message inside around Close i c = refuse 2 i
-part_from message inside around (No q) i c = refuse q i
+part_from message inside around (Some Close) i c = refuse 2 i
+part_from message inside around None i c = refuse 2 i
 
 -- CLOSE ends a body; before any other word there is a part, and then the rest
-unfoldable pub or_close : PartWord → Cursor → Reading (Script × Cursor) → Reading (Script × Cursor)
-or_close Close c parts = got (close, c)
-or_close Ambient c parts = parts
-or_close Action c parts = parts
-or_close Receipt c parts = parts
-or_close Output c parts = parts
-or_close (No q) c parts = parts
+unfoldable pub or_close : Option PartWord → Cursor → Reading (Script × Cursor) → Reading (Script × Cursor)
+or_close (Some Close) c parts = got (close, c)
+or_close (Some Ambient) c parts = parts
+or_close (Some Action) c parts = parts
+or_close (Some Receipt) c parts = parts
+or_close (Some Output) c parts = parts
+or_close None c parts = parts
 
 -- "A body is parts up to one CLOSE": the body at the cursor, its words having the nesting `nest`. `fuel` bounds the
 -- recursion: as many as there are words left is enough, and more changes nothing.

@@ -1,10 +1,10 @@
 -- The part table that the reader fills, as a function of the tree that the words are read as, and what the readers ask of
 -- what they are called with. Assumes nothing: these are definitions.
-use Rattle.std.specs.Prelude.{ℕ, ◌+◌, ◌≤◌, ◌<◌, cond, List, ◌≡◌, length, get_or, set, replicate, ltb}
+use Rattle.std.specs.Prelude.{ℕ, ◌+◌, ◌≤◌, ◌<◌, cond, List, ◌≡◌, length, get_or, set, replicate, ltb, Some, Result, Ok}
 use Rattle.base_sets.specs.Sets.{members, inserted, mask}
-use Rattle.read_messages.specs.Reading.{Cursor, Reading, refuse, got}
+use Rattle.read_messages.specs.Reading.{Cursor, Reading, refuse, got, refusal_at}
 use Rattle.read_messages.specs.Message.{Message}
-use Rattle.read_messages.specs.declared.Outcome.TheVariants.{Read, Refused}
+use Rattle.read_messages.specs.declared.Refusal.{Refusal}
 use Rattle.read_scripts.specs.Tree.{Head, ambient, action, receipt, output, close, part, kind_number}
 use Rattle.read_scripts.specs.Script.{Written, Script}
 use Rattle.read_script_words.specs.ScriptWords.{part_word, asked_part}
@@ -45,17 +45,18 @@ unfoldable pub tabulate : (owner : ℕ) → Script → Table → Table
 tabulate o close t = t
 tabulate o (part i w b r) t = tabulate o r (tabulate i b (entered o (kind_number w.head) (start_of w) t))
 
--- What the readers of the code answer; a refusal gives the empty table. The body of the script is owned by number 64.
-abbrev pub refused_at : (question place : ℕ) → Scan
-refused_at q i = record { outcome = Refused q i; table = vacant }
+-- What the readers of the code answer. The body of the script is owned by number 64.
+unfoldable pub scanned : (owner : ℕ) → Table → Reading (Script × Cursor) → Result Scan Refusal
+scanned o t (refuse q i) = refusal_at q i
+scanned o t (got p) = Ok (record { next = p.1.index; table = tabulate o p.0 t })
 
-unfoldable pub scanned : (owner : ℕ) → Table → Reading (Script × Cursor) → Scan
-scanned o t (refuse q i) = refused_at q i
-scanned o t (got p) = record { outcome = Read p.1.index; table = tabulate o p.0 t }
+unfoldable pub scanned_part : (owner : ℕ) → Table → Reading ((Written × Script) × Cursor) → Result Scan Refusal
+scanned_part o t (refuse q i) = refusal_at q i
+scanned_part o t (got p) = Ok (record { next = p.1.index; table = tabulate o (part t.count p.0.0 p.0.1 close) t })
 
-unfoldable pub scanned_part : (owner : ℕ) → Table → Reading ((Written × Script) × Cursor) → Scan
-scanned_part o t (refuse q i) = refused_at q i
-scanned_part o t (got p) = record { outcome = Read p.1.index; table = tabulate o (part t.count p.0.0 p.0.1 close) t }
+unfoldable pub tabled : Reading (Script × Cursor) → Result Table Refusal
+tabled (refuse q i) = refusal_at q i
+tabled (got p) = Ok (tabulate 64 p.0 vacant)
 
 -- What the reader of a body is called with: the words, the first of which has the index `at`, their nesting, the index from
 -- which on the array has the receipts around, and how many parts stand before.
@@ -77,7 +78,7 @@ pub record PartReadable (w : PartWord) (words : List ℕ) (at nest first count :
   -- there is a first word
   pub some : 0 < length words
   -- questions 2 and 4 were asked of it, and w is the answer
-  pub asked : w ≡ asked_part nest (part_word (get_or words 0 0))
+  pub asked : Ok w ≡ asked_part at nest (part_word (get_or words 0 0))
 
 -- the same for the reader of an ambient (kind 1) or an action (kind 2), whose first word passed question 4
 pub record GuardedReadable (kind : ℕ) (words : List ℕ) (at nest first count : ℕ) : Type 0 where
@@ -89,10 +90,3 @@ pub record GuardedReadable (kind : ℕ) (words : List ℕ) (at nest first count 
   -- it is one of the two kinds
   pub least : 1 ≤ kind
   pub most : kind ≤ 2
-
--- what a receipt is added to those around with: the index from which on the array has them
-pub record ReceiptAddable (first : ℕ) : Type 0 where
-  -- there is room for one more
-  pub room : 0 < first
-  -- they stand in an array of 65
-  pub receipts : first ≤ 65

@@ -2,19 +2,40 @@
 // document 01.
 #![tactic(auto)]
 
-ghost use Rattle.std.specs.Prelude.{◌≡◌, suc, ◌+◌, ◌-◌, ◌<◌, length, drop};
-ghost use Rattle.base_slices.specs.Fronts.{Fronted};
+ghost use Rattle.std.specs.Prelude.{◌≡◌, suc, ◌+◌, ◌-◌, ◌<◌, length, drop, Some};
 ghost use Rattle.read_messages.specs.Reading.{cursor};
 ghost use Rattle.read_messages.specs.ReadMessage.{read_message};
 ghost use Rattle.read_scripts.specs.Script.{guarded_head, guarded_from, part_from, read_body};
-ghost use Rattle.read_scripts.specs.Table.{vacant, refused_at, entered, scanned, scanned_part, Readable, PartReadable, GuardedReadable, ReceiptAddable};
+ghost use Rattle.read_scripts.specs.Table.{vacant, entered, scanned, scanned_part, Readable, PartReadable, GuardedReadable};
 ghost use Rattle.read_scripts.specs.Represents.{Answers};
 
-use read_messages::Outcome;
+use read_messages::{Innermost, Refusal, read_message};
 use read_script_words::{PartWord, ask_part};
 
-// The parts by number: kind (1 ambient, 2 action, 3 receipt, 4 output), where the message starts (of a receipt, its own
-// index), and the set of the parts in the body; entry 64 of kids is the script's own body. count is the number of parts.
+// Question 1: the most words.
+pub const MOST_WORDS: usize = 1024;
+
+// Question 6: the most parts.
+pub const MOST_PARTS: usize = 64;
+
+// The number of the script's own body, behind those of the parts.
+pub const SCRIPT_BODY: usize = 64;
+
+// The receipts around a word are at most this many: question 4 lets in the nestings 0 to 64.
+const MOST_RECEIPTS: usize = 65;
+
+// The kinds of parts in a table.
+// Kinds stay numbers: a state is lent as arrays of numbers (engine_state_arrays: kinds_in), and head_of and heads speak of them.
+const AMBIENT: u8 = 1;
+
+const ACTION: u8 = 2;
+
+const RECEIPT: u8 = 3;
+
+const OUTPUT: u8 = 4;
+
+// The parts by number: kind, where the message starts (of a receipt, its own index), and the set of the parts in the body;
+// entry 64 of kids is the script's own body. count is the number of parts.
 #[derive(Clone, Copy)]
 pub struct Table {
     pub kinds: [u8; 64],
@@ -23,74 +44,44 @@ pub struct Table {
     pub count: usize,
 }
 
-// The indices of the receipts around a word, innermost first, from first on.
-#[derive(Clone, Copy)]
-pub struct Around {
-    pub indices: [u16; 65],
-    pub first: usize,
+impl Table {
+    // The table with no part.
+    fn vacant() -> Table
+        ensures { result ≡ vacant }
+    {
+        Table {
+            kinds: [0; 64],
+            starts: [0; 64],
+            kids: [0; 65],
+            count: 0,
+        }
+    }
+
+    // The table with one part more, in the body of owner.
+    fn enter(self, owner: usize, kind: u8, start: u32) -> Table
+        requires { self.count < 1024 }
+        ensures { result ≡ entered owner kind start self }
+    {
+        let n = self.count;
+        let mut t = self;
+        t.count = n + 1;
+        if MOST_PARTS <= n {
+            return t;
+        }
+        t.kinds[n] = kind;
+        t.starts[n] = start;
+        if owner <= SCRIPT_BODY {
+            t.kids[owner] = base_sets::with(t.kids[owner], n);
+        }
+        t
+    }
 }
 
-// What a reader of bodies and parts answers. A refusal gives the empty table.
+// What a reader of bodies and parts answers: the index of the word behind what was read, and the table with its parts.
 #[derive(Drop)]
 pub struct Scan {
-    pub outcome: Outcome,
+    pub next: usize,
     pub table: Table,
-}
-
-// The table with no part.
-fn vacant() -> Table
-    ensures { result ≡ vacant }
-{
-    Table {
-        kinds: [0; 64],
-        starts: [0; 64],
-        kids: [0; 65],
-        count: 0,
-    }
-}
-
-// The answer to a question that is answered by no.
-fn refused(question: u32, place: usize) -> Scan
-    ensures { result ≡ refused_at question place }
-{
-    let table = vacant();
-    Scan {
-        outcome: Outcome::Refused { question, place },
-        table,
-    }
-}
-
-// The table with one part more, in the body of owner.
-fn enter_part(table: Table, owner: usize, kind: u8, start: u32) -> Table
-    requires { table.count < 1024 }
-    ensures { result ≡ entered owner kind start table }
-{
-    let n = table.count;
-    let mut t = table;
-    t.count = n + 1;
-    if 64 <= n {
-        return t;
-    }
-    t.kinds[n] = kind;
-    t.starts[n] = start;
-    if 65 <= owner {
-        return t;
-    }
-    let before = t.kids[owner];
-    t.kids[owner] = base_sets::with(before, n);
-    t
-}
-
-// The receipts around the body of the receipt at the index at.
-fn with_receipt(around: Around, at: u16) -> Around
-    requires { ReceiptAddable around.first }
-    ensures { Fronted at around.first around.indices result.first result.indices }
-{
-    let first = around.first - 1;
-    let mut inner = around;
-    inner.indices[first] = at;
-    inner.first = first;
-    inner
 }
 
 // The body at the front of s, the script's words from index at on, up to its CLOSE; owner is the part whose body it is.
@@ -99,32 +90,31 @@ pub fn read_body(
     s: &[u32],
     at: usize,
     nest: usize,
-    around: Around,
+    around: Innermost<MOST_RECEIPTS>,
     owner: usize,
     table: Table,
-) -> Scan
+) -> Result<Scan, Refusal>
     requires { Readable s.now at nest around.first table.count }
     ensures { result ≡ scanned owner table (read_body (length s.now) nest (drop around.first around.indices) (cursor at table.count s.now)) }
 {
     let mut k: usize = 0;
     let mut t = table;
     while k < s.len() {
-        let w = ask_part(s[k], nest);
+        let w = ask_part(s[k], at + k, nest)?;
         if let PartWord::Close = w {
-            return Scan {
-                outcome: Outcome::Read { next: at + k + 1 },
+            return Ok(Scan {
+                next: at + k + 1,
                 table: t,
-            };
+            });
         }
-        let p = read_part(w, &s[k..], at + k, nest, around, owner, t);
-        let o = p.outcome;
-        let Outcome::Read { next } = o else {
-            return p;
-        };
+        let p = read_part(w, &s[k..], at + k, nest, around, owner, t)?;
         t = p.table;
-        k = next - at;
+        k = p.next - at;
     }
-    refused(5, at + k)
+    Err(Refusal {
+        question: 5,
+        place: at + k,
+    })
 }
 
 // The part at the front of s, with what its first word is.
@@ -134,101 +124,77 @@ fn read_part(
     s: &[u32],
     at: usize,
     nest: usize,
-    around: Around,
+    around: Innermost<MOST_RECEIPTS>,
     owner: usize,
     table: Table,
-) -> Scan
+) -> Result<Scan, Refusal>
     requires { PartReadable w s.now at nest around.first table.count }
-    ensures { result ≡ scanned_part owner table (part_from (read_message (length s.now - 1) nest (drop around.first around.indices)) (read_body (length s.now - 1) (suc nest)) (drop around.first around.indices) w at (cursor (at + 1) (suc table.count) (drop 1 s.now))) }
+    ensures { result ≡ scanned_part owner table (part_from (read_message (length s.now - 1) nest (drop around.first around.indices)) (read_body (length s.now - 1) (suc nest)) (drop around.first around.indices) (Some w) at (cursor (at + 1) (suc table.count) (drop 1 s.now))) }
 {
     match w {
-        PartWord::No { question } => refused(question, at),
-        PartWord::Close => refused(2, at),
-        PartWord::Ambient => read_guarded(1, s, at, nest, around, owner, table),
-        PartWord::Action => read_guarded(2, s, at, nest, around, owner, table),
+        PartWord::Close => Err(Refusal {
+            question: 2,
+            place: at,
+        }),
+        PartWord::Ambient => read_guarded(AMBIENT, s, at, nest, around, owner, table),
+        PartWord::Action => read_guarded(ACTION, s, at, nest, around, owner, table),
         PartWord::Receipt => {
-            let inner = with_receipt(around, at as u16);
+            let inner = around.with(at as u16);
             let n = table.count;
-            let t = enter_part(table, owner, 3, at as u32);
+            let t = table.enter(owner, RECEIPT, at as u32);
             read_body(&s[1..], at + 1, nest + 1, inner, n, t)
         }
         PartWord::Output => {
-            let all = around.indices;
-            let first = around.first;
-            let m = read_messages::read_message(&s[1..], at + 1, nest, &all[first..]);
-            let Outcome::Read { next } = m else {
-                let none = vacant();
-                return Scan {
-                    outcome: m,
-                    table: none,
-                };
-            };
-            let t = enter_part(table, owner, 4, at as u32 + 1);
-            Scan {
-                outcome: m,
-                table: t,
-            }
+            let next = read_message(&s[1..], at + 1, nest, around.as_slice())?;
+            let table = table.enter(owner, OUTPUT, at as u32 + 1);
+            Ok(Scan { next, table })
         }
     }
 }
 
-// An ambient (kind 1) or an action (kind 2): message, then body.
+// An ambient or an action: message, then body.
 #[cycle(read_body_read_guarded_read_part)]
 fn read_guarded(
     kind: u8,
     s: &[u32],
     at: usize,
     nest: usize,
-    around: Around,
+    around: Innermost<MOST_RECEIPTS>,
     owner: usize,
     table: Table,
-) -> Scan
+) -> Result<Scan, Refusal>
     requires { GuardedReadable kind s.now at nest around.first table.count }
     ensures { result ≡ scanned_part owner table (guarded_from (guarded_head kind) (read_message (length s.now - 1) nest (drop around.first around.indices)) (read_body (length s.now - 1) (suc nest)) (drop around.first around.indices) at (cursor (at + 1) (suc table.count) (drop 1 s.now))) }
 {
-    let all = around.indices;
-    let first = around.first;
-    let m = read_messages::read_message(&s[1..], at + 1, nest, &all[first..]);
-    let Outcome::Read { next } = m else {
-        let none = vacant();
-        return Scan {
-            outcome: m,
-            table: none,
-        };
-    };
+    let next = read_message(&s[1..], at + 1, nest, around.as_slice())?;
     let n = table.count;
-    let t = enter_part(table, owner, kind, at as u32 + 1);
-    let k = next - at;
-    read_body(&s[k..], next, nest + 1, around, n, t)
+    let t = table.enter(owner, kind, at as u32 + 1);
+    read_body(&s[next - at..], next, nest + 1, around, n, t)
 }
 
 // The script: questions 1 to 6.
-pub fn read_script(s: &[u32]) -> Scan
+pub fn read_script(s: &[u32]) -> Result<Table, Refusal>
     ensures { Answers s.now result }
 {
     let n = s.len();
-    if n == 0 {
-        return refused(1, 0);
+    if n == 0 || MOST_WORDS < n {
+        return Err(Refusal {
+            question: 1,
+            place: 0,
+        });
     }
-    if 1024 < n {
-        return refused(1, 0);
+    let a = read_body(s, 0, 0, Innermost::none(), SCRIPT_BODY, Table::vacant())?;
+    if a.next < n {
+        return Err(Refusal {
+            question: 5,
+            place: a.next,
+        });
     }
-    let around = Around {
-        indices: [0; 65],
-        first: 65,
-    };
-    let none = vacant();
-    let a = read_body(s, 0, 0, around, 64, none);
-    let o = a.outcome;
-    let Outcome::Read { next } = o else {
-        return a;
-    };
-    if next < n {
-        return refused(5, next);
+    if MOST_PARTS < a.table.count {
+        return Err(Refusal {
+            question: 6,
+            place: 0,
+        });
     }
-    let count = a.table.count;
-    if 64 < count {
-        return refused(6, 0);
-    }
-    a
+    Ok(a.table)
 }
