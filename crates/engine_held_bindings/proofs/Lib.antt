@@ -1,1 +1,2 @@
--- The laws.
+-- The laws of `engine_held_bindings` that its own proofs cite.
+pub mod Sizing
