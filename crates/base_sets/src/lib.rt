@@ -42,10 +42,7 @@ pub fn with_if(m: u64, i: usize, so: bool) -> u64
     requires { i < 64 }
     ensures { members result ≡ cond so (inserted i (members m)) (members m) }
 {
-    if so {
-        return with(m, i);
-    }
-    m
+    if so { with(m, i) } else { m }
 }
 
 // m without i.
@@ -87,21 +84,21 @@ pub fn is_empty(m: u64) -> bool
 pub fn is_single(m: u64) -> bool
     ensures { result ≡ is_one (members m) }
 {
-    u64::count_ones(m) == 1
+    m.count_ones() == 1
 }
 
 // How many members m has.
 pub fn count(m: u64) -> usize
     ensures { result ≡ length (members m) }
 {
-    u64::count_ones(m) as usize
+    m.count_ones() as usize
 }
 
 // The least member of m, and 64 where m is empty.
 pub fn first(m: u64) -> usize
     ensures { result ≡ head_or 64 (members m) }
 {
-    u64::trailing_zeros(m) as usize
+    m.trailing_zeros() as usize
 }
 
 // m without its least member.

@@ -11,5 +11,5 @@ pub fn next_share(m: u64, s: u64) -> u64
     ensures next { (k : ℕ) → suc k < 2 ^ length (members m) → members s ≡ picked (members m) k → members result ≡ picked (members m) (suc k) }
     ensures around { members s ≡ members m → members result ≡ [] }
 {
-    std::num::wrapping_sub_u64(s, m) & m
+    s.wrapping_sub(m) & m
 }
