@@ -1,5 +1,6 @@
 // Bytes, numbers and words as text, put into a lent buffer piece by piece. Each function is given the index behind the
 // text so far and answers the index behind its own piece; a piece that does not fit is cut short.
+// No `write!` with `Display`: the lent buffer would need a writer of its own, whose errors say less than `Puts` of what is cut.
 #![tactic(auto)]
 
 ghost use Rattle.std.specs.Prelude.{◌≡◌, [], ◌∷◌, ℕ, suc, ◌<◌, ◌^◌};
@@ -21,10 +22,8 @@ pub fn put_bytes(text: &mut [u8], at: usize, piece: &[u8]) -> usize
     ensures { Puts text.old text.new at result piece.now }
 {
     let mut next = at;
-    let mut i: usize = 0;
-    while i < piece.len() {
-        next = put_byte(text, next, piece[i]);
-        i += 1;
+    for byte in piece {
+        next = put_byte(text, next, *byte);
     }
     next
 }
@@ -75,10 +74,8 @@ pub fn put_words(text: &mut [u8], at: usize, words: &[u32]) -> usize
     ensures { Puts text.old text.new at result (lines words.now) }
 {
     let mut next = at;
-    let mut i: usize = 0;
-    while i < words.len() {
-        next = put_word(text, next, words[i]);
-        i += 1;
+    for w in words {
+        next = put_word(text, next, *w);
     }
     next
 }

@@ -2,22 +2,12 @@
 use Prim.Native.Nat.{ℕ, zero, suc, ◌+◌, ◌*◌, ◌≤◌, ◌<◌}
 use mathlib.Core.List.{List}
 use mathlib.Core.Path.{◌≡◌, refl, sym, ap, ◌∙◌, subst}
-use native.Mathlib.Nat.{zero-add, add-zero}
+use native.Mathlib.Nat.{zero-add}
 use native.Mathlib.Numerals.{add-one}
 use native.Mathlib.Omega.{arith}
 use lib.ListN.{length, take, drop, get_or, set}
-use lib.Seq.{get_or-drop, drop-drop, paste, paste-zero, paste-suc, take-paste, take_all}
+use lib.Seq.{drop-drop, paste, paste-zero, paste-suc, take-paste, take_all}
 use Rattle.program_words.specs.Words.{word_of, words_of}
-
--- a word from its four bytes
-pub word-is : (s : List ℕ) (at a b c d : ℕ) → a ≡ get_or s at 0 → b ≡ get_or s (at + 1) 0 → c ≡ get_or s (at + 2) 0 → d ≡ get_or s (at + 3) 0
-    → (a + 256 * b) + 65536 * (c + 256 * d) ≡ word_of (drop at s)
-word-is s at a b c d ea eb ec ed =
-    let e : a ≡ get_or (drop at s) 0 0 = ea ∙ ap (λ (k : ℕ). get_or s k 0) (sym (add-zero at)) ∙ sym (get_or-drop at s 0 0) in
-    let f : b ≡ get_or (drop at s) 1 0 = eb ∙ sym (get_or-drop at s 1 0) in
-    let g : c ≡ get_or (drop at s) 2 0 = ec ∙ sym (get_or-drop at s 2 0) in
-    let h : d ≡ get_or (drop at s) 3 0 = ed ∙ sym (get_or-drop at s 3 0) in
-    λ i. (e i + 256 * f i) + 65536 * (g i + 256 * h i)
 
 pub length-words : (n : ℕ) (s : List ℕ) → length (words_of n s) ≡ n
 unfolding words_of

@@ -1,25 +1,15 @@
 // The words that the program's input spells, byte by byte.
 #![tactic(auto)]
 
-ghost use Rattle.std.specs.Prelude.{◌≡◌, ◌+◌, ◌*◌, ◌≤◌, ◌<◌, length, take, drop};
+ghost use Rattle.std.specs.Prelude.{◌≡◌, ◌+◌, ◌*◌, ◌≤◌, length, take, drop};
 ghost use Rattle.program_words.specs.Words.{word_of, words_of};
-
-// A byte as a word.
-fn wide(x: u8) -> u32
-    ensures same { result ≡ x }
-    ensures small { result < 256 }
-{
-    x as u32
-}
 
 // The little-endian word at an index.
 fn word_at(input: &[u8], at: usize) -> u32
     requires { at + 4 ≤ length input.now }
     ensures { result ≡ word_of (drop at input.now) }
 {
-    let low = wide(input[at]) + 256 * wide(input[at + 1]);
-    let high = wide(input[at + 2]) + 256 * wide(input[at + 3]);
-    low + 65536 * high
+    u32::from_le_bytes(*input[at..].first_chunk().unwrap())
 }
 
 // The input's words.
@@ -28,9 +18,7 @@ pub fn unpack(input: &[u8], count: usize, words: &mut [u32])
     requires room { count ≤ length words.old }
     ensures { take count words.new ≡ words_of count input.now }
 {
-    let mut i: usize = 0;
-    while i < count {
+    for i in 0..count {
         words[i] = word_at(input, 4 * i);
-        i += 1;
     }
 }

@@ -1,13 +1,13 @@
--- `put_words` meets its contract: the first i words are put. Assumes nothing.
+-- `put_words` meets its contract: the words so far are put. Assumes nothing.
 use Rattle.program_digits.specs.Digits.{lines}
 use Rattle.program_digits.proofs.Putting.{puts_none}
 use Rattle.program_digits.proofs.Numbers.{puts-line}
 use borrow.Author.Rules.{rules}
 use Rattle.program_digits.proofs.put_words.Goals as goal
 
-pub loop-i-init : goal.loop-i-init
+pub loop-w-init : goal.loop-w-init
 unfolding lines
-loop-i-init c = (search rules, puts_none)
+loop-w-init c = puts_none
 
-pub loop-i-preserved : goal.loop-i-preserved
-loop-i-preserved c = (search rules, search (puts-line, rules))
+pub loop-w-preserved : goal.loop-w-preserved
+loop-w-preserved c = search (puts-line, rules)

@@ -5,7 +5,7 @@ use borrow.Author.Rules.{rules}
 use Rattle.program_words.proofs.unpack.Goals as goal
 
 pub loop-i-preserved : goal.loop-i-preserved
-loop-i-preserved c = (search rules, search (unpacked-next, length-set, rules))
+loop-i-preserved c = search (unpacked-next, length-set, rules)
 
 pub returns : goal.returns
 returns c = search (unpacked-all, rules)
