@@ -37,9 +37,9 @@ unfoldable pub scanned : RuleTable → Reading (Rule × Cursor) → Result RuleS
 scanned t (refuse q i) = refusal_at q i
 scanned t (got p) = Ok (record { next = p.1.index; table = tabulate p.0 t })
 
-unfoldable pub tabled : Reading (Rule × Cursor) → Result RuleTable Refusal
-tabled (refuse q i) = refusal_at q i
-tabled (got p) = Ok (tabulate p.0 vacant)
+unfoldable pub table_of : Reading (Rule × Cursor) → Result RuleTable Refusal
+table_of (refuse q i) = refusal_at q i
+table_of (got p) = Ok (tabulate p.0 vacant)
 
 -- what the reader of rules is called with: the words, the first of which has the index `at`, so many rules around them, the
 -- index from which on the array has the SOMEs around, and so many PLACED words before
@@ -62,5 +62,5 @@ pub record Enterable (at count : ℕ) : Type 0 where
 
 -- To unfold this is to unfold every definition of this module: for a proof by computation.
 unfoldable pub computing : Unit {0}
-unfolding tabulate scanned tabled
+unfolding tabulate scanned table_of
 computing = tt

@@ -6,7 +6,7 @@ use Rattle.read_messages.specs.Reading.{Cursor, got}
 use Rattle.read_messages.specs.declared.Refusal.{Refusal}
 use Rattle.read_rule_words.specs.Rule.{Term, Rule, truth, negation, either, void, at, beside, some-name, sometime, somewhere, placed, rule_index}
 use Rattle.read_rule_words.specs.ReadRule.{is_chosen, term_of, term_bound, read_whole_rule}
-use Rattle.read_rules.specs.RuleTable.{tabled}
+use Rattle.read_rules.specs.RuleTable.{table_of}
 use Rattle.read_rules.specs.declared.RuleTable.{RuleTable}
 
 module _ (words : List ℕ) where
@@ -47,6 +47,6 @@ pub record Tabled (n : ℕ) (words : List ℕ) (t : RuleTable) (p : Rule × Curs
 -- what the reader of the whole rule answers, beside a script of n parts
 pub record Answers (n : ℕ) (words : List ℕ) (r : Result RuleTable Refusal) : Type 0 where
   -- the refusal or the table is that of the definition
-  pub answer : r ≡ tabled (read_whole_rule n words)
+  pub answer : r ≡ table_of (read_whole_rule n words)
   -- the table of a rule that is accepted, and the words, hold that rule
   pub table : (p : Rule × Cursor) (t : RuleTable) → read_whole_rule n words ≡ got p → r ≡ Ok t → Tabled n words t p

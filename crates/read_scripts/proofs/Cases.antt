@@ -12,8 +12,9 @@ use Rattle.read_messages.proofs.Readings.{refuse≢got, bind_all, got-all, Next,
 use Rattle.read_scripts.specs.Tree.{Head, ambient, action, receipt, output, close, part}
 use Rattle.read_scripts.specs.Script.{Written, Script, part_from, read_body, read_script}
 use Rattle.read_script_words.specs.ScriptWords.{part_word, part_fits}
+use Rattle.std.specs.Prelude.{Option, Some, None}
 use Rattle.read_script_words.specs.declared.PartWord.{PartWord}
-use Rattle.read_script_words.specs.declared.PartWord.TheVariants.{Close, Ambient, Action, Receipt, Output, No}
+use Rattle.read_script_words.specs.declared.PartWord.TheVariants.{Close, Ambient, Action, Receipt, Output}
 use Rattle.read_scripts.proofs.Laws.{or-close-all}
 
 -- a part as it is written at an index
@@ -44,25 +45,25 @@ module _ (M : List ℕ → Cursor → Message × Cursor → Type 0) (B : List �
     Whole : (Written × Script) × Cursor → Type 0
     Whole p = (r : Script × Cursor) → B around p.1 r → B around c (part c.number p.0.0 p.0.1 r.0, r.1)
 
-    part-case : (w : PartWord) (p : (Written × Script) × Cursor)
+    part-case : (w : Option PartWord) (p : (Written × Script) × Cursor)
         → part_from (read_message f nest around) (read_body f (suc nest)) around w c.index (next_part q.1) ≡ got p → Whole p
     unfolding part_from Whole
-    part-case Ambient =
+    part-case (Some Ambient) =
         bind_all Whole (read_message f nest around (next_part q.1)) _
         (λ m e. bind_all Whole (read_body f (suc nest) around m.1) _
         (λ b d. got-all Whole _ (λ r h. cases.ambients around c q m b r n (cases.messages f nest around _ m e) (inside around m.1 b d) h)))
-    part-case Action =
+    part-case (Some Action) =
         bind_all Whole (read_message f nest around (next_part q.1)) _
         (λ m e. bind_all Whole (read_body f (suc nest) around m.1) _
         (λ b d. got-all Whole _ (λ r h. cases.actions around c q m b r n (cases.messages f nest around _ m e) (inside around m.1 b d) h)))
-    part-case Receipt =
+    part-case (Some Receipt) =
         bind_all Whole (read_body f (suc nest) (c.index ∷ around) (next_part q.1)) _
         (λ b d. got-all Whole _ (λ r h. cases.receipts around c q b r n (inside (c.index ∷ around) (next_part q.1) b d) h))
-    part-case Output =
+    part-case (Some Output) =
         bind_all Whole (read_message f nest around (next_part q.1)) _
         (λ m e. got-all Whole _ (λ r h. cases.outputs around c q m r n (cases.messages f nest around _ m e) h))
-    part-case Close = λ p e. refuse≢got e
-    part-case (No x) = λ p e. refuse≢got e
+    part-case (Some Close) = λ p e. refuse≢got e
+    part-case None = λ p e. refuse≢got e
 
   -- THEOREM: the cases are all.
   pub body-case : (f nest : ℕ) (around : List ℕ) (c : Cursor) (p : Script × Cursor) → read_body f nest around c ≡ got p → B around c p

@@ -20,8 +20,9 @@ use Rattle.read_scripts.specs.Script.{Written, Script, guarded_from, part_from, 
 use Rattle.read_script_words.specs.ScriptWords.{part_word, part_fits}
 use Rattle.read_scripts.specs.Table.{start_by, start_of}
 use Rattle.read_scripts.specs.Represents.{Numbered, PartsAt, Low, head_at}
+use Rattle.std.specs.Prelude.{Option, Some, None}
 use Rattle.read_script_words.specs.declared.PartWord.{PartWord}
-use Rattle.read_script_words.specs.declared.PartWord.TheVariants.{Close, Ambient, Action, Receipt, Output, No}
+use Rattle.read_script_words.specs.declared.PartWord.TheVariants.{Close, Ambient, Action, Receipt, Output}
 
 -- What holds where a body was read, and where a part was, the cursor behind its word: `numbers` counts the parts, `fewer`
 -- says that there are no more of them than words, `numbered` that they are numbered in word order, and `placed` and `says`
@@ -136,16 +137,16 @@ module _ (nest : ℕ) (around : List ℕ) (c : Cursor) where
   }
 
 -- a body that was read was closed at its first word, or has a part there
-pub or-close-all : (P : Script × Cursor → Type 0) (w : PartWord) (c : Cursor) (k : Reading (Script × Cursor)) → P (close, c) → ((b : Script × Cursor) → k ≡ got b → P b) → (b : Script × Cursor) → or_close w c k ≡ got b → P b
+pub or-close-all : (P : Script × Cursor → Type 0) (w : Option PartWord) (c : Cursor) (k : Reading (Script × Cursor)) → P (close, c) → ((b : Script × Cursor) → k ≡ got b → P b) → (b : Script × Cursor) → or_close w c k ≡ got b → P b
 unfolding or_close
-or-close-all P Close c k h f b e = got-all P (close, c) h b e
-or-close-all P Ambient c k h f b e = f b e
-or-close-all P Action c k h f b e = f b e
-or-close-all P Receipt c k h f b e = f b e
-or-close-all P Output c k h f b e = f b e
-or-close-all P (No q) c k h f b e = f b e
+or-close-all P (Some Close) c k h f b e = got-all P (close, c) h b e
+or-close-all P (Some Ambient) c k h f b e = f b e
+or-close-all P (Some Action) c k h f b e = f b e
+or-close-all P (Some Receipt) c k h f b e = f b e
+or-close-all P (Some Output) c k h f b e = f b e
+or-close-all P None c k h f b e = f b e
 
-or-close-cong : (w : PartWord) (c : Cursor) (k l : Reading (Script × Cursor)) → k ≡ l → or_close w c k ≡ or_close w c l
+or-close-cong : (w : Option PartWord) (c : Cursor) (k l : Reading (Script × Cursor)) → k ≡ l → or_close w c k ≡ or_close w c l
 or-close-cong w c k l e = ap (λ (x : Reading (Script × Cursor)). or_close w c x) e
 
 -- a part has the index of its word, and its message starts there or behind
@@ -156,14 +157,14 @@ module _ (message : Messages) (inside : Insides) (around : List ℕ) (i : ℕ) w
   guarded-index : (written : Message → Head Message) → ((m : Message) → start_by (written m) i ≤ i + 1) → (c : Cursor) (p : (Written × Script) × Cursor) → guarded_from written message inside around i c ≡ got p → At p
   guarded-index written low c = bind_all At (message c) _ (λ q _. bind_all At (inside around q.1) _ (λ r _. got-all At _ (refl, low q.0)))
 
-  part-index : (w : PartWord) (c : Cursor) (p : (Written × Script) × Cursor) → part_from message inside around w i c ≡ got p → At p
+  part-index : (w : Option PartWord) (c : Cursor) (p : (Written × Script) × Cursor) → part_from message inside around w i c ≡ got p → At p
   unfolding part_from
-  part-index Ambient c p e = guarded-index ambient (λ m. omega arith) c p e
-  part-index Action c p e = guarded-index action (λ m. omega arith) c p e
-  part-index Receipt c p e = bind_all At (inside (i ∷ around) c) _ (λ r _. got-all At _ (refl, omega arith)) p e
-  part-index Output c p e = bind_all At (message c) _ (λ q _. got-all At _ (refl, omega arith)) p e
-  part-index Close c p e = refuse≢got e
-  part-index (No q) c p e = refuse≢got e
+  part-index (Some Ambient) c p e = guarded-index ambient (λ m. omega arith) c p e
+  part-index (Some Action) c p e = guarded-index action (λ m. omega arith) c p e
+  part-index (Some Receipt) c p e = bind_all At (inside (i ∷ around) c) _ (λ r _. got-all At _ (refl, omega arith)) p e
+  part-index (Some Output) c p e = bind_all At (message c) _ (λ q _. got-all At _ (refl, omega arith)) p e
+  part-index (Some Close) c p e = refuse≢got e
+  part-index None c p e = refuse≢got e
 
 module _ (nest : ℕ) (around : List ℕ) (message : Messages) (inside : Insides)
     (hm : (c : Cursor) (p : Message × Cursor) → message c ≡ got p → MessageRead around c p)
@@ -175,16 +176,16 @@ module _ (nest : ℕ) (around : List ℕ) (message : Messages) (inside : Insides
       (λ q e₁. bind_all (PartRead nest around c) (inside around q.1) _
       (λ r e₂. got-all (PartRead nest around c) _ (guarded-read nest around c written says i q r (hm c q e₁) (hs c q e₁) (hb around q.1 r e₂))))
 
-  part-advances : (w : PartWord) (i : ℕ) (c : Cursor) (p : (Written × Script) × Cursor) → part_from message inside around w i c ≡ got p → PartRead nest around c p
+  part-advances : (w : Option PartWord) (i : ℕ) (c : Cursor) (p : (Written × Script) × Cursor) → part_from message inside around w i c ≡ got p → PartRead nest around c p
   unfolding part_from
-  part-advances Ambient i c p e = guarded-advances ambient ambient-says i c p e
-  part-advances Action i c p e = guarded-advances action action-says i c p e
-  part-advances Receipt i c p e =
+  part-advances (Some Ambient) i c p e = guarded-advances ambient ambient-says i c p e
+  part-advances (Some Action) i c p e = guarded-advances action action-says i c p e
+  part-advances (Some Receipt) i c p e =
       bind_all (PartRead nest around c) (inside (i ∷ around) c) _ (λ r e₁. got-all (PartRead nest around c) _ (receipt-read nest around c (i ∷ around) i r (hb (i ∷ around) c r e₁))) p e
-  part-advances Output i c p e =
+  part-advances (Some Output) i c p e =
       bind_all (PartRead nest around c) (message c) _ (λ q e₁. got-all (PartRead nest around c) _ (output-read nest around c i q (hm c q e₁) (hs c q e₁))) p e
-  part-advances Close i c p e = refuse≢got e
-  part-advances (No q) i c p e = refuse≢got e
+  part-advances (Some Close) i c p e = refuse≢got e
+  part-advances None i c p e = refuse≢got e
 
 pub body-advances : (f nest : ℕ) (around : List ℕ) (c : Cursor) (p : Script × Cursor) → read_body f nest around c ≡ got p → BodyRead nest around c p
 unfolding read_body
@@ -202,7 +203,7 @@ body-advances (suc f) nest around c p e =
     (part-index (read_message f nest around) (read_body f (suc nest)) around c.index (part_word q.0) (next_part q.1) p e₂)
     (body-advances f nest around p.1 r e₃)))))))) p e
 
-pub part-read : (f nest : ℕ) (around : List ℕ) (w : PartWord) (i : ℕ) (c : Cursor) (p : (Written × Script) × Cursor)
+pub part-read : (f nest : ℕ) (around : List ℕ) (w : Option PartWord) (i : ℕ) (c : Cursor) (p : (Written × Script) × Cursor)
     → part_from (read_message f nest around) (read_body f (suc nest)) around w i c ≡ got p → PartRead nest around c p
 part-read f nest around = part-advances nest around (read_message f nest around) (read_body f (suc nest)) (message-advances f nest around) (read-message f nest around) (body-advances f (suc nest))
 
@@ -214,14 +215,14 @@ module _ (around : List ℕ) (n : ℕ) (m m' : Messages) (b b' : Insides)
   guarded-agree : (written : Message → Head Message) (i : ℕ) (c : Cursor) → length c.left ≤ n → guarded_from written m b around i c ≡ guarded_from written m' b' around i c
   guarded-agree written i c l = rw (← am c l) (bind-cong (m c) _ _ (λ q e. rw (ab around q.1 (omega (arith, advances-shorter c q.1 (hm c q e).advances)))))
 
-  part-agree : (w : PartWord) (i : ℕ) (c : Cursor) → length c.left ≤ n → part_from m b around w i c ≡ part_from m' b' around w i c
+  part-agree : (w : Option PartWord) (i : ℕ) (c : Cursor) → length c.left ≤ n → part_from m b around w i c ≡ part_from m' b' around w i c
   unfolding part_from
-  part-agree Ambient i c l = guarded-agree ambient i c l
-  part-agree Action i c l = guarded-agree action i c l
-  part-agree Receipt i c l = rw (ab (i ∷ around) c l)
-  part-agree Output i c l = rw (am c l)
-  part-agree Close i c l = refl
-  part-agree (No q) i c l = refl
+  part-agree (Some Ambient) i c l = guarded-agree ambient i c l
+  part-agree (Some Action) i c l = guarded-agree action i c l
+  part-agree (Some Receipt) i c l = rw (ab (i ∷ around) c l)
+  part-agree (Some Output) i c l = rw (am c l)
+  part-agree (Some Close) i c l = refl
+  part-agree None i c l = refl
 
 -- As much fuel as there are words is enough, and more changes nothing.
 pub body-fuel : (f g nest : ℕ) (around : List ℕ) (c : Cursor) → length c.left ≤ f → length c.left ≤ g → read_body f nest around c ≡ read_body g nest around c

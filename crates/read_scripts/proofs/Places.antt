@@ -14,8 +14,9 @@ use Rattle.read_messages.proofs.Places.{Within, bind-within, ask-within, Ends, e
 use Rattle.read_scripts.specs.Tree.{Head, ambient, action}
 use Rattle.read_scripts.specs.Script.{Script, guarded_from, part_from, or_close, read_body, read_script}
 use Rattle.read_script_words.specs.ScriptWords.{part_word, part_fits}
+use Rattle.std.specs.Prelude.{Option, Some, None}
 use Rattle.read_script_words.specs.declared.PartWord.{PartWord}
-use Rattle.read_script_words.specs.declared.PartWord.TheVariants.{Close, Ambient, Action, Receipt, Output, No}
+use Rattle.read_script_words.specs.declared.PartWord.TheVariants.{Close, Ambient, Action, Receipt, Output}
 use Rattle.read_scripts.proofs.Laws.{body-advances, part-read, short}
 
 -- a part, by its message and the body inside it
@@ -27,23 +28,23 @@ module _ (x : ℕ) (around : List ℕ) (message : Cursor → Reading (Message ×
       bind-within x (message c) _ (m c l)
       (λ q e. bind-within x (inside around q.1) _ (b around q.1 (ends_on x c q.1 (h c q e).advances l)) (λ r d. tt))
 
-  part-within : (w : PartWord) (i : ℕ) (c : Cursor) → i ≤ x → Ends x c → Within x (part_from message inside around w i c)
+  part-within : (w : Option PartWord) (i : ℕ) (c : Cursor) → i ≤ x → Ends x c → Within x (part_from message inside around w i c)
   unfolding part_from
-  part-within Ambient i c k l = guarded-within ambient i c l
-  part-within Action i c k l = guarded-within action i c l
-  part-within Receipt i c k l = bind-within x (inside (i ∷ around) c) _ (b (i ∷ around) c l) (λ r d. tt)
-  part-within Output i c k l = bind-within x (message c) _ (m c l) (λ q e. tt)
-  part-within Close i c k l = k
-  part-within (No q) i c k l = k
+  part-within (Some Ambient) i c k l = guarded-within ambient i c l
+  part-within (Some Action) i c k l = guarded-within action i c l
+  part-within (Some Receipt) i c k l = bind-within x (inside (i ∷ around) c) _ (b (i ∷ around) c l) (λ r d. tt)
+  part-within (Some Output) i c k l = bind-within x (message c) _ (m c l) (λ q e. tt)
+  part-within (Some Close) i c k l = k
+  part-within None i c k l = k
 
-or-close-within : (x : ℕ) (w : PartWord) (c : Cursor) (r : Reading (Script × Cursor)) → Within x r → Within x (or_close w c r)
+or-close-within : (x : ℕ) (w : Option PartWord) (c : Cursor) (r : Reading (Script × Cursor)) → Within x r → Within x (or_close w c r)
 unfolding or_close
-or-close-within x Close c r h = tt
-or-close-within x Ambient c r h = h
-or-close-within x Action c r h = h
-or-close-within x Receipt c r h = h
-or-close-within x Output c r h = h
-or-close-within x (No q) c r h = h
+or-close-within x (Some Close) c r h = tt
+or-close-within x (Some Ambient) c r h = h
+or-close-within x (Some Action) c r h = h
+or-close-within x (Some Receipt) c r h = h
+or-close-within x (Some Output) c r h = h
+or-close-within x None c r h = h
 
 -- a body is refused where the words end or sooner
 body-within : (x f nest : ℕ) (around : List ℕ) (c : Cursor) → Ends x c → Within x (read_body f nest around c)

@@ -8,13 +8,12 @@ use native.Mathlib.Omega.{arith}
 use native.Mathlib.Numerals.{add-one}
 use borrow.Author.Tests.{leb-true}
 use lib.Dec.{leb, eqb, ltb}
-use lib.ListN.{length, get_or, take, drop, length-drop}
-use lib.Seq.{get_or-drop, drop-drop, take_all}
-use Rattle.read_messages.specs.Reading.{Cursor, cursor, Reading, refuse, got, ◌>>=◌, ask, take_word, next_word, next_part, outcome}
-use Rattle.read_messages.specs.Words.{kind, operand}
+use lib.ListN.{length, get_or, drop, length-drop}
+use lib.Seq.{get_or-drop, drop-drop}
+use Rattle.read_messages.specs.Reading.{Cursor, cursor, Reading, refuse, got, ◌>>=◌, ask, take_word, next_word, next_part, refusal_at, outcome}
 use Rattle.read_messages.specs.Message.{Message}
 use Rattle.read_messages.specs.ReadMessage.{read_message}
-use Rattle.read_messages.proofs.Readings.{bind-got, placed, outcome-read, read≢refused}
+use Rattle.read_messages.proofs.Readings.{bind-got, placed, outcome-read, outcome-refuses}
 use Rattle.base_slices.proofs.Tests.{by_test}
 use Rattle.base_slices.proofs.Tails.{part-drop, length_part}
 use Rattle.base_slices.proofs.Tails as Tails
@@ -22,87 +21,58 @@ use Rattle.read_messages.proofs.Laws.{MessageRead, message-advances, read_of, re
 use Rattle.read_scripts.specs.Tree.{Head, ambient, action, receipt, close, part, total_over, parts, kind_number}
 use Rattle.read_scripts.specs.Script.{Written, Script, guarded_head, guarded_from, part_from, or_close, read_body}
 use Rattle.read_script_words.specs.ScriptWords.{part_word, part_fits, asked_part}
-use Rattle.read_scripts.specs.Table.{entered, start_by, tabulate, refused_at, vacant, scanned, scanned_part, Readable, PartReadable, GuardedReadable}
+use Rattle.read_scripts.specs.Table.{entered, start_by, tabulate, scanned, scanned_part, Readable, PartReadable, GuardedReadable}
 use Rattle.read_scripts.specs.declared.Table.{Table}
 use Rattle.read_scripts.specs.declared.Scan.{Scan}
+use Rattle.std.specs.Prelude.{Option, Some, None, Result, Ok, Err}
 use Rattle.read_script_words.specs.declared.PartWord.{PartWord}
-use Rattle.read_script_words.specs.declared.PartWord.TheVariants.{Close, Ambient, Action, Receipt, Output, No}
-use Rattle.read_messages.specs.declared.Outcome.{Outcome}
-use Rattle.read_messages.specs.declared.Outcome.TheVariants.{Read, Refused}
+use Rattle.read_script_words.specs.declared.PartWord.TheVariants.{Close, Ambient, Action, Receipt, Output}
+use Rattle.read_messages.specs.declared.Refusal.{Refusal}
 use Rattle.read_scripts.proofs.Laws.{PartRead, part-read, body-fuel}
 
--- the only question that a part word answers by no is the second
-abbrev Second : PartWord → Type 0
-Second Close = Unit {0}
-Second Ambient = Unit {0}
-Second Action = Unit {0}
-Second Receipt = Unit {0}
-Second Output = Unit {0}
-Second (No q) = q ≡ 2
-
-second : (z a b c d e : Bool) → Second (cond z (cond a Close (cond b Ambient (cond c Action (cond d Receipt (cond e Output (No 2)))))) (No 2))
-second false a b c d e = refl
-second true true b c d e = tt
-second true false true c d e = tt
-second true false false true d e = tt
-second true false false false true e = tt
-second true false false false false true = tt
-second true false false false false false = refl
-
-word-second : (w : ℕ) → Second (part_word w)
-unfolding part_word
-word-second w = second (eqb (operand w) 0) (eqb (kind w) 0) (eqb (kind w) 1) (eqb (kind w) 2) (eqb (kind w) 3) (eqb (kind w) 4)
-
--- a part word of deep nesting does not fit
-unfit : (p : PartWord) → part_fits (cond (part_fits p) (No 4) p) ≡ false
-unfolding part_fits
-unfit p = by_test (part_fits p) (λ e. rw e) (λ e. rw e e)
-
-asked-nest : (nest : ℕ) (p w : PartWord) → w ≡ asked_part nest p → part_fits w ≡ true → nest ≤ 64
+-- the first word of a part passed question 4
+asked-nest : (i nest : ℕ) (p : Option PartWord) (w : PartWord) → Ok w ≡ asked_part i nest p → nest ≤ 64
 unfolding asked_part
-asked-nest nest p w e f = by_test (leb nest 64) (leb-true nest 64)
-    (λ d. let z : true ≡ false = sym f ∙ ap part_fits e ∙ rw d (unfit p) in let y : ◌≡◌ {A = ℕ} 0 1 = cc in absurd (omega arith))
+asked-nest i nest (Some v) w e = by_test (leb nest 64) (leb-true nest 64) (λ d. let z : ◌≡◌ {A = Result PartWord Refusal} (Ok w) (refusal_at 4 i) = e ∙ rw d in cc)
+asked-nest i nest None w e = cc
 
--- the first word of a part v that fits passed question 4
-pub passed : {w : PartWord} {s : List ℕ} {at nest f n : ℕ} → PartReadable w s at nest f n → (v : PartWord) → part_fits v ≡ true → w ≡ v → nest ≤ 64
-passed r v h e = asked-nest _ _ v (sym e ∙ r.asked) h
+pub passed : {w : PartWord} {s : List ℕ} {at nest f n : ℕ} → PartReadable w s at nest f n → nest ≤ 64
+passed r = asked-nest _ _ _ _ r.asked
 
-pub guarded-asks : {w : PartWord} {s : List ℕ} {at nest f n : ℕ} → PartReadable w s at nest f n → (v : PartWord) → part_fits v ≡ true → w ≡ v → (k : ℕ) → 1 ≤ k → k ≤ 2 → GuardedReadable k s at nest f n
-guarded-asks r v h e k l m = record { reads = r.reads; some = r.some; nested = passed r v h e; least = l; most = m }
+pub guarded-asks : {w : PartWord} {s : List ℕ} {at nest f n : ℕ} → PartReadable w s at nest f n → (k : ℕ) → 1 ≤ k → k ≤ 2 → GuardedReadable k s at nest f n
+guarded-asks r k l m = record { reads = r.reads; some = r.some; nested = passed r; least = l; most = m }
 
 -- what stands inside a receipt may be read, and is less
-pub receipt-asks : {w : PartWord} {s : List ℕ} {at nest f n : ℕ} → PartReadable w s at nest f n → w ≡ Receipt → (g m t : ℕ) → g + 1 ≡ f → m ≡ suc n → 3 * length s + 1 ≡ t
+pub receipt-asks : {w : PartWord} {s : List ℕ} {at nest f n : ℕ} → PartReadable w s at nest f n → (g m t : ℕ) → g + 1 ≡ f → m ≡ suc n → 3 * length s + 1 ≡ t
     → (3 * length (Tails.part s 1) + 2 < t) × Readable (Tails.part s 1) (at + 1) (nest + 1) g m
-unfolding part_fits
-receipt-asks {s = s} r e g m t d c l =
+receipt-asks {s = s} r g m t d c l =
     let b = length_part s 1 in
-    let k = passed r Receipt refl e in
+    let k = passed r in
     (omega (arith, r.some), record { few = omega (arith, r.some, r.reads); shallow = omega arith; receipts = omega (arith, r.reads); room = omega (arith, r.reads); fewer = omega (arith, r.reads) })
 
 -- what is left of questions 2 and 4 once the code has asked them
 module _ (around : List ℕ) (message : Cursor → Reading (Message × Cursor)) (inside : List ℕ → Cursor → Reading (Script × Cursor))
     (i : ℕ) (c d : Cursor) (k : (Written × Script) × Cursor → Reading (Script × Cursor)) where
-  abbrev goes_on : PartWord → Reading (Script × Cursor)
+  abbrev goes_on : Option PartWord → Reading (Script × Cursor)
   goes_on w = or_close w c (part_from message inside around w i d >>= k)
 
-  questions : (b : Bool) (p : PartWord) → Second p → (ask 2 i (part_fits p) >>= λ _. ask 4 i b >>= λ _. goes_on p) ≡ goes_on (cond (part_fits p) (cond b p (No 4)) p)
-  unfolding part_fits ask ◌>>=◌ or_close part_from
-  questions true Close s = refl
-  questions true Ambient s = refl
-  questions true Action s = refl
-  questions true Receipt s = refl
-  questions true Output s = refl
-  questions true (No q) s = rw s
-  questions false Close s = refl
-  questions false Ambient s = refl
-  questions false Action s = refl
-  questions false Receipt s = refl
-  questions false Output s = refl
-  questions false (No q) s = rw s
+  abbrev goes_by : Result PartWord Refusal → Reading (Script × Cursor)
+  goes_by (Ok w) = goes_on (Some w)
+  goes_by (Err e) = refuse e.question e.place
+
+  fourth : (b : Bool) (w : PartWord) → (ask 4 i b >>= λ _. goes_on (Some w)) ≡ goes_by (cond b (Ok w) (refusal_at 4 i))
+  unfolding ask ◌>>=◌
+  fourth true w = refl
+  fourth false w = refl
+
+  questions : (nest : ℕ) (p : Option PartWord) → (ask 2 i (part_fits p) >>= λ _. ask 4 i (leb nest 64) >>= λ _. goes_on p) ≡ goes_by (asked_part i nest p)
+  unfolding part_fits asked_part ask ◌>>=◌
+  questions nest (Some w) = fourth (leb nest 64) w
+  questions nest None = refl
 
 -- The part at the front of the words l, the first of which has the index i; its number is n.
 abbrev pub part_at : (w : PartWord) (l : List ℕ) (i nest : ℕ) (around : List ℕ) (n : ℕ) → Reading ((Written × Script) × Cursor)
-part_at w l i nest around n = part_from (read_message (length l - 1) nest around) (read_body (length l - 1) (suc nest)) around w i (cursor (i + 1) (suc n) (drop 1 l))
+part_at w l i nest around n = part_from (read_message (length l - 1) nest around) (read_body (length l - 1) (suc nest)) around (Some w) i (cursor (i + 1) (suc n) (drop 1 l))
 
 abbrev pub guarded_at : (kind : ℕ) (l : List ℕ) (i nest : ℕ) (around : List ℕ) (n : ℕ) → Reading ((Written × Script) × Cursor)
 guarded_at kind l i nest around n = guarded_from (guarded_head kind) (read_message (length l - 1) nest around) (read_body (length l - 1) (suc nest)) around i (cursor (i + 1) (suc n) (drop 1 l))
@@ -121,47 +91,50 @@ unfolding read_body
 unroll f nest around c = refl
 
 body-cons : (f nest : ℕ) (around : List ℕ) (i n w : ℕ) (ws : List ℕ) → read_body (suc f) nest around (cursor i n (w ∷ ws))
-    ≡ goes_on around (read_message f nest around) (read_body f (suc nest)) i (cursor (suc i) n ws) (cursor (suc i) (suc n) ws) (behind_part f nest around n) (asked_part nest (part_word w))
+    ≡ goes_by around (read_message f nest around) (read_body f (suc nest)) i (cursor (suc i) n ws) (cursor (suc i) (suc n) ws) (behind_part f nest around n) (asked_part i nest (part_word w))
 unfolding take_word asked_part
 body-cons f nest around i n w ws =
     unroll f nest around (cursor i n (w ∷ ws))
     ∙ bind-got (take_word 5 i n (w ∷ ws)) _ (w, cursor (suc i) n ws) refl
-    ∙ questions around (read_message f nest around) (read_body f (suc nest)) i (cursor (suc i) n ws) (cursor (suc i) (suc n) ws) (behind_part f nest around n) (leb nest 64) (part_word w) (word-second w)
+    ∙ questions around (read_message f nest around) (read_body f (suc nest)) i (cursor (suc i) n ws) (cursor (suc i) (suc n) ws) (behind_part f nest around n) nest (part_word w)
 
 pub body-none : (l : List ℕ) (i nest : ℕ) (around : List ℕ) (n : ℕ) → length l ≡ 0 → body_at l i nest around n ≡ refuse 5 i
 unfolding read_body
 body-none [] i nest around n h = refl
 body-none (x ∷ l) i nest around n h = absurd (omega arith)
 
--- The body at the front of the words l by what its first word is.
-body-first : (l : List ℕ) (i nest : ℕ) (around : List ℕ) (n : ℕ) → 0 < length l → (w : PartWord) → w ≡ asked_part nest (part_word (get_or l 0 0))
-    → body_at l i nest around n ≡ or_close w (cursor (i + 1) n (drop 1 l)) (part_at w l i nest around n >>= behind_part (length l - 1) nest around n)
-body-first [] i nest around n h w e = absurd (omega arith)
-body-first (x ∷ l) i nest around n h w e =
+-- The body at the front of the words l by what questions 2 and 4 say of its first word.
+body-first : (l : List ℕ) (i nest : ℕ) (around : List ℕ) (n : ℕ) → 0 < length l → (a : Result PartWord Refusal) → a ≡ asked_part i nest (part_word (get_or l 0 0))
+    → body_at l i nest around n ≡ goes_by around (read_message (length l - 1) nest around) (read_body (length l - 1) (suc nest)) i (cursor (i + 1) n (drop 1 l)) (cursor (i + 1) (suc n) (drop 1 l)) (behind_part (length l - 1) nest around n) a
+body-first [] i nest around n h a e = absurd (omega arith)
+body-first (x ∷ l) i nest around n h a e =
     let z : suc (length l) - 1 ≡ length l = omega arith in
     rw (e, add-one i, z) (body-cons (length l) nest around i n x l)
 
-pub body_closed : (l : List ℕ) (i nest : ℕ) (around : List ℕ) (n : ℕ) → 0 < length l → (w : PartWord) → w ≡ asked_part nest (part_word (get_or l 0 0)) → w ≡ Close
+pub body-unfit : (l : List ℕ) (i nest : ℕ) (around : List ℕ) (n : ℕ) → 0 < length l → (q : Refusal) → Err q ≡ asked_part i nest (part_word (get_or l 0 0))
+    → body_at l i nest around n ≡ refuse q.question q.place
+body-unfit l i nest around n h q e = body-first l i nest around n h (Err q) e
+
+pub body_closed : (l : List ℕ) (i nest : ℕ) (around : List ℕ) (n : ℕ) → 0 < length l → (w : PartWord) → Ok w ≡ asked_part i nest (part_word (get_or l 0 0)) → w ≡ Close
     → body_at l i nest around n ≡ got (close, cursor (i + 1) n (drop 1 l))
 unfolding or_close
-body_closed l i nest around n h w e c = body-first l i nest around n h w e ∙ rw c
+body_closed l i nest around n h w e c = body-first l i nest around n h (Ok w) e ∙ rw c
 
 -- no CLOSE
 abbrev pub Other : PartWord → Type 0
 Other p = p ≡ Close → ⊥
 
-or-part : (w : PartWord) (c : Cursor) (k : Reading (Script × Cursor)) → Other w → or_close w c k ≡ k
+or-part : (w : PartWord) (c : Cursor) (k : Reading (Script × Cursor)) → Other w → or_close (Some w) c k ≡ k
 unfolding or_close
 or-part Close c k o = absurd (o refl)
 or-part Ambient c k o = refl
 or-part Action c k o = refl
 or-part Receipt c k o = refl
 or-part Output c k o = refl
-or-part (No q) c k o = refl
 
-pub body-part : (l : List ℕ) (i nest : ℕ) (around : List ℕ) (n : ℕ) → 0 < length l → (w : PartWord) → w ≡ asked_part nest (part_word (get_or l 0 0)) → Other w
+pub body-part : (l : List ℕ) (i nest : ℕ) (around : List ℕ) (n : ℕ) → 0 < length l → (w : PartWord) → Ok w ≡ asked_part i nest (part_word (get_or l 0 0)) → Other w
     → body_at l i nest around n ≡ (part_at w l i nest around n >>= behind_part (length l - 1) nest around n)
-body-part l i nest around n h w e o = body-first l i nest around n h w e ∙ or-part w _ _ o
+body-part l i nest around n h w e o = body-first l i nest around n h (Ok w) e ∙ or-part w _ _ o
 
 -- the table: one part more is one more in its count
 cond-count : (b : Bool) (x y : Table) (n : ℕ) → x.count ≡ n → y.count ≡ n → (cond b x y).count ≡ n
@@ -204,34 +177,41 @@ pub record BodyOn (s : List ℕ) (at nest : ℕ) (around : List ℕ) (owner : �
   pub ahead : at + k < n
   pub loop : BodyLoop s at nest around owner table (n - at) t
 
-part-told : (o : ℕ) (t : Table) (x : Reading ((Written × Script) × Cursor)) (p : Scan) (n : ℕ) → p ≡ scanned_part o t x → p.outcome ≡ Read n
-    → (q : (Written × Script) × Cursor) × (x ≡ got q) × (q.1.index ≡ n) × (p.table ≡ tabulate o (part t.count q.0.0 q.0.1 close) t)
+part-told : (o : ℕ) (t : Table) (x : Reading ((Written × Script) × Cursor)) (p : Scan) → Ok p ≡ scanned_part o t x
+    → (q : (Written × Script) × Cursor) × (x ≡ got q) × (q.1.index ≡ p.next) × (p.table ≡ tabulate o (part t.count q.0.0 q.0.1 close) t)
 unfolding scanned_part
-part-told o t (refuse q i) p n e d = read≢refused (sym d ∙ ap (λ (x : Scan). x.outcome) e)
-part-told o t (got q) p n e d = let h = ap (λ (x : Scan). x.outcome) e in (q, refl, cc, ap (λ (x : Scan). x.table) e)
+part-told o t (refuse q i) p e = cc
+part-told o t (got q) p e =
+    let h : p ≡ record { next = q.1.index; table = tabulate o (part t.count q.0.0 q.0.1 close) t } = cc in
+    (q, refl, sym (ap (λ (x : Scan). x.next) h), ap (λ (x : Scan). x.table) h)
 
-part-refused : (o : ℕ) (t : Table) (x : Reading ((Written × Script) × Cursor)) (k : (Written × Script) × Cursor → Reading (Script × Cursor)) (p : Scan) (q i : ℕ)
-    → p ≡ scanned_part o t x → p.outcome ≡ Refused q i → p ≡ scanned o t (x >>= k)
+part-refused : (o : ℕ) (t : Table) (x : Reading ((Written × Script) × Cursor)) (k : (Written × Script) × Cursor → Reading (Script × Cursor)) (q : Refusal)
+    → Err q ≡ scanned_part o t x → Err q ≡ scanned o t (x >>= k)
 unfolding scanned_part scanned ◌>>=◌
-part-refused o t (refuse q' i') k p q i e d = e
-part-refused o t (got r) k p q i e d = read≢refused (sym (ap (λ (x : Scan). x.outcome) e) ∙ d)
+part-refused o t (refuse q' i') k q e = e
+part-refused o t (got r) k q e = cc
 
 module _ (s : List ℕ) (at nest : ℕ) (around : List ℕ) (owner : ℕ) (table : Table) where
   pub body-begins : table.count ≤ at → BodyLoop s at nest around owner table 0 table
   body-begins h = record { within = omega arith; counted = omega arith; same = let z : at + 0 ≡ at = omega arith in rw z }
 
   module _ (k : ℕ) (t : Table) (l : BodyLoop s at nest around owner table k t) where
-    pub body-ends : length s ≤ k → refused_at 5 (at + k) ≡ scanned owner table (body_at s at nest around table.count)
+    pub body-ends : length s ≤ k → refusal_at 5 (at + k) ≡ scanned owner table (body_at s at nest around table.count)
     unfolding scanned
     body-ends h = sym (l.same ∙ ap (scanned owner t) (body-none (drop k s) (at + k) nest around t.count (omega (arith, length-drop k s))))
 
-    module _ (h : k < length s) (w : PartWord) (e : w ≡ asked_part nest (part_word (get_or s k 0))) where
+    module _ (h : k < length s) where
       left : 0 < length (drop k s)
       left = omega (arith, length-drop k s)
 
-      front : w ≡ asked_part nest (part_word (get_or (drop k s) 0 0))
-      front = let z : k + 0 ≡ k = omega arith in e ∙ rw (get_or-drop k s 0 0, z)
+      front : (a : Result PartWord Refusal) → a ≡ asked_part (at + k) nest (part_word (get_or s k 0)) → a ≡ asked_part (at + k) nest (part_word (get_or (drop k s) 0 0))
+      front a e = let z : k + 0 ≡ k = omega arith in e ∙ rw (get_or-drop k s 0 0, z)
 
+      pub body-refuses : (q : Refusal) → Err q ≡ asked_part (at + k) nest (part_word (get_or s k 0)) → Err q ≡ scanned owner table (body_at s at nest around table.count)
+      unfolding scanned
+      body-refuses q e = sym (l.same ∙ ap (scanned owner t) (body-unfit (drop k s) (at + k) nest around t.count left q (front (Err q) e)))
+
+    module _ (h : k < length s) (w : PartWord) (e : Ok w ≡ asked_part (at + k) nest (part_word (get_or s k 0))) where
       -- the part there may be read, and is less than what is left of the words
       pub body-asks : {f : ℕ} → Readable s at nest f table.count → (u : ℕ) → 3 * length s + 2 ≡ u → (3 * length (Tails.part s k) + 1 < u) × PartReadable w (Tails.part s k) (at + k) nest f t.count
       body-asks r u d =
@@ -244,27 +224,27 @@ module _ (s : List ℕ) (at nest : ℕ) (around : List ℕ) (owner : ℕ) (table
             },
           )
 
-      pub body-closes : w ≡ Close → record { outcome = Read (at + k + 1); table = t } ≡ scanned owner table (body_at s at nest around table.count)
+      pub body-closes : w ≡ Close → Ok (record { next = at + k + 1; table = t }) ≡ scanned owner table (body_at s at nest around table.count)
       unfolding scanned tabulate
-      body-closes c = sym (l.same ∙ ap (scanned owner t) (body_closed (drop k s) (at + k) nest around t.count left w front c))
+      body-closes c = sym (l.same ∙ ap (scanned owner t) (body_closed (drop k s) (at + k) nest around t.count (left h) w (front h (Ok w) e) c))
 
-      module _ (o : Other w) (p : Scan) (ep : p ≡ scanned_part owner t (part_at w (Tails.part s k) (at + k) nest around t.count)) where
+      module _ (o : Other w) (r : Result Scan Refusal) (ep : r ≡ scanned_part owner t (part_at w (Tails.part s k) (at + k) nest around t.count)) where
         abbrev here : Reading ((Written × Script) × Cursor)
         here = part_at w (drop k s) (at + k) nest around t.count
 
-        told : p ≡ scanned_part owner t here
+        told : r ≡ scanned_part owner t here
         told = rw (part-drop s k) at ep
 
         goes : scanned owner table (body_at s at nest around table.count) ≡ scanned owner t (here >>= behind_part (length (drop k s) - 1) nest around t.count)
-        goes = l.same ∙ ap (scanned owner t) (body-part (drop k s) (at + k) nest around t.count left w front o)
+        goes = l.same ∙ ap (scanned owner t) (body-part (drop k s) (at + k) nest around t.count (left h) w (front h (Ok w) e) o)
 
-        pub body-hands : (q i : ℕ) → p.outcome ≡ Refused q i → p ≡ scanned owner table (body_at s at nest around table.count)
-        body-hands q i d = part-refused owner t here _ p q i told d ∙ sym goes
+        pub body-hands : (q : Refusal) → r ≡ Err q → Err q ≡ scanned owner table (body_at s at nest around table.count)
+        body-hands q d = part-refused owner t here _ q (sym d ∙ told) ∙ sym goes
 
         again : (q : (Written × Script) × Cursor) (n : ℕ) (t' : Table) → here ≡ got q → q.1.index ≡ n → t' ≡ tabulate owner (part t.count q.0.0 q.0.1 close) t → BodyOn s at nest around owner table k n t'
         unfolding total_over
         again q n t' eq en et =
-            let a : PartRead nest around (cursor (at + k + 1) (suc t.count) (drop 1 (drop k s))) q = part-read (length (drop k s) - 1) nest around w (at + k) (cursor (at + k + 1) (suc t.count) (drop 1 (drop k s))) q eq in
+            let a : PartRead nest around (cursor (at + k + 1) (suc t.count) (drop 1 (drop k s))) q = part-read (length (drop k s) - 1) nest around (Some w) (at + k) (cursor (at + k + 1) (suc t.count) (drop 1 (drop k s))) q eq in
             let c : t'.count ≡ t.count + parts (part t.count q.0.0 q.0.1 close) = ap (λ (x : Table). x.count) et ∙ tabulate-count owner (part t.count q.0.0 q.0.1 close) t in
             let y : at + (n - at) ≡ n = omega (arith, a.ahead, en) in
             let v : length (drop (n - at) s) ≤ length (drop k s) - 1 = omega (arith, a.ahead, en, length-drop (n - at) s, length-drop k s) in
@@ -285,25 +265,20 @@ module _ (s : List ℕ) (at nest : ℕ) (around : List ℕ) (owner : ℕ) (table
                 let z : k + (1 + (n - (at + k + 1))) ≡ n - at = omega (arith, en) in
                 d ∙ rw (en, drop-drop (n - (at + k + 1)) 1 (drop k s), drop-drop, z)
 
-        pub body-again : (n : ℕ) → p.outcome ≡ Read n → BodyOn s at nest around owner table k n p.table
-        body-again n d = let (q, eq, en, et) = part-told owner t here p n told d in again q n p.table eq en et
+        pub body-again : (p : Scan) → r ≡ Ok p → BodyOn s at nest around owner table k p.next p.table
+        body-again p d = let (q, eq, en, et) = part-told owner t here p (sym d ∙ told) in again q p.next p.table eq en et
 
 -- A part's message: the one at the second of the words s, the first of which is the part's, with the index `at`.
 abbrev pub message_at : (s : List ℕ) (at nest : ℕ) (around : List ℕ) (n : ℕ) → Reading (Message × Cursor)
 message_at s at nest around n = read_message (length s - 1) nest around (cursor (at + 1) (suc n) (drop 1 s))
 
--- the receipts around, as the code lends them: the array's indices from f on
-pub lent : (l : List ℕ) (f : ℕ) (s : List ℕ) (i nest n : ℕ) (m : Outcome) → length l ≡ 65 → m ≡ read_of s i nest (take (65 - f) (drop f l)) n → m ≡ read_of s i nest (drop f l) n
-lent l f s i nest n m h e = rw (take_all (65 - f) (drop f l) (omega (arith, length-drop f l))) at e
-
-message-told : (s : List ℕ) (at nest : ℕ) (around : List ℕ) (n : ℕ) (m : Outcome) → m ≡ read_of (Tails.part s 1) (at + 1) nest around (suc n) → m ≡ outcome (message_at s at nest around n)
+message-told : (s : List ℕ) (at nest : ℕ) (around : List ℕ) (n : ℕ) (m : Result ℕ Refusal) → m ≡ read_of (Tails.part s 1) (at + 1) nest around (suc n) → m ≡ outcome (message_at s at nest around n)
 message-told s at nest around n m e = rw (part-drop s 1, length-drop 1 s) at e
 
 -- a message that was refused refuses its part
-refused-message : (o : ℕ) (t : Table) (x : Reading (Message × Cursor)) (k : Message × Cursor → Reading ((Written × Script) × Cursor)) (q i : ℕ) → outcome x ≡ Refused q i → refused_at q i ≡ scanned_part o t (x >>= k)
-unfolding outcome scanned_part ◌>>=◌
-refused-message o t (refuse q' i') k q i e = let a : q' ≡ q = cc in let b : i' ≡ i = cc in rw (a, b)
-refused-message o t (got p) k q i e = read≢refused e
+refused-message : (o : ℕ) (t : Table) (x : Reading (Message × Cursor)) (k : Message × Cursor → Reading ((Written × Script) × Cursor)) (q : Refusal) → outcome x ≡ Err q → Err q ≡ scanned_part o t (x >>= k)
+unfolding scanned_part ◌>>=◌
+refused-message o t x k q e = rw (outcome-refuses x q e)
 
 -- what a guarded part is entered as
 guarded-kind : (kind : ℕ) (m : Message) → 1 ≤ kind → kind ≤ 2 → kind_number (guarded_head kind m) ≡ kind
@@ -319,7 +294,7 @@ guarded-start false m i = refl
 
 module _ (s : List ℕ) (at nest : ℕ) (around : List ℕ) (owner : ℕ) (table : Table) where
   -- a receipt: its body, with one receipt more around
-  pub receipt-law : (w : PartWord) (a : List ℕ) (t : Table) (r : Scan) → w ≡ Receipt → a ≡ at ∷ around → t ≡ entered owner 3 at table → r ≡ scanned table.count t (body_at (Tails.part s 1) (at + 1) (nest + 1) a t.count)
+  pub receipt-law : (w : PartWord) (a : List ℕ) (t : Table) (r : Result Scan Refusal) → w ≡ Receipt → a ≡ at ∷ around → t ≡ entered owner 3 at table → r ≡ scanned table.count t (body_at (Tails.part s 1) (at + 1) (nest + 1) a t.count)
       → r ≡ scanned_part owner table (part_at w s at nest around table.count)
   unfolding part_from kind_number
   receipt-law w a t r ew ea et er =
@@ -327,14 +302,14 @@ module _ (s : List ℕ) (at nest : ℕ) (around : List ℕ) (owner : ℕ) (table
       (ap (λ (n : ℕ). scanned table.count t (read_body (length s - 1) (suc nest) (at ∷ around) (cursor (at + 1) n (drop 1 s)))) (entered-next owner 3 at table t et)
       ∙ rw et (sym (scanned-inside owner table at (receipt at) _)))
 
-  module _ (m : Outcome) (em : m ≡ read_of (Tails.part s 1) (at + 1) nest around (suc table.count)) where
-    pub message-bounds : 0 < length s → (n : ℕ) → m ≡ Read n → (at + 1 < n) × (n ≤ at + length s)
+  module _ (m : Result ℕ Refusal) (em : m ≡ read_of (Tails.part s 1) (at + 1) nest around (suc table.count)) where
+    pub message-bounds : 0 < length s → (n : ℕ) → m ≡ Ok n → (at + 1 < n) × (n ≤ at + length s)
     message-bounds h n d =
         let b = read-bounds (Tails.part s 1) (at + 1) nest around (suc table.count) m n em d in
         (b.0, omega (arith, b.1, length_part s 1))
 
     -- the body behind the message may be read, and is less
-    pub guarded-inside : {kind f : ℕ} → GuardedReadable kind s at nest f table.count → (n : ℕ) → m ≡ Read n → (t : Table) → t ≡ entered owner kind (at + 1) table → (u : ℕ) → 3 * length s ≡ u
+    pub guarded-inside : {kind f : ℕ} → GuardedReadable kind s at nest f table.count → (n : ℕ) → m ≡ Ok n → (t : Table) → t ≡ entered owner kind (at + 1) table → (u : ℕ) → 3 * length s ≡ u
         → (3 * length (Tails.part s (n - at)) + 2 < u) × Readable (Tails.part s (n - at)) n (nest + 1) f t.count
     guarded-inside {kind} r n d t et u e =
         let b = message-bounds r.some n d in
@@ -349,28 +324,25 @@ module _ (s : List ℕ) (at nest : ℕ) (around : List ℕ) (owner : ℕ) (table
           },
         )
 
-    pub output-law : (w : PartWord) (n : ℕ) (t : Table) → w ≡ Output → m ≡ Read n → t ≡ entered owner 4 (at + 1) table → record { outcome = Read n; table = t } ≡ scanned_part owner table (part_at w s at nest around table.count)
+    pub output-law : (w : PartWord) (n : ℕ) (t : Table) → w ≡ Output → m ≡ Ok n → t ≡ entered owner 4 (at + 1) table → Ok (record { next = n; table = t }) ≡ scanned_part owner table (part_at w s at nest around table.count)
     unfolding part_from scanned_part tabulate kind_number
     output-law w n t ew d et =
         let (p, ep, en) = outcome-read (message_at s at nest around table.count) n (sym (message-told s at nest around table.count m em) ∙ d) in
         rw (ew, et, bind-got (message_at s at nest around table.count) _ p ep, en)
 
-    module _ (q i : ℕ) (none : Table) (d : m ≡ Refused q i) (en : none ≡ vacant) where
-      abbrev refusal : Scan
-      refusal = record { outcome = m; table = none }
+    module _ (q : Refusal) (d : m ≡ Err q) where
+      refusal_is : (k : Message × Cursor → Reading ((Written × Script) × Cursor)) → Err q ≡ scanned_part owner table (message_at s at nest around table.count >>= k)
+      refusal_is k = refused-message owner table (message_at s at nest around table.count) k q (sym (message-told s at nest around table.count m em) ∙ d)
 
-      refusal_is : (k : Message × Cursor → Reading ((Written × Script) × Cursor)) → refusal ≡ scanned_part owner table (message_at s at nest around table.count >>= k)
-      refusal_is k = rw (d, en) (refused-message owner table (message_at s at nest around table.count) k q i (sym (message-told s at nest around table.count m em) ∙ d))
-
-      pub output-refused : (w : PartWord) → w ≡ Output → refusal ≡ scanned_part owner table (part_at w s at nest around table.count)
+      pub output-refused : (w : PartWord) → w ≡ Output → Err q ≡ scanned_part owner table (part_at w s at nest around table.count)
       unfolding part_from
       output-refused w ew = rw ew (refusal_is _)
 
-      pub guarded-refused : (kind : ℕ) → refusal ≡ scanned_part owner table (guarded_at kind s at nest around table.count)
+      pub guarded-refused : (kind : ℕ) → Err q ≡ scanned_part owner table (guarded_at kind s at nest around table.count)
       guarded-refused kind = refusal_is _
 
     -- an ambient or an action: message, then body
-    pub guarded-law : (kind n : ℕ) (t : Table) (r : Scan) → 1 ≤ kind → kind ≤ 2 → 0 < length s → m ≡ Read n → t ≡ entered owner kind (at + 1) table
+    pub guarded-law : (kind n : ℕ) (t : Table) (r : Result Scan Refusal) → 1 ≤ kind → kind ≤ 2 → 0 < length s → m ≡ Ok n → t ≡ entered owner kind (at + 1) table
         → r ≡ scanned table.count t (body_at (Tails.part s (n - at)) n (nest + 1) around t.count) → r ≡ scanned_part owner table (guarded_at kind s at nest around table.count)
     guarded-law kind n t r h k z d et er =
         let (p, ep, en) = outcome-read (message_at s at nest around table.count) n (sym (message-told s at nest around table.count m em) ∙ d) in

@@ -4,7 +4,7 @@
 use Prim.Native.Nat.{ℕ, ◌+◌, ◌≤◌, ◌<◌}
 use mathlib.Core.Bool.{◌&&◌}
 use mathlib.Core.List.{List, [], ◌∷◌, ◌++◌, append_assoc, append-nil}
-use mathlib.Core.Path.{◌≡◌, refl, sym, ap, ap₂, ◌∙◌, subst}
+use mathlib.Core.Path.{◌≡◌, refl, sym, ap, ap₂, ◌∙◌}
 use mathlib.Core.Logic.{◌⊎◌, inl, inr, ⊎_elim}
 use native.Mathlib.Omega.{arith}
 use lib.ListN.{length, get_or, set, length-set, length-replicate, get_or-replicate, get_or-eq_default}
@@ -16,14 +16,15 @@ use Rattle.base_slices.proofs.Tests.{by_test}
 use Rattle.base_sets.specs.Sets.{members, inserted, mask, AllUnder}
 use Rattle.base_sets.proofs.Members.{members-rising, members-below, members-empty}
 use Rattle.base_sets.proofs.Lists.{members-mask, inserted_rising}
-use Rattle.read_messages.specs.Reading.{Cursor, cursor, got, ask, is_empty}
+use Rattle.std.specs.Prelude.{Result, Ok, Err}
+use Rattle.read_messages.specs.declared.Refusal.{Refusal}
+use Rattle.read_messages.specs.Reading.{Cursor, cursor, Reading, refuse, got, ask, is_empty}
 use Rattle.read_messages.proofs.Readings.{bind_all, got-all, ask-inv}
 use Rattle.read_scripts.specs.Tree.{Body, close, part, tops, total_over, parts, map_heads, kind_number}
 use Rattle.read_scripts.specs.Script.{Written, Script, read_body, read_script}
-use Rattle.read_scripts.specs.Table.{vacant, entered, start_of, tabulate, scanned}
+use Rattle.read_scripts.specs.Table.{vacant, entered, start_of, tabulate, table_of}
 use Rattle.read_scripts.specs.Represents.{Numbered, Held, body_in, head_at, head_in, unindexed, PartsAt, Low, Tabled, Answers}
 use Rattle.read_scripts.specs.declared.Table.{Table}
-use Rattle.read_scripts.specs.declared.Scan.{Scan}
 use Rattle.read_scripts.proofs.Laws.{body-advances, short}
 
 -- ---- a number above all others of a rising list is inserted at its end
@@ -316,10 +317,35 @@ script-number ws =
     (λ _ _. bind_all CountsParts (ask 6 0 (leb q.1.number 64)) _
     (λ _ _. got-all CountsParts q (omega (arith, (body-advances (length ws) 0 [] (cursor 0 0 ws) q e).numbers))))))
 
+-- an answer that is a refusal, and one that is a table
+no_table : (q i : ℕ) (t : Table) {B : Type 0} → Ok t ≡ table_of (refuse q i) → B
+unfolding table_of
+no_table q i t e = cc
+
+refused : (x : Reading (Script × Cursor)) (q : Refusal) → Err q ≡ table_of x → x ≡ refuse q.question q.place
+unfolding table_of
+refused (refuse q' i') q e = let r : q ≡ record { question = q'; place = i' } = cc in rw r
+refused (got p) q e = cc
+
 -- what the reader answers, and so what its table holds
-pub answers : (ws : List ℕ) (r : Scan) → r ≡ scanned 64 vacant (read_script ws) → Answers ws r
-unfolding scanned
+pub answers : (ws : List ℕ) (r : Result Table Refusal) → r ≡ table_of (read_script ws) → Answers ws r
+unfolding table_of
 answers ws r e = record {
   answer = e;
-  table = λ p d. subst (λ (t : Table). Tabled ws t p.0) (sym (ap (λ (x : Scan). x.table) (e ∙ ap (scanned 64 vacant) d))) (script-tabled ws p d);
+  table = λ p t d k.
+      let h : Ok t ≡ Ok (tabulate 64 p.0 vacant) = sym k ∙ e ∙ ap table_of d in
+      let g : t ≡ tabulate 64 p.0 vacant = cc in
+      rw g (script-tabled ws p d);
 }
+
+-- a table that is answered is that of a script, which it holds with the words
+pub script-accepted : (ws : List ℕ) (r : Result Table Refusal) (t : Table) → Answers ws r → r ≡ Ok t → (p : Script × Cursor) × (read_script ws ≡ got p) × Tabled ws t p.0
+script-accepted ws r t a k = told (read_script ws) refl (sym k ∙ a.answer)
+  where
+    told : (x : Reading (Script × Cursor)) → read_script ws ≡ x → Ok t ≡ table_of (read_script ws) → (p : Script × Cursor) × (read_script ws ≡ got p) × Tabled ws t p.0
+    told (refuse q i) d e = no_table q i t (e ∙ ap table_of d)
+    told (got p) d e = (p, d, a.table p t d k)
+
+-- a refusal that is answered is the reading's
+pub script-refuses : (ws : List ℕ) (r : Result Table Refusal) (q : Refusal) → Answers ws r → r ≡ Err q → read_script ws ≡ refuse q.question q.place
+script-refuses ws r q a k = refused (read_script ws) q (sym k ∙ a.answer)

@@ -2,16 +2,18 @@
 use Prim.Native.Nat.{ℕ, ◌≤◌, ◌<◌}
 use mathlib.Core.Bool.{false, ◌&&◌}
 use mathlib.Core.List.{List, []}
-use mathlib.Core.Path.{◌≡◌, refl, sym, ap, ◌∙◌}
+use mathlib.Core.Path.{◌≡◌, refl, sym, ap, ap₂, ◌∙◌}
 use native.Mathlib.Omega.{arith}
 use borrow.Author.Tests.{le-leb, lt-leb}
 use lib.Dec.{leb}
-use lib.ListN.{length}
-use Rattle.read_messages.specs.Reading.{Cursor, cursor, Reading, refuse, got, ◌>>=◌, ask, is_empty}
-use Rattle.read_messages.specs.declared.Outcome.TheVariants.{Read, Refused}
-use Rattle.read_messages.proofs.Readings.{bind-got, bind-refuse, ask-yes, ask-no, left-none, left-some, read≢refused}
+use lib.ListN.{length, drop, length-drop}
+use Rattle.base_slices.proofs.Tails.{no-element}
+use Rattle.std.specs.Prelude.{Result, Ok, Err}
+use Rattle.read_messages.specs.Reading.{Cursor, cursor, Reading, refuse, got, ◌>>=◌, ask, is_empty, refusal_at}
+use Rattle.read_messages.specs.declared.Refusal.{Refusal}
+use Rattle.read_messages.proofs.Readings.{bind-got, bind-refuse, ask-yes, ask-no, left-none, left-some}
 use Rattle.read_scripts.specs.Script.{Script, read_script}
-use Rattle.read_scripts.specs.Table.{vacant, tabulate, refused_at, scanned}
+use Rattle.read_scripts.specs.Table.{vacant, tabulate, scanned, table_of}
 use Rattle.read_scripts.specs.declared.Table.{Table}
 use Rattle.read_scripts.specs.declared.Scan.{Scan}
 use Rattle.read_scripts.proofs.Laws.{BodyRead, body-advances}
@@ -27,38 +29,40 @@ unroll s = refl
 
 -- question 1
 module _ (s : List ℕ) where
-  sized : (leb 1 (length s) && leb (length s) 1024) ≡ false → refused_at 1 0 ≡ scanned 64 vacant (read_script s)
-  unfolding scanned
-  sized e = sym (ap (scanned 64 vacant) (unroll s ∙ bind-refuse _ _ 1 0 (ask-no 1 0 _ e)))
+  sized : (leb 1 (length s) && leb (length s) 1024) ≡ false → refusal_at 1 0 ≡ table_of (read_script s)
+  unfolding table_of
+  sized e = sym (ap table_of (unroll s ∙ bind-refuse _ _ 1 0 (ask-no 1 0 _ e)))
 
-  pub script-none : length s ≡ 0 → refused_at 1 0 ≡ scanned 64 vacant (read_script s)
+  pub script-none : length s ≡ 0 → refusal_at 1 0 ≡ table_of (read_script s)
   script-none h = sized (rw (lt-leb 1 (length s) (omega arith)))
 
-  pub script-long : 1024 < length s → refused_at 1 0 ≡ scanned 64 vacant (read_script s)
+  pub script-long : 1024 < length s → refusal_at 1 0 ≡ table_of (read_script s)
   script-long h = sized (rw (le-leb 1 (length s) (omega arith), lt-leb (length s) 1024 h))
 
 -- what an answer says of the body's reading
-scan-told : (o : ℕ) (t : Table) (x : Reading (Script × Cursor)) (a : Scan) (n : ℕ) → a ≡ scanned o t x → a.outcome ≡ Read n
-    → (p : Script × Cursor) × (x ≡ got p) × (p.1.index ≡ n) × (a.table ≡ tabulate o p.0 t)
+scan-told : (o : ℕ) (t : Table) (x : Reading (Script × Cursor)) (a : Scan) → Ok a ≡ scanned o t x
+    → (p : Script × Cursor) × (x ≡ got p) × (p.1.index ≡ a.next) × (a.table ≡ tabulate o p.0 t)
 unfolding scanned
-scan-told o t (refuse q i) a n e d = read≢refused (sym d ∙ ap (λ (x : Scan). x.outcome) e)
-scan-told o t (got p) a n e d = let h = ap (λ (x : Scan). x.outcome) e in (p, refl, cc, ap (λ (x : Scan). x.table) e)
+scan-told o t (refuse q i) a e = cc
+scan-told o t (got p) a e =
+    let h : a ≡ record { next = p.1.index; table = tabulate o p.0 t } = cc in
+    (p, refl, sym (ap (λ (x : Scan). x.next) h), ap (λ (x : Scan). x.table) h)
 
-scan-refused : (o : ℕ) (t : Table) (x : Reading (Script × Cursor)) (k : Script × Cursor → Reading (Script × Cursor)) (a : Scan) (q i : ℕ)
-    → a ≡ scanned o t x → a.outcome ≡ Refused q i → a ≡ scanned o t (x >>= k)
-unfolding scanned ◌>>=◌
-scan-refused o t (refuse q' i') k a q i e d = e
-scan-refused o t (got p) k a q i e d = read≢refused (sym (ap (λ (x : Scan). x.outcome) e) ∙ d)
+scan-refused : (o : ℕ) (t : Table) (x : Reading (Script × Cursor)) (k : Script × Cursor → Reading (Script × Cursor)) (q : Refusal) → Err q ≡ scanned o t x → Err q ≡ table_of (x >>= k)
+unfolding scanned table_of ◌>>=◌
+scan-refused o t (refuse q' i') k q e = let d : q ≡ record { question = q'; place = i' } = cc in rw d
+scan-refused o t (got p) k q e = cc
 
--- What holds where the code has asked question 1 and read the body with the answer a.
-pub record BodyAsked (s : List ℕ) (a : Scan) : Type 0 where
+-- What holds where the code has asked question 1 and read the body with the answer r.
+pub record BodyAsked (s : List ℕ) (r : Result Scan Refusal) : Type 0 where
   pub some : 0 < length s
   pub most : length s ≤ 1024
-  pub body : a ≡ scanned 64 vacant (body_at s 0 0 [] 0)
+  pub body : r ≡ scanned 64 vacant (body_at s 0 0 [] 0)
 
--- the table t that it was read into was the empty one
-pub body-asked : {s : List ℕ} {a : Scan} (t : Table) → t ≡ vacant → 0 < length s → length s ≤ 1024 → a ≡ scanned 64 t (body_at s 0 0 [] t.count) → BodyAsked s a
-body-asked {s} t e some most r = record { some = some; most = most; body = r ∙ ap (λ (u : Table). scanned 64 u (body_at s 0 0 [] u.count)) e }
+-- the table t that it was read into was the empty one, and no receipts were around
+pub body-asked : {s : List ℕ} {r : Result Scan Refusal} (t : Table) (around : List ℕ) (first : ℕ) → t ≡ vacant → length around ≡ first → 0 < length s → length s ≤ 1024 → r ≡ scanned 64 t (body_at s 0 0 (drop first around) t.count) → BodyAsked s r
+body-asked {s} t around first e n some most r =
+    record { some = some; most = most; body = r ∙ ap₂ (λ (u : Table) (l : List ℕ). scanned 64 u (body_at s 0 0 l u.count)) e (no-element _ (omega (arith, length-drop first around))) }
 
 module _ (s : List ℕ) (some : 0 < length s) (most : length s ≤ 1024) where
   goes : read_script s ≡ (body_at s 0 0 [] 0 >>= checked)
@@ -88,24 +92,25 @@ module _ (s : List ℕ) (some : 0 < length s) (most : length s ≤ 1024) where
     counted : (t : Table) → t ≡ tabulate 64 p.0 vacant → t.count ≡ p.1.number
     counted t e = ap (λ (x : Table). x.count) e ∙ tabulate-count 64 p.0 vacant ∙ sym body.numbers
 
-module _ {s : List ℕ} {a : Scan} (b : BodyAsked s a) where
-  pub script-refused : (q i : ℕ) → a.outcome ≡ Refused q i → a ≡ scanned 64 vacant (read_script s)
-  script-refused q i d = scan-refused 64 vacant (body_at s 0 0 [] 0) checked a q i b.body d ∙ sym (ap (scanned 64 vacant) (goes s b.some b.most))
+module _ {s : List ℕ} {r : Result Scan Refusal} (b : BodyAsked s r) where
+  pub script-refused : (q : Refusal) → r ≡ Err q → Err q ≡ table_of (read_script s)
+  script-refused q d = scan-refused 64 vacant (body_at s 0 0 [] 0) checked q (sym d ∙ b.body) ∙ sym (ap table_of (goes s b.some b.most))
 
-  module _ (n : ℕ) (d : a.outcome ≡ Read n) where
-    pub script-behind : n < length s → refused_at 5 n ≡ scanned 64 vacant (read_script s)
-    unfolding scanned
+  module _ (a : Scan) (d : r ≡ Ok a) where
+    pub script-behind : a.next < length s → refusal_at 5 a.next ≡ table_of (read_script s)
+    unfolding table_of
     script-behind h =
-        let (p, ep, en, et) = scan-told 64 vacant (body_at s 0 0 [] 0) a n b.body d in
-        sym (ap (scanned 64 vacant) (behind s b.some b.most p ep (rw en h)) ∙ ap (λ (x : ℕ). refused_at 5 x) en)
+        let (p, ep, en, et) = scan-told 64 vacant (body_at s 0 0 [] 0) a (sym d ∙ b.body) in
+        sym (ap table_of (behind s b.some b.most p ep (rw en h)) ∙ ap (λ (x : ℕ). refusal_at {A = Table} 5 x) en)
 
-    pub script-many : length s ≤ n → 64 < a.table.count → refused_at 6 0 ≡ scanned 64 vacant (read_script s)
-    unfolding scanned
+    pub script-many : length s ≤ a.next → 64 < a.table.count → refusal_at 6 0 ≡ table_of (read_script s)
+    unfolding table_of
     script-many h k =
-        let (p, ep, en, et) = scan-told 64 vacant (body_at s 0 0 [] 0) a n b.body d in
-        sym (ap (scanned 64 vacant) (many s b.some b.most p ep (rw en h) (rw (← counted s b.some b.most p ep a.table et) k)))
+        let (p, ep, en, et) = scan-told 64 vacant (body_at s 0 0 [] 0) a (sym d ∙ b.body) in
+        sym (ap table_of (many s b.some b.most p ep (rw en h) (rw (← counted s b.some b.most p ep a.table et) k)))
 
-    pub script-read : length s ≤ n → a.table.count ≤ 64 → a ≡ scanned 64 vacant (read_script s)
+    pub script-read : length s ≤ a.next → a.table.count ≤ 64 → Ok a.table ≡ table_of (read_script s)
+    unfolding table_of
     script-read h k =
-        let (p, ep, en, et) = scan-told 64 vacant (body_at s 0 0 [] 0) a n b.body d in
-        b.body ∙ ap (scanned 64 vacant) (ep ∙ sym (whole s b.some b.most p ep (rw en h) (rw (← counted s b.some b.most p ep a.table et) k)))
+        let (p, ep, en, et) = scan-told 64 vacant (body_at s 0 0 [] 0) a (sym d ∙ b.body) in
+        ap (λ (t : Table). Ok t) et ∙ sym (ap table_of (whole s b.some b.most p ep (rw en h) (rw (← counted s b.some b.most p ep a.table et) k)))

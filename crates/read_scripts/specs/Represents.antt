@@ -8,7 +8,7 @@ use Rattle.read_messages.specs.declared.Refusal.{Refusal}
 use Rattle.read_messages.specs.Spelling.{message_at}
 use Rattle.read_scripts.specs.Tree.{Head, ambient, action, receipt, output, Body, close, part, kind_number, tops, parts, map_heads}
 use Rattle.read_scripts.specs.Script.{Script, read_script}
-use Rattle.read_scripts.specs.Table.{start_of, tabled}
+use Rattle.read_scripts.specs.Table.{start_of, table_of}
 use Rattle.read_scripts.specs.declared.Table.{Table}
 
 -- "Parts (kinds 1 to 4) are numbered 0, 1, 2 in word order": from n on
@@ -61,6 +61,6 @@ pub record Tabled (script : List ℕ) (t : Table) (b : Script) : Type 0 where
 -- what the reader of the script answers
 pub record Answers (script : List ℕ) (r : Result Table Refusal) : Type 0 where
   -- the refusal or the table is that of the definition; the script's own body is number 64's
-  pub answer : r ≡ tabled (read_script script)
+  pub answer : r ≡ table_of (read_script script)
   -- the table of a script that is accepted, and the words, hold its tree
   pub table : (p : Script × Cursor) (t : Table) → read_script script ≡ got p → r ≡ Ok t → Tabled script t p.0

@@ -1,6 +1,6 @@
 -- The part table that the reader fills, as a function of the tree that the words are read as, and what the readers ask of
 -- what they are called with. Assumes nothing: these are definitions.
-use Rattle.std.specs.Prelude.{ℕ, ◌+◌, ◌≤◌, ◌<◌, cond, List, ◌≡◌, length, get_or, set, replicate, ltb, Some, Result, Ok}
+use Rattle.std.specs.Prelude.{ℕ, ◌+◌, ◌≤◌, ◌<◌, cond, List, ◌≡◌, length, get_or, set, replicate, ltb, Result, Ok}
 use Rattle.base_sets.specs.Sets.{members, inserted, mask}
 use Rattle.read_messages.specs.Reading.{Cursor, Reading, refuse, got, refusal_at}
 use Rattle.read_messages.specs.Message.{Message}
@@ -54,9 +54,9 @@ unfoldable pub scanned_part : (owner : ℕ) → Table → Reading ((Written × S
 scanned_part o t (refuse q i) = refusal_at q i
 scanned_part o t (got p) = Ok (record { next = p.1.index; table = tabulate o (part t.count p.0.0 p.0.1 close) t })
 
-unfoldable pub tabled : Reading (Script × Cursor) → Result Table Refusal
-tabled (refuse q i) = refusal_at q i
-tabled (got p) = Ok (tabulate 64 p.0 vacant)
+unfoldable pub table_of : Reading (Script × Cursor) → Result Table Refusal
+table_of (refuse q i) = refusal_at q i
+table_of (got p) = Ok (tabulate 64 p.0 vacant)
 
 -- What the reader of a body is called with: the words, the first of which has the index `at`, their nesting, the index from
 -- which on the array has the receipts around, and how many parts stand before.
