@@ -1,5 +1,5 @@
 -- G: names have 28 bits. Assumes nothing.
-use Prim.Native.Nat.{ℕ, ◌≤◌, ◌<◌}
+use Prim.Native.Nat.{ℕ, ◌<◌, max}
 use mathlib.Core.Bool.{◌&&◌, ◌||◌}
 use mathlib.Core.List.{List, [], ◌∷◌}
 use mathlib.Core.Path.{◌≡◌}
@@ -30,8 +30,5 @@ rule-names [] = omega arith
 rule-names (w ∷ ws) = omega (arith, rule-name w, rule-names ws)
 
 -- the greater of both
-pub greatest-rule : (script words : List ℕ) (s r : ℕ) → s ≡ greatest_name script → r ≡ greatest_rule_name words → s < r → Greatest script words r
-greatest-rule script words s r e f l = record { most = omega arith; small = omega (arith, rule-names words) }
-
-pub greatest-script : (script words : List ℕ) (s r : ℕ) → s ≡ greatest_name script → r ≡ greatest_rule_name words → r ≤ s → Greatest script words s
-greatest-script script words s r e f l = record { most = omega arith; small = omega (arith, script-names script) }
+pub greatest-so : (script words : List ℕ) (g : ℕ) → g ≡ max (greatest_name script) (greatest_rule_name words) → Greatest script words g
+greatest-so script words g e = record { most = e; small = omega (arith, rule-names words, script-names script) }

@@ -1,24 +1,12 @@
 -- A refusal as the call's answer. Assumes nothing.
 use Prim.Native.Nat.{ℕ}
 use mathlib.Core.Bool.{true}
-use mathlib.Core.List.{List}
 use mathlib.Core.Path.{◌≡◌, sym, ap, ◌∙◌}
 use native.Mathlib.Omega.{arith}
-use Rattle.read_messages.specs.declared.Outcome.{Outcome}
-use Rattle.read_messages.specs.declared.Outcome.TheVariants.{Read, Refused}
 use Rattle.theory_call.specs.Call.{Call, Verdict, accepted, refused, refusal, answer}
 use Rattle.theory_call.specs.Call as plain
-use Rattle.call_answers.specs.Answering.{verdict_of, answer_of, refused_by, Refusing, call_of, CallGives}
+use Rattle.call_answers.specs.Answering.{verdict_of, answer_of, Refusing, CallGives}
 use Rattle.call_answers.specs.declared.Answer.{Answer}
-
--- what is answered of an outcome that is known to be read, or refused
-pub by-none : (r : Answer) (x : Outcome) (n : ℕ) → Refusing r (refusal 0 0 0 0) → x ≡ Read n → Refusing r (refused_by x)
-unfolding refused_by
-by-none r x n f e = record { answered = λ b. f.answered b ∙ ap (λ (y : Outcome). refused_by y b) (sym e); uncounted = f.uncounted }
-
-pub by-refusal : (r : Answer) (x : Outcome) (q i : ℕ) → Refusing r (refusal q i 0 0) → x ≡ Refused q i → Refusing r (refused_by x)
-unfolding refused_by
-by-refusal r x q i f e = record { answered = λ b. f.answered b ∙ ap (λ (y : Outcome). refused_by y b) (sym e); uncounted = f.uncounted }
 
 refused≢accepted : {B : Type 0} {q i : ℕ} {v : Verdict} → v ≡ refused q i → v ≡ accepted true → B
 refused≢accepted e d = let z : ◌≡◌ {A = ℕ} 0 1 = cc in absurd (let w : ⊥ = omega arith in w)
@@ -35,11 +23,3 @@ gives-refusal c r q i m v f d =
         others = λ n. record { none = f.uncounted; unwritten = λ k. c.list };
       };
     }
-
--- a refusal that is handed up is what the call gives
-pub handed : (r : Answer) (x : Outcome) (script moves words : List ℕ) (patience : ℕ) (buffer list : List ℕ) (q i : ℕ)
-    → Refusing r (refused_by x) → x ≡ Refused q i → answer (call_of script moves words patience buffer list) ≡ refusal q i 0 0 buffer
-    → CallGives (call_of script moves words patience buffer list) r buffer list
-unfolding refused_by
-handed r x script moves words patience buffer list q i f e d =
-    gives-refusal (call_of script moves words patience buffer list) r q i 0 0 (record { answered = λ b. f.answered b ∙ ap (λ (y : Outcome). refused_by y b) e; uncounted = f.uncounted }) d

@@ -1,9 +1,8 @@
 -- The engine's answers by document 01's numbers, the call as a definition is fed it, and G. Assumes nothing: these are
 -- definitions.
-use Rattle.std.specs.Prelude.{ℕ, ◌<◌, max, true, false, List, ◌≡◌}
+use Rattle.std.specs.Prelude.{ℕ, ◌<◌, max, true, false, List, ◌≡◌, Result, Ok, Err}
 use Rattle.read_messages.specs.Reading.{Reading, refuse, got}
-use Rattle.read_messages.specs.declared.Outcome.{Outcome}
-use Rattle.read_messages.specs.declared.Outcome.TheVariants as outcome
+use Rattle.read_messages.specs.declared.Refusal.{Refusal}
 use Rattle.read_script_words.specs.ScriptWords.{greatest_name}
 use Rattle.read_rule_words.specs.Rule.{greatest_rule_name}
 use Rattle.theory_call.specs.Call.{Call}
@@ -16,7 +15,7 @@ use Rattle.call_answers.specs.declared.Answer.{Answer}
 unfoldable pub verdict_of : Verdict → plain.Verdict
 verdict_of Yes = plain.accepted true
 verdict_of No = plain.accepted false
-verdict_of (Refused q i) = plain.refused q i
+verdict_of (Refused r) = plain.refused r.question r.place
 
 -- the answer, with the buffer as it is at exit; the itinerary's count is left out, since document 02 leaves it free
 unfoldable pub answer_of : Answer → (buffer : List ℕ) → plain.Answer
@@ -31,15 +30,13 @@ answer_of a b = record {
 }
 
 -- what is answered to questions that hand nothing on
-unfoldable pub asked_of : Reading (Unit {0}) → Outcome
-asked_of (refuse q i) = outcome.Refused q i
-asked_of (got u) = outcome.Read 0
+unfoldable pub asked_of : Reading (Unit {0}) → Result (Unit {0}) Refusal
+asked_of (refuse q i) = Err (record { question = q; place = i })
+asked_of (got u) = Ok u
 
--- "The first no ends the call with its number and place": a reader's refusal as the call's answer, before any move; what is
--- read to its end is refused by no question, 0
-unfoldable pub refused_by : Outcome → (buffer : List ℕ) → plain.Answer
-refused_by (outcome.Refused q i) b = plain.refusal q i 0 0 b
-refused_by (outcome.Read n) b = plain.refusal 0 0 0 0 b
+-- "The first no ends the call with its number and place": a reader's refusal as the call's answer, before any move
+abbrev pub refused_by : Refusal → (buffer : List ℕ) → plain.Answer
+refused_by r b = plain.refusal r.question r.place 0 0 b
 
 -- an answer that is a refusal, whatever the buffer, and counts no move of an itinerary
 pub record Refusing (a : Answer) (refused : (buffer : List ℕ) → plain.Answer) : Type 0 where

@@ -5,7 +5,7 @@ ghost use Rattle.std.specs.Prelude.{◌≡◌};
 ghost use Rattle.theory_call.specs.Call.{accepted, refusal, asking, terms};
 ghost use Rattle.call_answers.specs.Answering.{verdict_of, asked_of, refused_by, Refusing, Greatest};
 
-use read_messages::Outcome;
+use read_messages::Refusal;
 use read_rule_words::greatest_rule_name;
 use read_script_words::greatest_name;
 
@@ -17,12 +17,12 @@ const MOST_MOVES: usize = 4096;
 
 const LEAST_LIST: usize = 256;
 
-// Yes or no, or the question that refuses the call, and its place.
+// Yes or no, or the question that refuses the call, and its place. A verdict is one of three, so it stays an enum of its own.
 #[derive(Clone, Copy)]
 pub enum Verdict {
     Yes,
     No,
-    Refused { question: u32, place: usize },
+    Refused(Refusal),
 }
 
 // What a call answers beside the buffers; `count` is that of the itinerary's moves.
@@ -37,13 +37,12 @@ pub struct Answer {
     pub count: usize,
 }
 
-// The answer to a call that is refused.
-pub fn refused(question: u32, place: usize, moves: usize, visits: u32) -> Answer
-    ensures { Refusing result (refusal question place moves visits) }
+// The answer to a call that is refused by the first no.
+pub fn refused(first_no: Refusal, moves: usize, visits: u32) -> Answer
+    ensures { Refusing result (refusal first_no.question first_no.place moves visits) }
 {
-    let verdict = Verdict::Refused { question, place };
     Answer {
-        verdict,
+        verdict: Verdict::Refused(first_no),
         moves,
         visits,
         deepest: 0,
@@ -53,66 +52,48 @@ pub fn refused(question: u32, place: usize, moves: usize, visits: u32) -> Answer
     }
 }
 
-// A reader's refusal, handed up as the call's: no move is made, and no visit. What was read to its end is no refusal, and
-// would be told as one by no question.
-pub fn handed_up(outcome: Outcome) -> Answer
-    ensures { Refusing result (refused_by outcome) }
+// A reader's refusal, handed up as the call's: no move is made, and no visit.
+pub fn handed_up(first_no: Refusal) -> Answer
+    ensures { Refusing result (refused_by first_no) }
 {
-    let Outcome::Refused { question, place } = outcome else {
-        return refused(0, 0, 0, 0);
-    };
-    refused(question, place, 0, 0)
+    refused(first_no, 0, 0)
 }
 
 // Yes or no.
 pub fn said(yes: bool) -> Verdict
     ensures { verdict_of result ≡ accepted yes }
 {
-    if yes {
-        return Verdict::Yes;
-    }
-    Verdict::No
+    if yes { Verdict::Yes } else { Verdict::No }
 }
 
 // The questions that ask nothing but numbers, in their order: 13, 14 and 21.
-pub fn ask_terms(patience: u32, moves: usize, list: usize) -> Outcome
+pub fn ask_terms(patience: u32, moves: usize, list: usize) -> Result<(), Refusal>
     ensures { result ≡ asked_of (asking (terms patience moves list)) }
 {
-    if patience == 0 {
-        return Outcome::Refused {
+    if patience == 0 || MOST_PATIENCE < patience {
+        return Err(Refusal {
             question: 13,
             place: 0,
-        };
-    }
-    if MOST_PATIENCE < patience {
-        return Outcome::Refused {
-            question: 13,
-            place: 0,
-        };
+        });
     }
     if MOST_MOVES < moves {
-        return Outcome::Refused {
+        return Err(Refusal {
             question: 14,
             place: 0,
-        };
+        });
     }
     if list < LEAST_LIST {
-        return Outcome::Refused {
+        return Err(Refusal {
             question: 21,
             place: 0,
-        };
+        });
     }
-    Outcome::Read { next: 0 }
+    Ok(())
 }
 
 // "G the greatest name in script and rule (0 if none)"
 pub fn greatest<'a>(script: &'a [u32], rule: &'a [u32]) -> u32
     ensures { Greatest script.now rule.now result }
 {
-    let in_script = greatest_name(script);
-    let in_rule = greatest_rule_name(rule);
-    if in_script < in_rule {
-        return in_rule;
-    }
-    in_script
+    greatest_name(script).max(greatest_rule_name(rule))
 }

@@ -8,6 +8,6 @@ pub returns-then-yes : goal.returns-then-yes
 unfolding verdict_of
 returns-then-yes c = ap accepted (sym c.if-yes.true)
 
-pub returns : goal.returns
+pub returns-else-yes : goal.returns-else-yes
 unfolding verdict_of
-returns c = ap accepted (sym c.if-yes.false)
+returns-else-yes c = ap accepted (sym c.if-yes.false)
