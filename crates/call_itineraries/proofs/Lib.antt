@@ -1,3 +1,2 @@
 -- The laws of a list that is lent for an itinerary. Assumes nothing.
-mod Fronts
 mod Shown

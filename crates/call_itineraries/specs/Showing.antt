@@ -10,11 +10,6 @@ pub record Listable (count : ℕ) (moves list : List ℕ) : Type 0 where
   pub array : length moves ≡ 256
   pub room : 256 ≤ length list
 
--- r is the answer a but for its count
-pub record WithCount (a : Answer) (count : ℕ) (r : Answer) : Type 0 where
-  pub same : (out : List ℕ) → answer_of r out ≡ answer_of a out
-  pub is : r.count ≡ count
-
 -- r is the answer a with so many of the moves as its itinerary, where it is yes; "In every other case the count is 0 and the
 -- list unwritten"
 pub record ShowsMoves (a : Answer) (count : ℕ) (moves before : List ℕ) (r : Answer) (after : List ℕ) : Type 0 where

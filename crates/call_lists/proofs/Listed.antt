@@ -18,9 +18,12 @@ use Rattle.engine_targets.specs.Targets.{is_some}
 use Rattle.engine_targets.specs.Makes.{Makes, MakesOrLeaves}
 use Rattle.theory_call.specs.Call.{actor, target, move_fits}
 use Rattle.theory_call.specs.ClosureCall.{halted, completed, after_move, if_made, closure_run}
-use Rattle.call_lists.specs.Running.{ended_of, Left, Runs, ListRan}
-use Rattle.call_lists.specs.declared.Ended.{Ended}
-use Rattle.call_lists.specs.declared.Ended.TheVariants.{Made, Halted}
+use Rattle.std.specs.Prelude.{Ok, Err}
+use Rattle.call_lists.specs.Running.{Ended, ended_of, Left, Runs, ListRan}
+
+-- stopped by that question at that place
+abbrev pub stopped : (question place : ℕ) → Ended
+stopped q i = Err (record { question = q; place = i })
 
 -- the word at an index, and those behind it
 drop-word : (l : List ℕ) (i : ℕ) → i < length l → drop i l ≡ get_or l i 0 ∷ drop (i + 1) l
@@ -70,7 +73,7 @@ module _ (script kinds starts : List ℕ) (n : ℕ) (moves : List ℕ) (s : Stat
         subst (Left script kinds starts r weight (spent + i)) (sym e) (q.stands, q.bound)
 
     -- the list is made
-    going-ends : length moves ≤ i → i ≤ length moves → Runs script kinds starts n moves s Made r
+    going-ends : length moves ≤ i → i ≤ length moves → Runs script kinds starts n moves s (Ok tt) r
     unfolding closure_run ended_of
     going-ends m l weight spent b few R =
         let q = G weight spent b few R in
@@ -90,7 +93,7 @@ module _ (script kinds starts : List ℕ) (n : ℕ) (moves : List ℕ) (s : Stat
       on M = ap (λ (ws : List ℕ). closure_run n i ws M) (drop-word moves i m)
 
       -- question 15
-      going-unfit : move_fits n w ≡ false → Runs script kinds starts n moves s (Halted 15 i) r
+      going-unfit : move_fits n w ≡ false → Runs script kinds starts n moves s (stopped 15 i) r
       unfolding closure_run ended_of
       going-unfit e weight spent b few R =
           let q = G weight spent b few R in
@@ -106,7 +109,7 @@ module _ (script kinds starts : List ℕ) (n : ℕ) (moves : List ℕ) (s : Stat
             (x.0 ∙ ap (λ (σ : Bindings). is_some (closure_move σ (actor w) (target w) q.machine.tree)) q.bound, x.1)
 
         -- question 16
-        going-stuck : made ≡ false → Runs script kinds starts n moves s (Halted 16 i) t
+        going-stuck : made ≡ false → Runs script kinds starts n moves s (stopped 16 i) t
         unfolding closure_run if_made ended_of
         going-stuck e weight spent b few R =
             let q = G weight spent b few R in
@@ -153,12 +156,12 @@ module _ (script sets₀ numbers₀ moves : List ℕ) (n : ℕ) where
     ended : (e : Ended) → Runs script (kinds_in numbers₀) (starts_in numbers₀) n moves (own_state sets₀ numbers₀) e (own_state sets numbers) → ListRan script sets₀ numbers₀ moves n sets numbers e
     ended e r = record { lends = T.lends; same-kinds = T.same-kinds; same-starts = T.same-starts; runs = r }
 
-    pub turn-ends : length moves ≤ i → ListRan script sets₀ numbers₀ moves n sets numbers Made
-    turn-ends m = ended Made (going-ends _ _ _ _ _ _ _ _ T.going m T.within)
+    pub turn-ends : length moves ≤ i → ListRan script sets₀ numbers₀ moves n sets numbers (Ok tt)
+    turn-ends m = ended (Ok tt) (going-ends _ _ _ _ _ _ _ _ T.going m T.within)
 
     module _ (m : i < length moves) (f : Bool) (asked : f ≡ move_fits n (get_or moves i 0)) where
-      pub turn-unfit : f ≡ false → ListRan script sets₀ numbers₀ moves n sets numbers (Halted 15 i)
-      turn-unfit e = ended (Halted 15 i) (going-unfit _ _ _ _ _ _ _ _ T.going m (sym asked ∙ e))
+      pub turn-unfit : f ≡ false → ListRan script sets₀ numbers₀ moves n sets numbers (stopped 15 i)
+      turn-unfit e = ended (stopped 15 i) (going-unfit _ _ _ _ _ _ _ _ T.going m (sym asked ∙ e))
 
       module _ (fits : f ≡ true) (a b : ℕ) (ea : a ≡ actor (get_or moves i 0)) (eb : b ≡ target (get_or moves i 0)) (sets₁ numbers₁ : List ℕ) (L : LentReady script sets₁ numbers₁)
           (ek : kinds_in numbers₁ ≡ kinds_in numbers) (es : starts_in numbers₁ ≡ starts_in numbers) (made : Bool)
@@ -167,7 +170,7 @@ module _ (script sets₀ numbers₀ moves : List ℕ) (n : ℕ) where
         tried-so : MakesOrLeaves script (kinds_in numbers₀) (starts_in numbers₀) (own_state sets numbers) (own_state sets₁ numbers₁) made (actor (get_or moves i 0)) (target (get_or moves i 0))
         tried-so = transport (λ q. MakesOrLeaves script (T.same-kinds q) (T.same-starts q) (own_state sets numbers) (own_state sets₁ numbers₁) made (ea q) (eb q)) X
 
-        pub turn-stuck : made ≡ false → ListRan script sets₀ numbers₀ moves n sets₁ numbers₁ (Halted 16 i)
+        pub turn-stuck : made ≡ false → ListRan script sets₀ numbers₀ moves n sets₁ numbers₁ (stopped 16 i)
         turn-stuck e = record { lends = L; same-kinds = ek ∙ T.same-kinds; same-starts = es ∙ T.same-starts; runs = going-stuck _ _ _ _ _ _ _ _ T.going m (sym asked ∙ fits) _ made tried-so e }
 
         pub turn_on : made ≡ true → Turn script sets₀ numbers₀ moves n (i + 1) sets₁ numbers₁

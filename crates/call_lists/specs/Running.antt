@@ -1,23 +1,26 @@
 -- What the engine's run of a list of moves asks, how it ends, against the closure machine's run, and the state that it leaves.
 -- Assumes nothing: these are definitions.
-use Rattle.std.specs.Prelude.{ℕ, ◌+◌, ◌≤◌, ◌<◌, List, ◌≡◌, length, take}
+use Rattle.std.specs.Prelude.{ℕ, ◌+◌, ◌≤◌, ◌<◌, List, ◌≡◌, length, take, Result, Ok, Err}
+use Rattle.read_messages.specs.declared.Refusal.{Refusal}
 use Rattle.theory_closures.specs.Closure.{Closure}
 use Rattle.engine_states.specs.Represents.{bound_in, Represents}
 use Rattle.engine_states.specs.declared.State.{State}
 use Rattle.engine_state_arrays.specs.Lent.{kinds_in, starts_in, own_state, LentReady}
 use Rattle.theory_call.specs.ClosureCall.{ClosureRan, halted, completed, closure_run}
-use Rattle.call_lists.specs.declared.Ended.{Ended}
-use Rattle.call_lists.specs.declared.Ended.TheVariants.{Made, Halted}
+
+-- how a list of moves ends: all are made, or a question stops it at a place
+abbrev pub Ended : Type 0
+Ended = Result (Unit {0}) Refusal
 
 -- how a run ends
 unfoldable pub ended_of : ClosureRan → Ended
-ended_of (halted q i) = Halted q i
-ended_of (completed m) = Made
+ended_of (halted q i) = Err (record { question = q; place = i })
+ended_of (completed m) = Ok tt
 
 -- how many moves of a list are made that ends so: all, or those before the place
 abbrev pub made_of : List ℕ → Ended → ℕ
-made_of moves Made = length moves
-made_of moves (Halted q i) = i
+made_of moves (Ok u) = length moves
+made_of moves (Err r) = r.place
 
 module _ (script kinds starts : List ℕ) where
   -- the state represents the machine that a run leaves

@@ -7,35 +7,32 @@ ghost use Rattle.theory_call.specs.Call.{actor, target, move_fits};
 ghost use Rattle.call_lists.specs.Running.{Runnable, ListRan};
 
 use engine_moves::make_if_possible;
+use read_messages::Refusal;
 
-// How a list of moves ends: all are made, or a question stops it at a place.
-#[derive(Drop)]
-pub enum Ended {
-    Made,
-    Halted { question: u32, place: usize },
-}
+// A word's low 28 bits are its operand: so many operands there are.
+const OPERANDS: u32 = 268435456;
 
 // The actor and the target of a move word.
 fn actor_of(w: u32) -> usize
     ensures { result ≡ actor w }
 {
-    (w % 268435456 / 256) as usize
+    (w % OPERANDS / 256) as usize
 }
 
 fn target_of(w: u32) -> usize
     ensures { result ≡ target w }
 {
-    (w % 268435456 % 256) as usize
+    (w % OPERANDS % 256) as usize
 }
 
 // Question 15 of a word.
 fn move_fits(w: u32, parts: usize) -> bool
     ensures { result ≡ move_fits parts w }
 {
-    if w / 268435456 != 1 {
+    if w / OPERANDS != 1 {
         return false;
     }
-    if w % 268435456 >= 65536 {
+    if w % OPERANDS >= 65536 {
         return false;
     }
     if actor_of(w) >= parts {
@@ -51,28 +48,23 @@ pub fn run_list<'a, 'b>(
     numbers: &'b mut [u32; 481],
     moves: &'a [u32],
     parts: usize,
-) -> Ended
+) -> Result<(), Refusal>
     requires { Runnable script.now sets.old numbers.old moves.now parts }
     ensures { ListRan script.now sets.old numbers.old moves.now parts sets.new numbers.new result }
 {
-    let mut i: usize = 0;
-    while i < moves.len() {
-        let w = moves[i];
-        if move_fits(w, parts) {
-            if make_if_possible(script, sets, numbers, actor_of(w), target_of(w)) {
-                i += 1;
-            } else {
-                return Ended::Halted {
-                    question: 16,
-                    place: i,
-                };
-            }
-        } else {
-            return Ended::Halted {
+    for (i, &w) in moves.iter().enumerate() {
+        if !move_fits(w, parts) {
+            return Err(Refusal {
                 question: 15,
                 place: i,
-            };
+            });
+        }
+        if !make_if_possible(script, sets, numbers, actor_of(w), target_of(w)) {
+            return Err(Refusal {
+                question: 16,
+                place: i,
+            });
         }
     }
-    Ended::Made
+    Ok(())
 }

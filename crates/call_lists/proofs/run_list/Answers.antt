@@ -12,11 +12,11 @@ make_if_possible-requires c = search (actor-small, target_small, rules)
 pub loop-i-preserved : goal.loop-i-preserved
 loop-i-preserved c = search (turn_on, rules)
 
-pub returns-else-make_if_possible : goal.returns-else-make_if_possible
-returns-else-make_if_possible c = search (turn-stuck, rules)
+pub returns-then-not-make_if_possible : goal.returns-then-not-make_if_possible
+returns-then-not-make_if_possible c = search (turn-stuck, rules)
 
-pub returns-else-move_fits : goal.returns-else-move_fits
-returns-else-move_fits c = search (turn-unfit, rules)
+pub returns-then-not-move_fits : goal.returns-then-not-move_fits
+returns-then-not-move_fits c = search (turn-unfit, rules)
 
 pub returns : goal.returns
 returns c = search (turn-ends, rules)
