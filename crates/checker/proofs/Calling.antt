@@ -29,47 +29,19 @@ use Rattle.engine_states.specs.declared.State.{State}
 use Rattle.engine_state_arrays.specs.Lent.{kinds_in, starts_in, own_state, Small}
 use Rattle.theory_call.specs.Call.{Call, refusal, start_of, asking, terms, door, answer}
 use Rattle.theory_call.specs.ClosureCall.{ClosureRan, halted, completed, closure_run, begun}
-use Rattle.call_lists.specs.Running.{ended_of, made_of, Left, Runs, Runnable, ListRan}
+use Rattle.call_lists.specs.Running.{Ended, ended_of, made_of, Left, Runs, Runnable, ListRan}
 use Rattle.call_answers.specs.Answering.{Refusing, call_of, CallGives}
 use Rattle.call_answers.specs.declared.Answer.{Answer}
 use Rattle.call_answers.proofs.Terms.{Asked, asked-refused}
 use Rattle.call_answers.proofs.Refusals.{gives-refusal}
 use Rattle.walk_itineraries.specs.declared.Led.{Led}
 use Rattle.checker.specs.Calling.{ScriptHeld, RuleHeld, Entered, StateHeld, Walkable, WalkSays, Concludable}
-use Rattle.call_lists.specs.declared.Ended.{Ended}
-use Rattle.call_lists.specs.declared.Ended.TheVariants.{Made, Halted}
+use Rattle.std.specs.Prelude.{Result, Ok, Err}
+use Rattle.read_messages.specs.declared.Refusal.{Refusal}
 use Rattle.theory_call.proofs.Entering.{terms-few, terms-long, door-unread, own-unasked, own-got}
 use Rattle.theory_call.proofs.Called.{answers-door, answers-halted}
 
-script-outcome : (x : Reading (Script × Cursor)) → (table.scanned 64 table.vacant x).outcome ≡ outcome x
-unfolding table.scanned outcome
-script-outcome (refuse q i) = refl
-script-outcome (got p) = refl
-
-rule-outcome : (x : Reading (Rule × Cursor)) → (rules.scanned rules.vacant x).outcome ≡ outcome x
-unfolding rules.scanned outcome
-rule-outcome (refuse q i) = refl
-rule-outcome (got p) = refl
-
-module _ (ws : List ℕ) (r : Scan) (e : r ≡ table.scanned 64 table.vacant (read_script ws)) where
-  outcome-is : outcome (read_script ws) ≡ r.outcome
-  outcome-is = sym (ap (λ (s : Scan). s.outcome) e ∙ script-outcome (read_script ws))
-
-  pub script-refused : (q i : ℕ) → r.outcome ≡ Refused q i → read_script ws ≡ refuse q i
-  script-refused q i d = outcome-refuses (read_script ws) q i (outcome-is ∙ d)
-
-  pub script-held : (n : ℕ) → r.outcome ≡ Read n → ((p : Script × Cursor) → read_script ws ≡ got p → Tabled ws r.table p.0) → ScriptHeld ws r.table
-  script-held n d h = let (p, x, _) = outcome-read (read_script ws) n (outcome-is ∙ d) in record { read = p; reads = x; tabled = h p x }
-
-module _ (k : ℕ) (ws : List ℕ) (r : RuleScan) (e : r ≡ rules.scanned rules.vacant (read_whole_rule k ws)) where
-  rule-outcome-is : outcome (read_whole_rule k ws) ≡ r.outcome
-  rule-outcome-is = sym (ap (λ (s : RuleScan). s.outcome) e ∙ rule-outcome (read_whole_rule k ws))
-
-  pub rule-refused : (q i : ℕ) → r.outcome ≡ Refused q i → read_whole_rule k ws ≡ refuse q i
-  rule-refused q i d = outcome-refuses (read_whole_rule k ws) q i (rule-outcome-is ∙ d)
-
-  pub rule-held : (n : ℕ) → r.outcome ≡ Read n → ((p : Rule × Cursor) → read_whole_rule k ws ≡ got p → ruled.Tabled k ws r.table p) → RuleHeld k ws r.table
-  rule-held n d h = let (p, x, _) = outcome-read (read_whole_rule k ws) n (rule-outcome-is ∙ d) in record { read = p; reads = x; tabled = h p x }
+TODO
 
 -- ---- how a list ends
 
@@ -78,10 +50,10 @@ module _ (script kinds starts : List ℕ) (r : State) (weight spent : ℕ) where
   left-made (halted q i) e = absurd e
   left-made (completed m) e = (m, refl, e.0, e.1)
 
-ends-halted : (q i : ℕ) (x : ClosureRan) → Halted q i ≡ ended_of x → x ≡ halted q i
+ends-halted : (r : Refusal) (x : ClosureRan) → Err r ≡ ended_of x → x ≡ halted r.question r.place
 unfolding ended_of
-ends-halted q i (halted p j) e = let a : p ≡ q = cc in let b : j ≡ i = cc in λ k. halted (a k) (b k)
-ends-halted q i (completed m) e = let z : ◌≡◌ {A = ℕ} 0 1 = cc in absurd (let w : ⊥ = omega arith in w)
+ends-halted r (halted p j) e = let a : p ≡ r.question = cc in let b : j ≡ r.place = cc in λ k. halted (a k) (b k)
+ends-halted r (completed m) e = ok≢err (sym e)
 
 -- ---- questions 7 to 16
 
@@ -93,15 +65,18 @@ module _ {script : List ℕ} {t : Table} (H : ScriptHeld script t) (words : List
   reads-rule : (x : Reading (Rule × Cursor)) → read_whole_rule t.count words ≡ x → read_whole_rule H.read.1.number words ≡ x
   reads-rule x e = subst (λ (k : ℕ). read_whole_rule k words ≡ x) (number_is H) e
 
-  module _ (moves : List ℕ) (patience : ℕ) (buffer list : List ℕ) (q i : ℕ) where
+  module _ (moves : List ℕ) (patience : ℕ) (buffer list : List ℕ) (r : Refusal) where
     abbrev c : Call
     c = call_of script moves words patience buffer list
 
-    pub says-rule : read_whole_rule t.count words ≡ refuse q i → answer c ≡ refusal q i 0 0 buffer
-    says-rule e = answers-door c H.read H.reads q i (door-unread c (start_of script H.read) q i (reads-rule (refuse q i) e))
+    abbrev refused-so : plain.Answer
+    refused-so = refused_by r buffer
 
-    pub says-terms : {u : RuleTable} → RuleHeld t.count words u → (x : Outcome) → x ≡ Asked patience (length moves) (length list) → x ≡ Refused q i → answer c ≡ refusal q i 0 0 buffer
-    says-terms R x e d = answers-door c H.read H.reads q i (own-unasked c H.read R.read (reads-rule (got R.read) R.reads) q i (asked-refused (asking (terms patience (length moves) (length list))) q i (sym e ∙ d)))
+    pub says-rule : read_whole_rule t.count words ≡ refuse r.question r.place → answer c ≡ refused-so
+    says-rule e = answers-door c H.read H.reads r.question r.place (door-unread c (start_of script H.read) r.question r.place (reads-rule (refuse r.question r.place) e))
+
+    pub says-terms : {u : RuleTable} → RuleHeld t.count words u → (x : Result (Unit {0}) Refusal) → x ≡ Asked patience (length moves) (length list) → x ≡ Err r → answer c ≡ refused-so
+    says-terms R x e d = answers-door c H.read H.reads r.question r.place (own-unasked c H.read R.read (reads-rule (got R.read) R.reads) r.question r.place (asked-refused (asking (terms patience (length moves) (length list))) r (sym e ∙ d)))
 
 -- the arrays that are lent hold the state that the list begins with, and it represents the script's closure
 pub record Began (script : List ℕ) (t : Table) (s : State) (sets numbers : List ℕ) : Type 0 where
@@ -131,11 +106,11 @@ module _ {script moves words : List ℕ} {patience : ℕ} {list : List ℕ} {t :
   abbrev Ends : Ended → State → Type 0
   Ends e r = (e ≡ ended_of (run moves)) × Left script t.kinds t.starts r t.count (0 + made_of moves e) (run (take (made_of moves e) moves))
 
-  list-halted : (buffer : List ℕ) (q i : ℕ) (r : State) → Ends (Halted q i) r → answer (call_of script moves words patience buffer list) ≡ refusal q i i 0 buffer
-  list-halted buffer q i r g = answers-halted (call_of script moves words patience buffer list) L.both.held.read L.both.held.reads L.both.ruled.read (enters buffer) q i
-      (subst (λ (k : ℕ). closure_run k 0 moves (begun L.both.held.read.0) ≡ halted q i) (number_is L.both.held) (ends-halted q i _ g.0))
+  list-halted : (buffer : List ℕ) (x : Refusal) (r : State) → Ends (Err x) r → answer (call_of script moves words patience buffer list) ≡ refusal x.question x.place x.place 0 buffer
+  list-halted buffer x r g = answers-halted (call_of script moves words patience buffer list) L.both.held.read L.both.held.reads L.both.ruled.read (enters buffer) x.question x.place
+      (subst (λ (k : ℕ). closure_run k 0 moves (begun L.both.held.read.0) ≡ halted x.question x.place) (number_is L.both.held) (ends-halted x _ g.0))
 
-  list-made : (r : State) → Ends Made r → StateHeld script moves words patience list t u r
+  list-made : (r : State) → Ends (Ok tt) r → StateHeld script moves words patience list t u r
   list-made r g =
       let z : 0 + length moves ≡ length moves = omega arith in
       let (m, x, R, d) = left-made script t.kinds t.starts r t.count (0 + length moves) _ g.1 in
@@ -167,11 +142,11 @@ module _ {script moves words : List ℕ} {patience : ℕ} {list : List ℕ} {t :
           subst (λ (σ : Bindings). (x ≡ ended_of (closure_run t.count 0 moves (record { tree = b; bindings = σ }))) × Left script t.kinds t.starts state_left t.count (0 + made_of moves x) (closure_run t.count 0 (take (made_of moves x) moves) (record { tree = b; bindings = σ }))) B.none
           (g t.count 0 b (omega (arith, short)) represents)
 
-      pub list-refused : {q i : ℕ} (r : Answer) (buffer : List ℕ) → x ≡ Halted q i → Refusing r (refusal q i i 0) → CallGives (call_of script moves words patience buffer list) r buffer list
-      list-refused {q} {i} r buffer d f = gives-refusal (call_of script moves words patience buffer list) r q i i 0 f (list-halted buffer q i state_left (transport (λ z. Ends (d z) state_left) ran))
+      pub list-refused : {y : Refusal} (r : Answer) (buffer : List ℕ) → x ≡ Err y → Refusing r (refusal y.question y.place y.place 0) → CallGives (call_of script moves words patience buffer list) r buffer list
+      list-refused {y} r buffer d f = gives-refusal (call_of script moves words patience buffer list) r y.question y.place y.place 0 f (list-halted buffer y state_left (transport (λ z. Ends (d z) state_left) ran))
 
       -- the state that is borrowed where all moves are made
-      module _ (d : x ≡ Made) {k l : List ℕ} {b : State} (f : Small numbers₁ → (k ≡ kinds_in numbers₁) × (l ≡ starts_in numbers₁) × (b ≡ state_left)) where
+      module _ (d : x ≡ Ok tt) {k l : List ℕ} {b : State} (f : Small numbers₁ → (k ≡ kinds_in numbers₁) × (l ≡ starts_in numbers₁) × (b ≡ state_left)) where
         stood : StateHeld script moves words patience list t u b
         stood = list-made b (transport (λ z. Ends (d z) (sym (f R.lends.small).2 z)) ran)
 

@@ -18,7 +18,7 @@ use Rattle.write_heads.specs.Heads.{Scripted}
 use Rattle.theory_decision.specs.Walk.{walk_from}
 use Rattle.theory_decision.specs.Walk as spec
 use Rattle.theory_decision.specs.ClosureWalk.{closure_space}
-use Rattle.theory_call.specs.Call.{asking, terms, walked, start_of, setting}
+use Rattle.theory_call.specs.Call.{Call, asking, terms, walked, start_of, setting}
 use Rattle.theory_call.specs.ClosureCall.{completed, closure_run, begun}
 use Rattle.theory_call.specs.Itinerary.{Leads}
 use Rattle.walk_stages.specs.Visits.{walked_of}
@@ -28,6 +28,11 @@ use Rattle.walk_stages.specs.declared.Walked.TheVariants.{Yes}
 use Rattle.call_answers.specs.Answering.{answer_of, call_of}
 use Rattle.call_answers.specs.declared.Answer.{Answer}
 use Rattle.call_itineraries.specs.Showing.{Listable}
+use Rattle.checker.specs.declared.Request.{Request}
+
+-- what a call is lent, by the request and the buffers
+abbrev pub call_by : Request → (buffer list : List ℕ) → Call
+call_by r buffer list = call_of r.script.now r.moves.now r.rule.now r.patience buffer list
 
 -- the script is read, and the table holds it
 pub record ScriptHeld (script : List ℕ) (t : Table) : Type 0 where
