@@ -51,7 +51,7 @@ module _ (p k l : ℕ) where
 
 -- ---- what is known from the answer
 
-ok≢err : {T E B : Type 0} {x : T} {e : E} → ◌≡◌ {A = Result T E} (Ok x) (Err e) → B
+pub ok≢err : {T E B : Type 0} {x : T} {e : E} → ◌≡◌ {A = Result T E} (Ok x) (Err e) → B
 ok≢err p = absurd (true≢false (ap is_ok p))
 
 pub asked-refused : (x : Reading (Unit {0})) (r : Refusal) → asked_of x ≡ Err r → x ≡ refuse r.question r.place

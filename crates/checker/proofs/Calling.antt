@@ -6,33 +6,30 @@ use mathlib.Core.Path.{◌≡◌, refl, sym, ap, ◌∙◌, subst, transport}
 use native.Mathlib.Omega.{arith}
 use lib.ListN.{length, take}
 use lib.Seq.{take_all}
-use Rattle.read_messages.specs.Reading.{Cursor, Reading, refuse, got, outcome}
-use Rattle.read_messages.specs.declared.Outcome.{Outcome}
-use Rattle.read_messages.specs.declared.Outcome.TheVariants.{Read, Refused}
-use Rattle.read_messages.proofs.Readings.{outcome-read, outcome-refuses}
+use Rattle.read_messages.specs.Reading.{Cursor, Reading, refuse, got}
 use Rattle.read_scripts.specs.Tree.{parts}
 use Rattle.read_scripts.specs.Script.{Script, read_script}
 use Rattle.read_scripts.specs.Represents.{Tabled}
+use Rattle.read_scripts.specs.Represents as read
 use Rattle.read_scripts.specs.Table as table
 use Rattle.read_scripts.specs.declared.Table.{Table}
-use Rattle.read_scripts.specs.declared.Scan.{Scan}
 use Rattle.read_scripts.proofs.Tabled.{script-number}
 use Rattle.read_rule_words.specs.Rule.{Rule}
 use Rattle.read_rule_words.specs.ReadRule.{read_whole_rule}
 use Rattle.read_rules.specs.Ruled as ruled
 use Rattle.read_rules.specs.RuleTable as rules
 use Rattle.read_rules.specs.declared.RuleTable.{RuleTable}
-use Rattle.read_rules.specs.declared.RuleScan.{RuleScan}
 use Rattle.theory_closures.specs.Closure.{ClosureMachine, settle_under, closure_of, Bindings}
 use Rattle.engine_states.specs.Represents.{bound_in, Ready, Represents}
 use Rattle.engine_states.specs.declared.State.{State}
 use Rattle.engine_state_arrays.specs.Lent.{kinds_in, starts_in, own_state, Small}
+use Rattle.theory_call.specs.Call as plain
 use Rattle.theory_call.specs.Call.{Call, refusal, start_of, asking, terms, door, answer}
 use Rattle.theory_call.specs.ClosureCall.{ClosureRan, halted, completed, closure_run, begun}
 use Rattle.call_lists.specs.Running.{Ended, ended_of, made_of, Left, Runs, Runnable, ListRan}
-use Rattle.call_answers.specs.Answering.{Refusing, call_of, CallGives}
+use Rattle.call_answers.specs.Answering.{Refusing, refused_by, call_of, CallGives}
 use Rattle.call_answers.specs.declared.Answer.{Answer}
-use Rattle.call_answers.proofs.Terms.{Asked, asked-refused}
+use Rattle.call_answers.proofs.Terms.{Asked, ok≢err, asked-refused}
 use Rattle.call_answers.proofs.Refusals.{gives-refusal}
 use Rattle.walk_itineraries.specs.declared.Led.{Led}
 use Rattle.checker.specs.Calling.{ScriptHeld, RuleHeld, Entered, StateHeld, Walkable, WalkSays, Concludable}
@@ -41,7 +38,41 @@ use Rattle.read_messages.specs.declared.Refusal.{Refusal}
 use Rattle.theory_call.proofs.Entering.{terms-few, terms-long, door-unread, own-unasked, own-got}
 use Rattle.theory_call.proofs.Called.{answers-door, answers-halted}
 
-TODO
+-- ---- what the readers' answers say
+
+script-refuses : (x : Reading (Script × Cursor)) (r : Refusal) → Err r ≡ table.tabled x → x ≡ refuse r.question r.place
+unfolding table.tabled
+script-refuses (refuse q i) r e = let a : q ≡ r.question = cc in let b : i ≡ r.place = cc in λ k. refuse (a k) (b k)
+script-refuses (got p) r e = ok≢err (sym e)
+
+script-reads : (x : Reading (Script × Cursor)) (t : Table) → Ok t ≡ table.tabled x → (p : Script × Cursor) × (x ≡ got p)
+unfolding table.tabled
+script-reads (refuse q i) t e = ok≢err e
+script-reads (got p) t e = (p, refl)
+
+module _ (ws : List ℕ) (r : Result Table Refusal) (A : read.Answers ws r) where
+  pub script-refused : (x : Refusal) → r ≡ Err x → read_script ws ≡ refuse x.question x.place
+  script-refused x d = script-refuses (read_script ws) x (sym d ∙ A.answer)
+
+  pub script-held : (t : Table) → r ≡ Ok t → ScriptHeld ws t
+  script-held t d = let (p, x) = script-reads (read_script ws) t (sym d ∙ A.answer) in record { read = p; reads = x; tabled = A.table p t x d }
+
+rule-refuses : (x : Reading (Rule × Cursor)) (r : Refusal) → Err r ≡ rules.tabled x → x ≡ refuse r.question r.place
+unfolding rules.tabled
+rule-refuses (refuse q i) r e = let a : q ≡ r.question = cc in let b : i ≡ r.place = cc in λ k. refuse (a k) (b k)
+rule-refuses (got p) r e = ok≢err (sym e)
+
+rule-reads : (x : Reading (Rule × Cursor)) (t : RuleTable) → Ok t ≡ rules.tabled x → (p : Rule × Cursor) × (x ≡ got p)
+unfolding rules.tabled
+rule-reads (refuse q i) t e = ok≢err e
+rule-reads (got p) t e = (p, refl)
+
+module _ (k : ℕ) (ws : List ℕ) (r : Result RuleTable Refusal) (A : ruled.Answers k ws r) where
+  pub rule-refused : (x : Refusal) → r ≡ Err x → read_whole_rule k ws ≡ refuse x.question x.place
+  rule-refused x d = rule-refuses (read_whole_rule k ws) x (sym d ∙ A.answer)
+
+  pub rule-held : (t : RuleTable) → r ≡ Ok t → RuleHeld k ws t
+  rule-held t d = let (p, x) = rule-reads (read_whole_rule k ws) t (sym d ∙ A.answer) in record { read = p; reads = x; tabled = A.table p t x d }
 
 -- ---- how a list ends
 

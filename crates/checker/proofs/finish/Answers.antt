@@ -3,8 +3,8 @@ use Rattle.checker.proofs.Ending.{finishes-refused, finishes-words}
 use borrow.Author.Rules.{rules}
 use Rattle.checker.proofs.finish.Goals as goal
 
-pub returns-in-Refused : goal.returns-in-Refused
-returns-in-Refused c = search (finishes-refused, rules)
+pub returns-in-Err : goal.returns-in-Err
+returns-in-Err c = search (finishes-refused, rules)
 
-pub returns-in-Words : goal.returns-in-Words
-returns-in-Words c = search (finishes-words, rules)
+pub returns-in-Ok : goal.returns-in-Ok
+returns-in-Ok c = search (finishes-words, rules)
