@@ -8,38 +8,36 @@ ghost use Rattle.host_answer_words.specs.Told.{said_of, question_of, place_of, t
 use call_answers::{Answer, Verdict};
 
 // Yes, no or refused, as the first word of an answer has it.
+#[tactic(auto, unfolding(crate::specs::Told::said_of, call_answers::specs::Answering::verdict_of))]
 fn said(v: Verdict) -> u32
     ensures { result ≡ said_of (verdict_of v) }
 {
     match v {
-        Verdict::Refused {
-            question: _,
-            place: _,
-        } => 0,
+        Verdict::Refused(_) => 0,
         Verdict::No => 1,
         Verdict::Yes => 2,
     }
 }
 
 // The number of the question that refuses, 0 where none does.
+#[tactic(auto, unfolding(crate::specs::Told::question_of, call_answers::specs::Answering::verdict_of))]
 fn question_of(v: Verdict) -> u32
     ensures { result ≡ question_of (verdict_of v) }
 {
     match v {
-        Verdict::Refused { question, place: _ } => question,
-        Verdict::No => 0,
-        Verdict::Yes => 0,
+        Verdict::Refused(first_no) => first_no.question,
+        Verdict::No | Verdict::Yes => 0,
     }
 }
 
 // Its place, 0 where none refuses.
+#[tactic(auto, unfolding(crate::specs::Told::place_of, call_answers::specs::Answering::verdict_of))]
 fn place_of(v: Verdict) -> usize
     ensures { result ≡ place_of (verdict_of v) }
 {
     match v {
-        Verdict::Refused { question: _, place } => place,
-        Verdict::No => 0,
-        Verdict::Yes => 0,
+        Verdict::Refused(first_no) => first_no.place,
+        Verdict::No | Verdict::Yes => 0,
     }
 }
 

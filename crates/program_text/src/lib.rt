@@ -9,15 +9,16 @@ ghost use Rattle.program_text.specs.Text.{refusal_text, unfit_text, counts_text,
 use base_slices::head;
 use call_answers::{Answer, Verdict};
 use program_digits::{put_byte, put_bytes, put_decimal, put_words};
+use read_messages::Refusal;
 
 // "a refusal as the one line `refused`, number, `at`, place"
-fn put_refusal(text: &mut [u8], question: u32, place: usize) -> usize
-    ensures { Puts text.old text.new 0 result (refusal_text question place) }
+fn put_refusal(text: &mut [u8], first_no: Refusal) -> usize
+    ensures { Puts text.old text.new 0 result (refusal_text first_no.question first_no.place) }
 {
     let a = put_bytes(text, 0, b"refused ");
-    let b = put_decimal(text, a, question as u64);
+    let b = put_decimal(text, a, first_no.question as u64);
     let c = put_bytes(text, b, b" at ");
-    let d = put_decimal(text, c, place as u64);
+    let d = put_decimal(text, c, first_no.place as u64);
     put_byte(text, d, 10)
 }
 
@@ -25,7 +26,13 @@ fn put_refusal(text: &mut [u8], question: u32, place: usize) -> usize
 pub fn put_unfit(text: &mut [u8]) -> usize
     ensures { Puts text.old text.new 0 result unfit_text }
 {
-    put_refusal(text, 20, 0)
+    put_refusal(
+        text,
+        Refusal {
+            question: 20,
+            place: 0,
+        },
+    )
 }
 
 // A count behind its name.
@@ -65,6 +72,6 @@ pub fn put_answer(text: &mut [u8], a: Answer, out: &[u32]) -> usize
     match verdict {
         Verdict::Yes => put_said(text, b"yes", a, out),
         Verdict::No => put_said(text, b"no", a, out),
-        Verdict::Refused { question, place } => put_refusal(text, question, place),
+        Verdict::Refused(first_no) => put_refusal(text, first_no),
     }
 }
