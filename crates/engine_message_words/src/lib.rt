@@ -34,10 +34,10 @@ pub struct Shape {
 pub fn first_word(words: &[u32]) -> MessageWord
     ensures { result ≡ first_word words.now }
 {
-    if words.len() == 0 {
-        return MessageWord::Empty;
+    match words {
+        [] => MessageWord::Empty,
+        [w, ..] => message_word(*w),
     }
-    message_word(words[0])
 }
 
 // The shape with these numbers.
@@ -120,7 +120,7 @@ pub fn bound(m: MessageWord, bindings: &[Binding]) -> Option<usize>
 }
 
 // The words of the message of the binding at that index.
-pub fn given<'a, 'b>(script: &'a [u32], bindings: &'b [Binding], k: usize) -> &'a [u32]
+pub fn given<'a>(script: &'a [u32], bindings: &[Binding], k: usize) -> &'a [u32]
     requires { k < length bindings.now }
     ensures { result.now ≡ drop (binding_at bindings.now k).source script.now }
 {
