@@ -1,7 +1,7 @@
 -- Laws of the reader of rules: where it stands when it has read one, that more fuel than words changes nothing, and the
 -- recurrence that the code meets. Assumes nothing.
 use Prim.Native.Nat.{ℕ, zero, suc, ◌+◌, ◌≤◌, ◌<◌}
-use mathlib.Core.Bool.{Bool, true, false, ◌&&◌, cond}
+use mathlib.Core.Bool.{Bool, true, false, ◌&&◌, cond, false≢true}
 use mathlib.Core.List.{List, ◌∷◌}
 use mathlib.Core.Path.{◌≡◌, refl, sym, ap, ◌∙◌}
 use native.Mathlib.Omega.{arith}
@@ -9,17 +9,18 @@ use native.Mathlib.Numerals.{add-one}
 use lib.Dec.{leb}
 use lib.ListN.{length}
 use Rattle.read_messages.specs.Words.{operand}
-use Rattle.read_messages.specs.Reading.{Cursor, cursor, Reading, refuse, got, ◌>>=◌, ask, take_word, next_word, next_part}
-use Rattle.read_messages.specs.declared.Outcome.TheVariants.{Read}
+use Rattle.read_messages.specs.Reading.{Cursor, cursor, Reading, refuse, got, ◌>>=◌, ask, take_word, next_word, next_part, refusal_at}
+use Rattle.std.specs.Prelude.{Result, Ok, Err}
+use Rattle.read_messages.specs.declared.Refusal.{Refusal}
 use Rattle.read_messages.proofs.Readings.{bind-cong, bind-got, bind-refuse, Advances, advances-on, Next, next, next-advances, next-shorter, advances-shorter, next-end}
 use Rattle.read_rule_words.specs.Rule.{Term, Rule, truth, negation, either, void, at, beside, some-name, sometime, somewhere, rule_index}
 use Rattle.read_rule_words.specs.ReadRule.{RuleKind, TRUE, NOT, OR, VOID, AT, BESIDE, SOME, SOMETIME, SOMEWHERE, PLACED, OTHER, rule_kind, term_of, operand_fits, bound, somes_with, Reader, one_rule, two_rules, rule_from, read_rule}
 use Rattle.read_rule_words.specs.RuleWords.{follow, levelled, asked}
-use Rattle.read_rules.specs.RuleTable.{refused_at, turned, entered, tabulate, scanned}
+use Rattle.read_rules.specs.RuleTable.{turned, entered, tabulate, scanned}
 use Rattle.read_rules.specs.declared.RuleTable.{RuleTable}
 use Rattle.read_rules.specs.declared.RuleScan.{RuleScan}
-use Rattle.read_rule_words.specs.declared.Asked.{Asked}
-use Rattle.read_rule_words.specs.declared.Asked.TheVariants.{Leaf, One, Two, Choice, Place, No}
+use Rattle.read_rule_words.specs.declared.RuleShape.{RuleShape}
+use Rattle.read_rule_words.specs.declared.RuleShape.TheVariants.{Leaf, One, Two, Choice, Place}
 use Rattle.read_rule_words.proofs.Cases.{Cases, rule-case}
 
 -- What holds where a rule was read from c on, p being the rule and the cursor behind it: `index` says where the rule stands,
@@ -138,24 +139,24 @@ rule-fuel (suc f) (suc g) around somes c hf hg =
 
 -- What the code answers by what the questions 8, 9 and 10 say of the first word: `i` is that word's index, the cursor stands
 -- behind it, and `read` reads the rules inside. `onward` is the second of two rules.
-abbrev pub onward : (i : ℕ) → Reader → (somes : List ℕ) → RuleTable → Reading (Rule × Cursor) → RuleScan
-onward i read somes t (refuse q j) = refused_at q j
+abbrev pub onward : (i : ℕ) → Reader → (somes : List ℕ) → RuleTable → Reading (Rule × Cursor) → Result RuleScan Refusal
+onward i read somes t (refuse q j) = refusal_at q j
 onward i read somes t (got p) = scanned (turned i p.1.index (tabulate p.0 t)) (read somes p.1)
 
-abbrev pub stepped : Asked → (i : ℕ) → Reader → (somes : List ℕ) → Cursor → RuleTable → RuleScan
-stepped (No q) i read somes c t = refused_at q i
-stepped Leaf i read somes c t = record { outcome = Read c.index; table = t }
-stepped One i read somes c t = scanned t (read somes c)
-stepped Two i read somes c t = onward i read somes t (read somes c)
-stepped Choice i read somes c t = scanned t (read (i ∷ somes) c)
-stepped Place i read somes c t = scanned (entered i c.number t) (read somes (next_part c))
+abbrev pub stepped : Result RuleShape Refusal → (i : ℕ) → Reader → (somes : List ℕ) → Cursor → RuleTable → Result RuleScan Refusal
+stepped (Err q) i read somes c t = Err q
+stepped (Ok Leaf) i read somes c t = Ok (record { next = c.index; table = t })
+stepped (Ok One) i read somes c t = scanned t (read somes c)
+stepped (Ok Two) i read somes c t = onward i read somes t (read somes c)
+stepped (Ok Choice) i read somes c t = scanned t (read (i ∷ somes) c)
+stepped (Ok Place) i read somes c t = scanned (entered i c.number t) (read somes (next_part c))
 
 -- the table forgets the rule's own word
 scanned-one : (g : Rule → Rule) (t u : RuleTable) → ((r : Rule) → tabulate (g r) t ≡ tabulate r u) → (x : Reading (Rule × Cursor))
     → scanned t (x >>= λ p. got (g p.0, p.1)) ≡ scanned u x
 unfolding ◌>>=◌ scanned
 scanned-one g t u k (refuse q i) = refl
-scanned-one g t u k (got p) = ap (λ (y : RuleTable). record { outcome = Read p.1.index; table = y }) (k p.0)
+scanned-one g t u k (got p) = ap (λ (y : RuleTable). Ok (record { next = p.1.index; table = y })) (k p.0)
 
 module _ (f around i : ℕ) (somes : List ℕ) (t : RuleTable) where
   abbrev read : Reader
@@ -166,7 +167,7 @@ module _ (f around i : ℕ) (somes : List ℕ) (t : RuleTable) where
   unfolding ◌>>=◌ scanned
   two-on g k p (refuse q j) e = refl
   two-on g k p (got q) e =
-      ap (λ (y : RuleTable). record { outcome = Read q.1.index; table = y })
+      ap (λ (y : RuleTable). Ok (record { next = q.1.index; table = y }))
       (k p.0 q.0 ∙ ap (λ (m : ℕ). tabulate q.0 (turned i m (tabulate p.0 t))) (rule-read f (suc around) somes p.1 q e).index)
 
   scanned-two : (g : Rule → Rule → Rule) → ((r q : Rule) → tabulate (g r q) t ≡ tabulate q (turned i (rule_index q) (tabulate r t))) → (x : Reading (Rule × Cursor))
@@ -175,31 +176,31 @@ module _ (f around i : ℕ) (somes : List ℕ) (t : RuleTable) where
   scanned-two g k (refuse q j) = refl
   scanned-two g k (got p) = two-on g k p (read somes p.1) refl
 
-  from-stepped : (k : RuleKind) (n : Term) (c : Cursor) → scanned t (rule_from read k n i somes c) ≡ stepped (follow k) i read somes c t
-  unfolding rule_from follow one_rule two_rules tabulate scanned
-  from-stepped TRUE n c = refl
-  from-stepped NOT n c = scanned-one (negation i) t t (λ r. refl) (read somes c)
-  from-stepped OR n c = scanned-two (either i) (λ r q. refl) (read somes c)
-  from-stepped VOID n c = refl
-  from-stepped AT n c = scanned-one (at i n) t t (λ r. refl) (read somes c)
-  from-stepped BESIDE n c = scanned-two (beside i) (λ r q. refl) (read somes c)
-  from-stepped SOME n c = scanned-one (some-name i) t t (λ r. refl) (read (i ∷ somes) c)
-  from-stepped SOMETIME n c = scanned-one (sometime i) t t (λ r. refl) (read somes c)
-  from-stepped SOMEWHERE n c = scanned-one (somewhere i) t t (λ r. refl) (read somes c)
-  from-stepped PLACED n c = scanned-one (Rule.placed i c.number n) t (entered i c.number t) (λ r. refl) (read somes (next_part c))
-  from-stepped OTHER n c = refl
+  from-stepped : (k : RuleKind) (m : ℕ) (n : Term) (c : Cursor) → operand_fits k m ≡ true → scanned t (rule_from read k n i somes c) ≡ stepped (Ok (follow k)) i read somes c t
+  unfolding rule_from follow one_rule two_rules tabulate scanned operand_fits
+  from-stepped TRUE m n c e = refl
+  from-stepped NOT m n c e = scanned-one (negation i) t t (λ r. refl) (read somes c)
+  from-stepped OR m n c e = scanned-two (either i) (λ r q. refl) (read somes c)
+  from-stepped VOID m n c e = refl
+  from-stepped AT m n c e = scanned-one (at i n) t t (λ r. refl) (read somes c)
+  from-stepped BESIDE m n c e = scanned-two (beside i) (λ r q. refl) (read somes c)
+  from-stepped SOME m n c e = scanned-one (some-name i) t t (λ r. refl) (read (i ∷ somes) c)
+  from-stepped SOMETIME m n c e = scanned-one (sometime i) t t (λ r. refl) (read somes c)
+  from-stepped SOMEWHERE m n c e = scanned-one (somewhere i) t t (λ r. refl) (read somes c)
+  from-stepped PLACED m n c e = scanned-one (Rule.placed i c.number n) t (entered i c.number t) (λ r. refl) (read somes (next_part c))
+  from-stepped OTHER m n c e = absurd (false≢true e)
 
-  questions : (x y z : Bool) (a : Asked) (c : Cursor) (w : Reading (Rule × Cursor)) → scanned t w ≡ stepped a i read somes c t
-      → scanned t (ask 8 i x >>= λ _. ask 9 i y >>= λ _. ask 10 i z >>= λ _. w) ≡ stepped (cond x (cond y (cond z a (No 10)) (No 9)) (No 8)) i read somes c t
+  questions : (x y z : Bool) (a : RuleShape) (c : Cursor) (w : Reading (Rule × Cursor)) → (x ≡ true → scanned t w ≡ stepped (Ok a) i read somes c t)
+      → scanned t (ask 8 i x >>= λ _. ask 9 i y >>= λ _. ask 10 i z >>= λ _. w) ≡ stepped (cond x (cond y (cond z (Ok a) (refusal_at 10 i)) (refusal_at 9 i)) (refusal_at 8 i)) i read somes c t
   unfolding ◌>>=◌ ask scanned
   questions false y z a c w h = refl
   questions true false z a c w h = refl
   questions true true false a c w h = refl
-  questions true true true a c w h = h
+  questions true true true a c w h = h refl
 
-  pub step : (n w : ℕ) (ws : List ℕ) → scanned t (read_rule (suc f) around somes (cursor i n (w ∷ ws))) ≡ stepped (asked around somes (rule_kind w) (operand w)) i read somes (cursor (suc i) n ws) t
+  pub step : (n w : ℕ) (ws : List ℕ) → scanned t (read_rule (suc f) around somes (cursor i n (w ∷ ws))) ≡ stepped (asked i around somes (rule_kind w) (operand w)) i read somes (cursor (suc i) n ws) t
   unfolding read_rule take_word asked levelled
   step n w ws =
       ap (scanned t) (bind-got (take_word 11 i n (w ∷ ws)) _ (w, cursor (suc i) n ws) refl)
       ∙ questions (operand_fits (rule_kind w) (operand w)) (bound somes (rule_kind w) (operand w)) (leb around 64 && leb (somes_with (rule_kind w) (length somes)) 8) (follow (rule_kind w)) (cursor (suc i) n ws) _
-      (from-stepped (rule_kind w) (term_of (operand w)) (cursor (suc i) n ws))
+      (from-stepped (rule_kind w) (operand w) (term_of (operand w)) (cursor (suc i) n ws))

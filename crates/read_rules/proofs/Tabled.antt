@@ -3,7 +3,7 @@
 use Prim.Native.Nat.{ℕ, suc, ◌+◌, ◌≤◌, ◌<◌}
 use mathlib.Core.Bool.{◌&&◌, and-eq-true_iff}
 use mathlib.Core.List.{List, [], ◌∷◌}
-use mathlib.Core.Path.{◌≡◌, refl, sym, ap, ◌∙◌, subst}
+use mathlib.Core.Path.{◌≡◌, refl, sym, ap, ◌∙◌}
 use native.Mathlib.Omega.{arith}
 use native.Mathlib.Numerals.{add-one}
 use lib.Dec.{leb}
@@ -11,14 +11,15 @@ use lib.ListN.{length, get_or, drop, length-set, length-drop, length-replicate}
 use lib.Seq.{get_or-set_same, get_or-set_other, get_or-drop}
 use borrow.Author.Tests.{leb-true}
 use Rattle.read_messages.specs.Words.{kind, operand}
-use Rattle.read_messages.specs.Reading.{Cursor, cursor, got, ask, next_part, is_empty}
+use Rattle.std.specs.Prelude.{Result, Ok, Err}
+use Rattle.read_messages.specs.declared.Refusal.{Refusal}
+use Rattle.read_messages.specs.Reading.{Cursor, cursor, Reading, refuse, got, ask, next_part, is_empty}
 use Rattle.read_messages.proofs.Readings.{bind_all, got-all, ask-inv, CursorAt, stands_on, Next, next-advances}
 use Rattle.read_rule_words.specs.Rule.{Rule, truth, negation, either, void, at, beside, some-name, sometime, somewhere, placed, rule_index}
 use Rattle.read_rule_words.specs.ReadRule.{term_of, read_rule, read_whole_rule}
-use Rattle.read_rules.specs.RuleTable.{vacant, turned, entered, tabulate, scanned}
+use Rattle.read_rules.specs.RuleTable.{vacant, turned, entered, tabulate, table_of}
 use Rattle.read_rules.specs.Ruled.{Worded, Said, Ruled, Tabled, Answers}
 use Rattle.read_rules.specs.declared.RuleTable.{RuleTable}
-use Rattle.read_rules.specs.declared.RuleScan.{RuleScan}
 use Rattle.read_rule_words.proofs.Cases.{Cases, Operand, rule-case}
 use Rattle.read_rules.proofs.Laws.{RuleRead, read-cases}
 
@@ -200,10 +201,35 @@ rule-tabled n ws =
     (λ v e₁₂. got-all (Holds n ws) q
     (whole-tabled ws (leb-true (length ws) 256 ((and-eq-true_iff (leb 1 (length ws)) (leb (length ws) 256)).0 (ask-inv 7 0 _ u e₇)).1) n q e (leb-true (n + q.1.number) 64 (ask-inv 12 0 _ v e₁₂)))))))
 
+-- an answer that is a refusal, and one that is a table
+no_table : (q i : ℕ) (t : RuleTable) {B : Type 0} → Ok t ≡ table_of (refuse q i) → B
+unfolding table_of
+no_table q i t e = cc
+
+refused : (x : Reading (Rule × Cursor)) (q : Refusal) → Err q ≡ table_of x → x ≡ refuse q.question q.place
+unfolding table_of
+refused (refuse q' i') q e = let r : q ≡ record { question = q'; place = i' } = cc in rw r
+refused (got p) q e = cc
+
 -- what the reader answers, and so what its table holds
-pub answers : (n : ℕ) (ws : List ℕ) (r : RuleScan) → r ≡ scanned vacant (read_whole_rule n ws) → Answers n ws r
-unfolding scanned
+pub answers : (n : ℕ) (ws : List ℕ) (r : Result RuleTable Refusal) → r ≡ table_of (read_whole_rule n ws) → Answers n ws r
+unfolding table_of
 answers n ws r e = record {
   answer = e;
-  table = λ p d. subst (λ (t : RuleTable). Tabled n ws t p) (sym (ap (λ (x : RuleScan). x.table) (e ∙ ap (scanned vacant) d))) (rule-tabled n ws p d);
+  table = λ p t d k.
+      let h : Ok t ≡ Ok (tabulate p.0 vacant) = sym k ∙ e ∙ ap table_of d in
+      let g : t ≡ tabulate p.0 vacant = cc in
+      rw g (rule-tabled n ws p d);
 }
+
+-- a table that is answered is that of a rule, which it holds with the words
+pub rule-accepted : (n : ℕ) (ws : List ℕ) (r : Result RuleTable Refusal) (t : RuleTable) → Answers n ws r → r ≡ Ok t → (p : Rule × Cursor) × (read_whole_rule n ws ≡ got p) × Tabled n ws t p
+rule-accepted n ws r t a k = told (read_whole_rule n ws) refl (sym k ∙ a.answer)
+  where
+    told : (x : Reading (Rule × Cursor)) → read_whole_rule n ws ≡ x → Ok t ≡ table_of (read_whole_rule n ws) → (p : Rule × Cursor) × (read_whole_rule n ws ≡ got p) × Tabled n ws t p
+    told (refuse q i) d e = no_table q i t (e ∙ ap table_of d)
+    told (got p) d e = (p, d, a.table p t d k)
+
+-- a refusal that is answered is the reading's
+pub rule-refuses : (n : ℕ) (ws : List ℕ) (r : Result RuleTable Refusal) (q : Refusal) → Answers n ws r → r ≡ Err q → read_whole_rule n ws ≡ refuse q.question q.place
+rule-refuses n ws r q a k = refused (read_whole_rule n ws) q (sym k ∙ a.answer)

@@ -119,7 +119,7 @@ pub fn read_whole_rule(rule: &[u32], parts: usize) -> Result<RuleTable, Refusal>
             place: a.next,
         });
     }
-    if MOST_PARTS < parts || MOST_PARTS < parts + a.table.count {
+    if MOST_PARTS < parts.saturating_add(a.table.count) {
         return Err(Refusal {
             question: 12,
             place: 0,
