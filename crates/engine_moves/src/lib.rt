@@ -69,11 +69,14 @@ fn receive_part<'a, 'b>(
     ensures table { (kinds_in numbers.new ≡ kinds_in numbers.old) × (starts_in numbers.new ≡ starts_in numbers.old) }
     ensures made { Receives script.now (kinds_in numbers.old) (starts_in numbers.old) (own_state sets.old numbers.old) (own_state sets.new numbers.new) p a t }
 {
-    let b = from_arrays(sets, numbers, sets[TOP]);
+    let top = sets[TOP];
+    let b = from_arrays(sets, numbers, top);
     let s = received(script, &b.kinds, &b.starts, b.state, p, a, t);
     let l = to_arrays(b.kinds, b.starts, s);
-    *sets = l.sets;
-    *numbers = l.numbers;
+    let new_sets = l.sets;
+    let new_numbers = l.numbers;
+    *sets = new_sets;
+    *numbers = new_numbers;
     settle(sets, numbers)
 }
 
@@ -152,7 +155,8 @@ pub fn make_if_possible<'a, 'b>(
     ensures table { (kinds_in numbers.new ≡ kinds_in numbers.old) × (starts_in numbers.new ≡ starts_in numbers.old) }
     ensures made { MakesOrLeaves script.now (kinds_in numbers.old) (starts_in numbers.old) (own_state sets.old numbers.old) (own_state sets.new numbers.new) result a t }
 {
-    let kids = bodies(sets, sets[TOP]);
+    let top = sets[TOP];
+    let kids = bodies(sets, top);
     let homes = locate(&kids, sets[NAMED]);
     let aimed = targets(&kids, numbers[ACTS + a], sets[AIMS + a], &homes, a);
     if base_sets::has(aimed, t) {

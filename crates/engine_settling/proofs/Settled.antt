@@ -1,8 +1,8 @@
 -- A state that is settled, and the first state of a script, represent the closures that the definitions make.
 -- Assumes nothing.
 use Prim.Native.Nat.{ℕ, ◌+◌, ◌≤◌, ◌<◌}
-use mathlib.Core.List.{List}
-use mathlib.Core.Path.{◌≡◌, refl, sym, ap, ◌∙◌, subst}
+use mathlib.Core.List.{List, []}
+use mathlib.Core.Path.{◌≡◌, refl, sym, ap, ◌∙◌, subst, transport}
 use native.Mathlib.Omega.{arith}
 use lib.Dec.{eqb}
 use lib.ListN.{get_or, set, length, replicate}
@@ -31,7 +31,7 @@ use Rattle.engine_states.proofs.Holding.{numbers-differ, frame}
 use Rattle.engine_states.proofs.Heads.{kind-ambient}
 use Rattle.engine_state_arrays.specs.Lent.{kinds_in, own_state}
 use Rattle.base_arrays.proofs.Copying.{get_or-stretch}
-use Rattle.engine_state_arrays.proofs.Standing.{below_64, body-in}
+use Rattle.engine_state_arrays.proofs.Standing.{below_64, body-in, looks-same}
 use Rattle.engine_settling.proofs.Settling.{settled-times}
 
 -- the state after its parts are settled from the top
@@ -108,3 +108,23 @@ ready-same script kinds starts s r eo el eb R = record {
       (subst (λ (l : PartNotes). ((i : ℕ) → get_or r.offsets i 0 < 4294967295) → Seen (bound_in script s) (heads script kinds starts r.offsets) l) el
       (subst (λ (o : List ℕ). ((i : ℕ) → get_or o i 0 < 4294967295) → Seen (bound_in script s) (heads script kinds starts o) s.notes) eo R.seen));
 }
+
+-- ---- the state s is lent as sets and numbers; settled, the sets are sets₁, and r is read from them
+
+module _ (script kinds starts : List ℕ) (s r : State) (sets sets₁ numbers : List ℕ) (ready : Ready script kinds starts s) (none : bound_in script s ≡ [])
+    (old : own_state sets numbers ≡ s) (new : r ≡ own_state sets₁ numbers) (same : (i : ℕ) → 65 ≤ i → get_or sets₁ i 0 ≡ get_or sets i 0) where
+  lent : Ready script kinds starts (own_state sets numbers)
+  lent = subst (Ready script kinds starts) (sym old) ready
+
+  pub first-ready : Ready script kinds starts r × (bound_in script r ≡ [])
+  first-ready = (
+    subst (Ready script kinds starts) (sym new) (ready-same script kinds starts (own_state sets numbers) (own_state sets₁ numbers) refl (sym (looks-same sets sets₁ numbers same)) refl lent),
+    ap (bindings_of script) (ap (λ (y : State). y.bindings) new ∙ ap (λ (y : State). y.bindings) old) ∙ none,
+  )
+
+  pub first-settled : (weight : ℕ) (b : Closure) → Represents script kinds starts weight 0 s b
+      → (Ready script kinds starts (own_state sets numbers) → Represents script kinds starts weight 0 (own_state sets numbers) b → Represents script kinds starts weight 0 (own_state sets₁ numbers) (settle_under (bound_in script (own_state sets numbers)) b))
+      → Represents script kinds starts weight 0 r (settle_under [] b)
+  first-settled weight b R settled =
+      transport (λ q. Represents script kinds starts weight 0 (sym new q) (settle_under ((ap (bound_in script) old ∙ none) q) b))
+      (settled lent (subst (λ (y : State). Represents script kinds starts weight 0 y b) (sym old) R))

@@ -71,8 +71,10 @@ pub fn settle<'a, 'b>(sets: &'b mut [u64; SETS], numbers: &'a [u32; NUMBERS])
     ensures same { (i : ℕ) → 65 ≤ i → get_or sets.new i 0 ≡ get_or sets.old i 0 }
     ensures settled { (script kinds starts : List ℕ) (weight spent : ℕ) (b : Closure) → kinds_in numbers.now ≡ kinds → Ready script kinds starts (own_state sets.old numbers.now) → spent < 4294967295 → Represents script kinds starts weight spent (own_state sets.old numbers.now) b → Represents script kinds starts weight spent (own_state sets.new numbers.now) (settle_under (bound_in script (own_state sets.old numbers.now)) b) }
 {
-    let top = settle_below(sets, numbers, sets[BUSY], sets[TOP], 64);
-    sets[TOP] = top;
+    let top = sets[TOP];
+    let busy = sets[BUSY];
+    let s = settle_below(sets, numbers, busy, top, 64);
+    sets[TOP] = s;
 }
 
 // The first item of an action that is not spent, under the bindings that are lent.
@@ -107,10 +109,11 @@ pub fn spend<'a, 'b>(
         names: stretch(numbers, NAMES),
     };
     let d = item_deed(item, &names);
+    let busy = sets[BUSY];
     numbers[OFFSETS + a] = offset + 1;
     numbers[ACTS + a] = d.act as u32;
     sets[AIMS + a] = d.aim;
-    sets[BUSY] = base_sets::with_if(base_sets::without(sets[BUSY], a), a, d.busy);
+    sets[BUSY] = base_sets::with_if(base_sets::without(busy, a), a, d.busy);
 }
 
 // The state before it is settled: the receipt a and the output t are gone from the body of p, the receipt's body stands

@@ -1,2 +1,3 @@
 -- Laws of the two arrays that hold a state. Assumes nothing.
+pub mod Rows
 pub mod Standing

@@ -24,6 +24,7 @@ use Rattle.engine_state_arrays.specs.Lent.{kinds_in, starts_in, bindings_at, sta
 use Rattle.engine_states.specs.declared.State.{State}
 use Rattle.engine_states.specs.declared.Deed.{Deed}
 use Rattle.base_arrays.proofs.Copying.{length-stretch, get_or-stretch, stretch-same, stretch-set}
+use Rattle.engine_state_arrays.proofs.Rows.{rows-same}
 use Rattle.engine_states.proofs.Deeds.{kept_set, kept-other, seen-spent, lower, raised-low}
 
 -- ---- the bodies
@@ -87,9 +88,6 @@ module _ (sets numbers : List ℕ) (a o act aim busy : ℕ) (low : a < 64) (long
   early : (i n : ℕ) → i + n ≤ 128 → stretch i n numbers₂ ≡ stretch i n numbers
   early i n h = stretch-same i n numbers₂ numbers (λ j l m. number-kept j (λ e. let z : ⊥ = omega arith in z) (λ e. let z : ⊥ = omega arith in z))
 
-  late : (i n : ℕ) → 320 ≤ i → stretch i n numbers₂ ≡ stretch i n numbers
-  late i n h = stretch-same i n numbers₂ numbers (λ j l m. number-kept j (λ e. let z : ⊥ = omega arith in z) (λ e. let z : ⊥ = omega arith in z))
-
   pub kinds_kept : kinds_in numbers₂ ≡ kinds_in numbers
   kinds_kept = early 0 64 (omega arith)
 
@@ -98,13 +96,9 @@ module _ (sets numbers : List ℕ) (a o act aim busy : ℕ) (low : a < 64) (long
 
   pub spent-bindings : bindings_at numbers₂ ≡ bindings_at numbers
   spent-bindings =
-      let ev = late 320 32 (omega arith) in
-      let ep = late 352 32 (omega arith) in
-      let ec = late 384 32 (omega arith) in
-      let es = late 416 32 (omega arith) in
-      let eb = late 448 32 (omega arith) in
-      let ef = number-kept 480 (λ e. let z : ⊥ = omega arith in z) (λ e. let z : ⊥ = omega arith in z) in
-      λ q. record { variables = ev q; sources = ep q; counts = ec q; sizes = es q; bulks = eb q; first = ef q }
+      let rows = rows-same 320 32 numbers₂ numbers (λ j l m. number-kept j (λ e. let z : ⊥ = omega arith in z) (λ e. let z : ⊥ = omega arith in z)) in
+      let first = number-kept 480 (λ e. let z : ⊥ = omega arith in z) (λ e. let z : ⊥ = omega arith in z) in
+      λ q. record { rows = rows q; first = first q }
 
   pub spent-offsets : stretch 128 64 numbers₂ ≡ set (stretch 128 64 numbers) a o
   spent-offsets =

@@ -22,30 +22,25 @@ fn locate_below<'a, 'b>(
     ensures kept { length found.new ≡ 64 }
     ensures located { LocatesBy (members named) (body_in kids.now) (members left) at fuel (λ i. get_or found.old i 0) (λ i. get_or found.new i 0) }
 {
-    if left == 0 {
-        return;
-    }
-    if fuel == 0 {
+    if left == 0 || fuel == 0 {
         return;
     }
     let i = base_sets::first(left);
     let others = base_sets::rest(left);
     found[i] = at;
     if base_sets::has(named, i) {
-        let inside = kids[i];
-        locate_below(found, kids, named, inside, i, fuel - 1);
+        locate_below(found, kids, named, kids[i], i, fuel - 1);
     }
     locate_below(found, kids, named, others, at, fuel - 1)
 }
 
 // For every part the part in whose body it stands, put into an array that has 65 for each: 64 for the top, 65 where there is
-// none, or an ambient around it has no name.
+// none, or an ambient around it has no name. These are numbers and no Option: Located says so of them.
 pub fn put_homes<'a, 'b>(homes: &'b mut [usize; 64], kids: &'a [u64; 65], named: u64)
     requires { homes.old ≡ replicate 64 65 }
     ensures { Located (members named) (body_in kids.now) (λ i. get_or homes.new i 0) }
 {
-    let top = kids[64];
-    locate_below(homes, kids, named, top, 64, 64);
+    locate_below(homes, kids, named, kids[64], 64, 64);
 }
 
 // The same as an array of its own.
@@ -64,8 +59,7 @@ fn aimed_within(kids: &[u64; 65], aim: u64, p: usize) -> u64
     if p >= 65 {
         return 0;
     }
-    let inside = kids[p];
-    base_sets::intersection(aim, inside)
+    base_sets::intersection(aim, kids[p])
 }
 
 // Those of aim in the body in which the part p stands, but for p.
@@ -75,8 +69,7 @@ fn aimed_beside<'a>(kids: &'a [u64; 65], aim: u64, homes: &'a [usize; 64], p: us
     if p >= 64 {
         return 0;
     }
-    let q = homes[p];
-    base_sets::without(aimed_within(kids, aim, q), p)
+    base_sets::without(aimed_within(kids, aim, homes[p]), p)
 }
 
 // The part in whose body the part p stands, if it is in aim.
@@ -93,7 +86,7 @@ fn aimed_around(aim: u64, homes: &[usize; 64], p: usize) -> u64
     base_sets::intersection(aim, base_sets::single(q))
 }
 
-// The targets of the actor a's moves, by what it does first and where it stands.
+// The targets of the actor a's moves, by where it stands and its act, as it is lent: 1 OPEN, 2 IN, 3 EXIT, 4 it receives.
 pub fn targets<'a>(kids: &'a [u64; 65], act: u32, aim: u64, homes: &'a [usize; 64], a: usize) -> u64
     requires { a < 64 }
     ensures { TargetsOf (body_in kids.now) act (members aim) (λ i. get_or homes.now i 0) a (members result) }

@@ -10,12 +10,10 @@ spend-requires c = let x = c.args in
     let n = x.numbers.now in
     (c.requires.3, lends-set x.script.now (set s x.from c.without.result) n x.into c.with.result c.requires.2 (lends-set x.script.now s n x.from c.without.result c.requires.1 c.requires.4))
 
-pub returns-clause-lends : goal.returns-clause-lends
-returns-clause-lends c = lends-bodies c.args.script.now c.spend.new.sets c.settle.new.sets c.spend.new.numbers c.spend.ensures.lends c.settle.ensures.kept c.settle.ensures.same
-
-pub returns-clause-entered : goal.returns-clause-entered
-returns-clause-entered c =
+pub returns : goal.returns
+returns c =
     let x = c.args in
+    let L = c.requires.4 in
     let y = c.spend.ensures in
     let z = c.settle.ensures in
     let s = x.sets.now in
@@ -23,20 +21,11 @@ returns-clause-entered c =
     let s₁ = set (set s x.from c.without.result) x.into c.with.result in
     let s₂ = c.spend.new.sets in
     let n₂ = c.spend.new.numbers in
-    let s₃ = c.settle.new.sets in
-    entered x.script.now s n s₁ s₂ n₂ s₃ c.requires.4 y.lends y.table.0 y.table.1 y.same.0 y.same.1 z.settled x.a c.requires.3 y.raised
-    x.p x.from x.into c.without.result c.with.result c.requires.1 c.requires.2 refl c.without.ensures c.with.ensures
-
-pub returns-clause-left : goal.returns-clause-left
-returns-clause-left c =
-    let x = c.args in
-    let y = c.spend.ensures in
-    let z = c.settle.ensures in
-    let s = x.sets.now in
-    let n = x.numbers.now in
-    let s₁ = set (set s x.from c.without.result) x.into c.with.result in
-    let s₂ = c.spend.new.sets in
-    let n₂ = c.spend.new.numbers in
-    let s₃ = c.settle.new.sets in
-    left x.script.now s n s₁ s₂ n₂ s₃ c.requires.4 y.lends y.table.0 y.table.1 y.same.0 y.same.1 z.settled x.a c.requires.3 y.raised
-    x.p x.from x.into c.without.result c.with.result c.requires.1 c.requires.2 refl c.without.ensures c.with.ensures
+    let s₃ = c.settle.new.sets in record {
+      lends = lends-bodies x.script.now s₂ s₃ n₂ y.lends z.kept z.same;
+      table = y.table;
+      entered = entered x.script.now s n s₁ s₂ n₂ s₃ L y.lends y.table.0 y.table.1 y.same.0 y.same.1 z.settled x.a c.requires.3 y.raised
+          x.p x.from x.into c.without.result c.with.result c.requires.1 c.requires.2 refl c.without.ensures c.with.ensures;
+      left = left x.script.now s n s₁ s₂ n₂ s₃ L y.lends y.table.0 y.table.1 y.same.0 y.same.1 z.settled x.a c.requires.3 y.raised
+          x.p x.from x.into c.without.result c.with.result c.requires.1 c.requires.2 refl c.without.ensures c.with.ensures;
+    }

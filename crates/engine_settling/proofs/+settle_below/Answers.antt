@@ -59,23 +59,23 @@ offset_bounds-numbers-i t c = omega (arith, low c.args.left c.args.busy c.inters
 pub bounds-numbers-i : goal.bounds-numbers-i
 bounds-numbers-i t c = omega (arith, low c.args.left c.args.busy c.intersection.result c.first-i.result c.intersection.type_inv c.intersection.ensures c.if-intersection-eq0.false c.ranges.left.fits c.first-i.ensures)
 
-pub bounds-sets-i-then-kind-eq1 : goal.bounds-sets-i-then-kind-eq1
-bounds-sets-i-then-kind-eq1 t c = omega (arith, low c.args.left c.args.busy c.intersection.result c.first-i.result c.intersection.type_inv c.intersection.ensures c.if-intersection-eq0.false c.ranges.left.fits c.first-i.ensures)
+pub bounds-sets-i-then-numbers-i : goal.bounds-sets-i-then-numbers-i
+bounds-sets-i-then-numbers-i t c = omega (arith, low c.args.left c.args.busy c.intersection.result c.first-i.result c.intersection.type_inv c.intersection.ensures c.if-intersection-eq0.false c.ranges.left.fits c.first-i.ensures)
 
 pub with-requires : goal.with-requires
 with-requires t c = low c.args.left c.args.busy c.intersection.result c.first-i.result c.intersection.type_inv c.intersection.ensures c.if-intersection-eq0.false c.ranges.left.fits c.first-i.ensures
 
-pub returns-then-kind-eq1-clause-others : goal.returns-then-kind-eq1-clause-others
-returns-then-kind-eq1-clause-others t c j l =
+pub returns-then-numbers-i-clause-others : goal.returns-then-numbers-i-clause-others
+returns-then-numbers-i-clause-others t c j l =
     let m = (low c.args.left c.args.busy c.intersection.result c.first-i.result c.intersection.type_inv c.intersection.ensures c.if-intersection-eq0.false c.ranges.left.fits c.first-i.ensures) in
     get_or-set_other c.settle_below-s.new.sets c.first-i.result j c.settle_below-s.result 0 (λ e. let z : ⊥ = omega arith in z) ∙ c.settle_below-s.ensures.others j l ∙ c.settle_below-rest.ensures.others j l
 
-pub returns-then-kind-eq1-clause-settled : goal.returns-then-kind-eq1-clause-settled
-returns-then-kind-eq1-clause-settled t c σ w busy ambients =
+pub returns-then-numbers-i-clause-settled : goal.returns-then-numbers-i-clause-settled
+returns-then-numbers-i-clause-settled t c σ w busy ambients =
     let y = c.settle_below-s in
     let i = c.first-i.result in
     let m = (low c.args.left c.args.busy c.intersection.result c.first-i.result c.intersection.type_inv c.intersection.ensures c.if-intersection-eq0.false c.ranges.left.fits c.first-i.ensures) in
-    let a : is_ambient (w i) ≡ true = sym (ambients i m) ∙ eq-eqb _ 1 c.if-kind-eq1.true in
+    let a : is_ambient (w i) ≡ true = sym (ambients i m) ∙ eq-eqb _ 1 c.if-numbers-i.true in
     settle-enters σ (body_in c.args.sets.now) (body_in c.settle_below-rest.new.sets) w (members c.args.left) (members c.settle_below-rest.result) c.args.fuel i (tail (members c.args.left)) (members c.with.result)
     (begins c.args.left c.args.busy c.intersection.result c.first-i.result c.intersection.type_inv c.intersection.ensures c.if-intersection-eq0.false c.ranges.left.fits c.first-i.ensures)
     (beside c.args.sets.now c.settle_below-rest.new.sets c.rest-others.result (tail (members c.args.left)) c.settle_below-rest.result c.args.fuel σ w c.rest-others.ensures (c.settle_below-rest.ensures.settled σ w busy ambients))
@@ -88,7 +88,7 @@ returns-then-has-clause-settled t c σ w busy ambients =
     let i = c.first-i.result in
     let m = (low c.args.left c.args.busy c.intersection.result c.first-i.result c.intersection.type_inv c.intersection.ensures c.if-intersection-eq0.false c.ranges.left.fits c.first-i.ensures) in
     let b : busy_under σ (w i) ≡ true = sym (busy i m) ∙ sym c.has.ensures ∙ c.if-has.true in
-    let n : is_ambient (w i) ≡ false = sym (ambients i m) ∙ ne_eqb _ 1 c.if-kind-eq1.false in
+    let n : is_ambient (w i) ≡ false = sym (ambients i m) ∙ ne_eqb _ 1 c.if-numbers-i.false in
     settle-melts σ (body_in c.args.sets.now) (body_in c.settle_below-rest.new.sets) w (members c.args.left) (members c.settle_below-rest.result) c.args.fuel i (tail (members c.args.left)) (members c.union.result)
     (begins c.args.left c.args.busy c.intersection.result c.first-i.result c.intersection.type_inv c.intersection.ensures c.if-intersection-eq0.false c.ranges.left.fits c.first-i.ensures)
     (beside c.args.sets.now c.settle_below-rest.new.sets c.rest-others.result (tail (members c.args.left)) c.settle_below-rest.result c.args.fuel σ w c.rest-others.ensures (c.settle_below-rest.ensures.settled σ w busy ambients))

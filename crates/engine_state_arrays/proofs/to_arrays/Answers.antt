@@ -29,6 +29,6 @@ returns c =
         kids = ek q;
         offsets = (w.others 128 64 (omega arith) ∙ p.tables.2) q;
         notes = record { named = s.2 q; names = (w.others 192 64 (omega arith) ∙ p.tables.3) q; acts = (w.others 256 64 (omega arith) ∙ p.tables.4) q; aims = s.1 q; busy = s.3 q };
-        bindings = record { variables = w.arrays.0 q; sources = w.arrays.1 q; counts = w.arrays.2 q; sizes = w.arrays.3 q; bulks = w.arrays.4 q; first = w.arrays.5 q };
+        bindings = w.rows q;
       };
     }

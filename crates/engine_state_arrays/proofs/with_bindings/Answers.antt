@@ -1,46 +1,35 @@
--- `with_bindings` meets its contract: what is put at a higher index leaves what stands below. Assumes nothing.
-use mathlib.Core.Path.{◌≡◌, ◌∙◌}
+-- `with_bindings` meets its contract: all rows are written, and the first binding behind them. Assumes nothing.
+use mathlib.Core.Path.{refl, ◌∙◌}
 use native.Mathlib.Omega.{arith}
-use lib.ListN.{length}
-use lib.Seq.{get_or-set_same}
-use Rattle.base_arrays.proofs.Copying.{put-here, put-before, set_before}
+use lib.ListN.{set}
+use lib.Seq.{get_or-set_same, get_or-set_other}
 use borrow.Author.Rules.{rules}
+use Rattle.base_arrays.proofs.Copying.{stretch-same, set_before}
+use Rattle.engine_state_arrays.proofs.Rows.{rows-same, written_next, written_all}
 use Rattle.engine_state_arrays.proofs.with_bindings.Goals as goal
 
-pub returns : goal.returns
-returns c =
-    let a : length c.args.bindings.variables ≡ 32 = search rules in
-    let b : length c.args.bindings.sources ≡ 32 = search rules in
-    let d : length c.args.bindings.counts ≡ 32 = search rules in
-    let e : length c.args.bindings.sizes ≡ 32 = search rules in
-    let f : length c.args.bindings.bulks ≡ 32 = search rules in record {
-      arrays = (
-        set_before 320 32 480 c.args.bindings.first c.put_numbers-5.new.to (omega arith)
-            ∙ put-before 448 c.args.bindings.bulks c.put_numbers-4.new.to c.put_numbers-5.new.to c.put_numbers-5.ensures.put 320 32 (omega arith)
-            ∙ put-before 416 c.args.bindings.sizes c.put_numbers-3.new.to c.put_numbers-4.new.to c.put_numbers-4.ensures.put 320 32 (omega arith)
-            ∙ put-before 384 c.args.bindings.counts c.put_numbers-2.new.to c.put_numbers-3.new.to c.put_numbers-3.ensures.put 320 32 (omega arith)
-            ∙ put-before 352 c.args.bindings.sources c.put_numbers.new.to c.put_numbers-2.new.to c.put_numbers-2.ensures.put 320 32 (omega arith)
-            ∙ put-here 320 c.args.bindings.variables c.args.numbers c.put_numbers.new.to c.put_numbers.ensures.put 32 a,
-        set_before 352 32 480 c.args.bindings.first c.put_numbers-5.new.to (omega arith)
-            ∙ put-before 448 c.args.bindings.bulks c.put_numbers-4.new.to c.put_numbers-5.new.to c.put_numbers-5.ensures.put 352 32 (omega arith)
-            ∙ put-before 416 c.args.bindings.sizes c.put_numbers-3.new.to c.put_numbers-4.new.to c.put_numbers-4.ensures.put 352 32 (omega arith)
-            ∙ put-before 384 c.args.bindings.counts c.put_numbers-2.new.to c.put_numbers-3.new.to c.put_numbers-3.ensures.put 352 32 (omega arith)
-            ∙ put-here 352 c.args.bindings.sources c.put_numbers.new.to c.put_numbers-2.new.to c.put_numbers-2.ensures.put 32 b,
-        set_before 384 32 480 c.args.bindings.first c.put_numbers-5.new.to (omega arith)
-            ∙ put-before 448 c.args.bindings.bulks c.put_numbers-4.new.to c.put_numbers-5.new.to c.put_numbers-5.ensures.put 384 32 (omega arith)
-            ∙ put-before 416 c.args.bindings.sizes c.put_numbers-3.new.to c.put_numbers-4.new.to c.put_numbers-4.ensures.put 384 32 (omega arith)
-            ∙ put-here 384 c.args.bindings.counts c.put_numbers-2.new.to c.put_numbers-3.new.to c.put_numbers-3.ensures.put 32 d,
-        set_before 416 32 480 c.args.bindings.first c.put_numbers-5.new.to (omega arith)
-            ∙ put-before 448 c.args.bindings.bulks c.put_numbers-4.new.to c.put_numbers-5.new.to c.put_numbers-5.ensures.put 416 32 (omega arith)
-            ∙ put-here 416 c.args.bindings.sizes c.put_numbers-3.new.to c.put_numbers-4.new.to c.put_numbers-4.ensures.put 32 e,
-        set_before 448 32 480 c.args.bindings.first c.put_numbers-5.new.to (omega arith)
-            ∙ put-here 448 c.args.bindings.bulks c.put_numbers-4.new.to c.put_numbers-5.new.to c.put_numbers-5.ensures.put 32 f,
-        get_or-set_same c.put_numbers-5.new.to 480 c.args.bindings.first 0 (omega (arith, c.put_numbers-5.ensures.kept)),
-      );
-      others = λ i n l. set_before i n 480 c.args.bindings.first c.put_numbers-5.new.to (omega arith)
-          ∙ put-before 448 c.args.bindings.bulks c.put_numbers-4.new.to c.put_numbers-5.new.to c.put_numbers-5.ensures.put i n (omega arith)
-          ∙ put-before 416 c.args.bindings.sizes c.put_numbers-3.new.to c.put_numbers-4.new.to c.put_numbers-4.ensures.put i n (omega arith)
-          ∙ put-before 384 c.args.bindings.counts c.put_numbers-2.new.to c.put_numbers-3.new.to c.put_numbers-3.ensures.put i n (omega arith)
-          ∙ put-before 352 c.args.bindings.sources c.put_numbers.new.to c.put_numbers-2.new.to c.put_numbers-2.ensures.put i n (omega arith)
-          ∙ put-before 320 c.args.bindings.variables c.args.numbers c.put_numbers.new.to c.put_numbers.ensures.put i n (omega arith);
-    }
+pub put-requires : goal.put-requires
+put-requires c = (omega arith, record { long = c.loop-i.invariant.long; room = omega (arith, c.loop-i-test.true) })
+
+pub loop-i-init : goal.loop-i-init
+loop-i-init c = record { long = search rules; written = λ j m. absurd (let z : ⊥ = omega arith in z); others = λ j m. refl }
+
+pub loop-i-preserved : goal.loop-i-preserved
+loop-i-preserved c = let I = c.loop-i.invariant in record {
+  long = c.put.array_long;
+  written = written_next c.args.bindings.rows c.loop-i.i _ c.loop-i.r c.put.new.to I.written refl c.put.ensures.put;
+  others = λ j m. c.put.ensures.put.below 0 j (omega arith) ∙ I.others j m;
+}
+
+pub returns-clause-rows : goal.returns-clause-rows
+returns-clause-rows c =
+    let r = c.loop-i.r in
+    let first = c.args.bindings.first in
+    let rows = rows-same 320 32 (set r 480 first) r (λ j l m. get_or-set_other r 480 j first 0 (λ e. let z : ⊥ = omega arith in z))
+    ∙ written_all c.args.bindings.rows r (search rules) (λ j m. c.loop-i.invariant.written j (omega (arith, c.loop-i-test.false))) in
+    let at = get_or-set_same r 480 first 0 (omega (arith, c.loop-i.invariant.long)) in
+    λ q. record { rows = rows q; first = at q }
+
+pub returns-clause-others : goal.returns-clause-others
+returns-clause-others c i n m =
+    set_before i n 480 c.args.bindings.first c.loop-i.r (omega arith) ∙ stretch-same i n c.loop-i.r c.args.numbers (λ j l u. c.loop-i.invariant.others j (omega arith))

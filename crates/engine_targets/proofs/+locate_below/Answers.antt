@@ -14,7 +14,7 @@ use Rattle.engine_states.specs.Searches.{Locates}
 use Rattle.engine_states.specs.Seen.{Names}
 use Rattle.engine_targets.proofs.Locating.{Enters, enters-named, enters-nameless, locates-none, locates-no-fuel, locates-first, set-home}
 use Rattle.engine_targets.proofs.+locate_below.Goals as goal
-use Rattle.engine_targets.proofs.+locate_below.Goals.{then-has, else-has}
+use Rattle.engine_targets.proofs.+locate_below.Goals.{then-left-eq0-via-then-left-eq0, then-left-eq0-via-else-left-eq0+then-fuel-eq0, then-has, else-has}
 
 abbrev placed : List ℕ → ℕ → ℕ
 placed l x = get_or l x 0
@@ -28,10 +28,12 @@ tested : (named i : ℕ) → i < 64 → (b : Bool) → b ≡ elem i (members nam
 tested named i m b e σ w names = sym (names i m) ∙ sym e
 
 pub returns-then-left-eq0-clause-located : goal.returns-then-left-eq0-clause-located
-returns-then-left-eq0-clause-located t c σ w names = locates-none σ (body_in c.args.kids.now) w (members c.args.left) c.args.at c.args.fuel (placed c.args.found.now) (ap members c.if-left-eq0.true ∙ members-empty)
-
-pub returns-then-fuel-eq0-clause-located : goal.returns-then-fuel-eq0-clause-located
-returns-then-fuel-eq0-clause-located t c σ w names = locates-no-fuel σ (body_in c.args.kids.now) w (members c.args.left) c.args.at c.args.fuel (placed c.args.found.now) c.if-fuel-eq0.true
+returns-then-left-eq0-clause-located t c σ w names =
+    let x = c.args in
+    elim c.then-left-eq0.branch [
+      | then-left-eq0-via-then-left-eq0 u ↦ locates-none σ (body_in x.kids.now) w (members x.left) x.at x.fuel (placed x.found.now) (ap members u.if-left-eq0.true ∙ members-empty)
+      | then-left-eq0-via-else-left-eq0+then-fuel-eq0 u ↦ locates-no-fuel σ (body_in x.kids.now) w (members x.left) x.at x.fuel (placed x.found.now) u.if-fuel-eq0.true
+    ]
 
 pub rest-others-requires : goal.rest-others-requires
 rest-others-requires t c = not_none c.args.left c.ranges.left.fits c.if-left-eq0.false

@@ -1,0 +1,93 @@
+-- The rows of the bindings in the numbers: read, written, and where numbers elsewhere change. Assumes nothing.
+use Prim.Native.Nat.{ℕ, zero, suc, ◌+◌, ◌*◌, ◌-◌, ◌≤◌, ◌<◌}
+use mathlib.Core.List.{List, [], ◌∷◌}
+use mathlib.Core.Path.{◌≡◌, refl, sym, ap, ap₂, ◌∙◌, subst}
+use native.Mathlib.Omega.{arith}
+use lib.Dec.{eqb}
+use lib.ListN.{get_or, set, length, drop, length-drop}
+use lib.Seq.{ext_get_or, get_or-drop, get_or-set_same, get_or-set_other}
+use borrow.Author.Tests.{eqb-true, eqb-false}
+use Rattle.base_slices.proofs.Tests.{by_test}
+use Rattle.base_arrays.specs.Stretches.{Put}
+use Rattle.engine_message_words.specs.Words.{binding_at}
+use Rattle.engine_message_words.specs.declared.Binding.{Binding}
+use Rattle.engine_state_arrays.specs.Lent.{row_at, rows_at}
+
+-- the binding that stands where there is none
+abbrev free : Binding
+free = record { variable = 0; source = 0; count = 0; size = 0; bulk = 0 }
+
+pub length-rows : (at n : ℕ) (l : List ℕ) → length (rows_at at n l) ≡ n
+unfolding rows_at
+length-rows at zero l = refl
+length-rows at (suc n) l = ap suc (length-rows (at + 5) n l)
+
+pub binding_at-rows : (at n j : ℕ) (l : List ℕ) → j < n → binding_at (rows_at at n l) j ≡ row_at (at + 5 * j) l
+unfolding rows_at
+binding_at-rows at zero j l m = absurd (let z : ⊥ = omega arith in z)
+binding_at-rows at (suc n) zero l m = let e : at ≡ at + 5 * 0 = omega arith in ap (λ (x : ℕ). row_at x l) e
+binding_at-rows at (suc n) (suc j) l m =
+    let e : at + 5 + 5 * j ≡ at + 5 * suc j = omega arith in
+    binding_at-rows (at + 5) n j l (omega arith) ∙ ap (λ (x : ℕ). row_at x l) e
+
+-- rows of numbers that agree there
+row-same : (at : ℕ) (l k : List ℕ) → ((j : ℕ) → at ≤ j → j < at + 5 → get_or l j 0 ≡ get_or k j 0) → row_at at l ≡ row_at at k
+row-same at l k same =
+    let a = same at (omega arith) (omega arith) in
+    let b = same (at + 1) (omega arith) (omega arith) in
+    let c = same (at + 2) (omega arith) (omega arith) in
+    let d = same (at + 3) (omega arith) (omega arith) in
+    let e = same (at + 4) (omega arith) (omega arith) in
+    λ q. record { variable = a q; source = b q; count = c q; size = d q; bulk = e q }
+
+pub rows-same : (at n : ℕ) (l k : List ℕ) → ((j : ℕ) → at ≤ j → j < at + 5 * n → get_or l j 0 ≡ get_or k j 0) → rows_at at n l ≡ rows_at at n k
+unfolding rows_at
+rows-same at zero l k same = refl
+rows-same at (suc n) l k same = ap₂ (λ (b : Binding) (bs : List Binding). b ∷ bs) (row-same at l k (λ j a b. same j a (omega arith))) (rows-same (at + 5) n l k (λ j a b. same j (omega arith) (omega arith)))
+
+-- ---- written
+
+-- those below i stand where they belong
+abbrev pub Written : (rows : List Binding) (i : ℕ) (numbers : List ℕ) → Type 0
+Written rows i numbers = (j : ℕ) → j < i → row_at (320 + 5 * j) numbers ≡ binding_at rows j
+
+module _ (rows : List Binding) where
+  pub written_next : (i : ℕ) (b : Binding) (before after : List ℕ) → Written rows i before → b ≡ binding_at rows i
+      → Put (320 + 5 * i) (b.variable ∷ (b.source ∷ (b.count ∷ (b.size ∷ (b.bulk ∷ []))))) before after → Written rows (i + 1) after
+  written_next i b before after W e P j m = by_test (eqb j i)
+      (λ t. rw (eqb-true j i t) (here ∙ e))
+      (λ t. row-same (320 + 5 * j) after before (λ x l u. P.below 0 x (omega (arith, eqb-false j i t))) ∙ W j (omega (arith, eqb-false j i t)))
+    where
+      here : row_at (320 + 5 * i) after ≡ b
+      here =
+          let at = 320 + 5 * i in
+          let start : at ≡ at + 0 = omega arith in
+          let v = ap (λ (x : ℕ). get_or after x 0) start ∙ P.here 0 0 (omega arith) in
+          let s = P.here 0 1 (omega arith) in
+          let c = P.here 0 2 (omega arith) in
+          let z = P.here 0 3 (omega arith) in
+          let k = P.here 0 4 (omega arith) in
+          λ q. record { variable = v q; source = s q; count = c q; size = z q; bulk = k q }
+
+  pub written_all : (numbers : List ℕ) → length rows ≡ 32 → Written rows 32 numbers → rows_at 320 32 numbers ≡ rows
+  written_all numbers long W = ext_get_or free (rows_at 320 32 numbers) rows (length-rows 320 32 numbers ∙ sym long)
+      (λ j m. let l : j < 32 = subst (λ (x : ℕ). j < x) (length-rows 320 32 numbers) m in binding_at-rows 320 32 j numbers l ∙ W j l)
+
+-- ---- read
+
+-- the rows from `from` on and below i are read
+abbrev pub Read : (numbers : List ℕ) (from i : ℕ) (rows : List Binding) → Type 0
+Read numbers from i rows = (j : ℕ) → from ≤ j → j < i → binding_at rows j ≡ row_at (320 + 5 * j) numbers
+
+module _ (numbers : List ℕ) (from : ℕ) where
+  pub read_next : (i : ℕ) (rows : List Binding) (b : Binding) → i < length rows → Read numbers from i rows → b ≡ row_at (320 + 5 * i) numbers → Read numbers from (i + 1) (set rows i b)
+  read_next i rows b within R e j l m = by_test (eqb j i)
+      (λ t. rw (eqb-true j i t) (get_or-set_same rows i b free within ∙ e))
+      (λ t. get_or-set_other rows i j b free (eqb-false j i t) ∙ R j l (omega (arith, eqb-false j i t)))
+
+  pub read_all : (rows : List Binding) → length rows ≡ 32 → Read numbers from 32 rows → drop from rows ≡ drop from (rows_at 320 32 numbers)
+  read_all rows long R = ext_get_or free (drop from rows) (drop from (rows_at 320 32 numbers))
+      (length-drop from rows ∙ ap (λ (n : ℕ). n - from) (long ∙ sym (length-rows 320 32 numbers)) ∙ sym (length-drop from (rows_at 320 32 numbers)))
+      (λ j m.
+      let l : from + j < 32 = omega (arith, m, length-drop from rows, long) in
+      get_or-drop from rows j free ∙ R (from + j) (omega arith) l ∙ sym (binding_at-rows 320 32 (from + j) numbers l) ∙ sym (get_or-drop from (rows_at 320 32 numbers) j free))
