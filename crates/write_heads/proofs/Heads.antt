@@ -16,22 +16,7 @@ use Rattle.theory_closures.specs.Closure.{ClosureHead, Bindings, items_left, unf
 use Rattle.engine_states.specs.Represents.{head_of}
 use Rattle.engine_states.proofs.Heads.{by_kind, head-action, head-receipt}
 use Rattle.theory_written_trees.specs.Write.{Indices, write_message, one_message, write_head, within}
-use Rattle.write_messages.specs.Indices.{indices_in, Indexed}
-use Rattle.write_heads.specs.Around.{indices_of, Right}
-use Rattle.write_heads.specs.declared.Around.{Around}
 use Rattle.write_heads.specs.Heads.{write_label, Scripted}
-
--- ---- a part of the tree
-
-module _ (starts offsets : List ℕ) (i : ℕ) (ok : Scripted starts offsets) where
-  pub part_placed : get_or starts i 0 < 65536
-  part_placed = ok.placed i
-
-  pub part-spent : get_or offsets i 0 < 4294967295
-  part-spent = omega (arith, ok.spent i)
-
-  pub part_small : (index : ℕ) (xs : List ℕ) → index + length xs ≤ 268435456 → get_or offsets i 0 + length xs < 4294967295
-  part_small index xs h = omega (arith, ok.spent i)
 
 -- ---- a part, by its head
 
@@ -50,50 +35,36 @@ head-length ix σ h = sym (ap length (head-words ix σ h))
 
 -- ---- a part, by its kind
 
-module _ (script : List ℕ) (kind start offset : ℕ) where
-  pub head-output : (kind ≡ 1 → ⊥) → (kind ≡ 2 → ⊥) → (kind ≡ 3 → ⊥) → head_of script kind start offset ≡ output (message_at (drop start script))
-  head-output a b c = by_kind script kind start offset (λ h. h ≡ output (message_at (drop start script))) (λ e. absurd (a e)) (λ e. absurd (b e)) (λ e. absurd (c e)) (λ x y z. refl)
+module _ (script : List ℕ) (kind start offset : ℕ) (ix : Indices) (σ : Bindings) where
+  -- what it is written with in front of its body, and its message, which stands at the index n
+  abbrev front : List ℕ
+  front = write_head ix (unfold_head σ (head_of script kind start offset))
 
-  module _ (ix : Indices) (σ : Bindings) where
-    -- what it is written with in front of its body, and its message, which stands at the index n
-    abbrev front : List ℕ
-    front = write_head ix (unfold_head σ (head_of script kind start offset))
+  abbrev label : List ℕ
+  label = write_label ix (unfold_head σ (head_of script kind start offset))
 
-    abbrev label : List ℕ
-    label = write_label ix (unfold_head σ (head_of script kind start offset))
+  abbrev message_from : ℕ → Message
+  message_from n = resolve σ (message_at (drop n script))
 
-    abbrev message_from : ℕ → Message
-    message_from n = resolve σ (message_at (drop n script))
+  pub label-action : {n : ℕ} → n ≡ start → kind ≡ 2 → write_message ix (one_message (drop offset (items (message_from n)))) ≡ label
+  unfolding write_label unfold_head items_left
+  label-action f e = ap (λ (n : ℕ). write_message ix (one_message (drop offset (items (message_from n))))) f ∙ sym (ap (λ (h : ClosureHead). write_label ix (unfold_head σ h)) (head-action script kind start offset e))
 
-    pub label-action : {n : ℕ} → n ≡ start → kind ≡ 2 → write_message ix (one_message (drop offset (items (message_from n)))) ≡ label
-    unfolding write_label unfold_head items_left
-    label-action f e = ap (λ (n : ℕ). write_message ix (one_message (drop offset (items (message_from n))))) f ∙ sym (ap (λ (h : ClosureHead). write_label ix (unfold_head σ h)) (head-action script kind start offset e))
+  pub label-receipt : kind ≡ 3 → label ≡ []
+  unfolding write_label unfold_head
+  label-receipt e = ap (λ (h : ClosureHead). write_label ix (unfold_head σ h)) (head-receipt script kind start offset e)
 
-    pub label-receipt : kind ≡ 3 → label ≡ []
-    unfolding write_label unfold_head
-    label-receipt e = ap (λ (h : ClosureHead). write_label ix (unfold_head σ h)) (head-receipt script kind start offset e)
+  pub label-message : {n : ℕ} → n ≡ start → (kind ≡ 2 → ⊥) → (kind ≡ 3 → ⊥) → start < 65536 → write_message ix (message_from n) ≡ label
+  unfolding write_label unfold_head
+  label-message {n} f b c s = by_kind script kind start offset (λ h. write_message ix (message_from n) ≡ write_label ix (unfold_head σ h))
+      (λ e. ap (λ (o : ℕ). write_message ix (message_from o)) f ∙ ap (λ m. write_message ix (resolve σ m)) (sym (message-word script start (lt-ltb start 65536 s))))
+      (λ e. absurd (b e)) (λ e. absurd (c e)) (λ x y z. ap (λ (o : ℕ). write_message ix (message_from o)) f)
 
-    pub label-message : {n : ℕ} → n ≡ start → (kind ≡ 2 → ⊥) → (kind ≡ 3 → ⊥) → start < 65536 → write_message ix (message_from n) ≡ label
-    unfolding write_label unfold_head
-    label-message {n} f b c s = by_kind script kind start offset (λ h. write_message ix (message_from n) ≡ write_label ix (unfold_head σ h))
-        (λ e. ap (λ (o : ℕ). write_message ix (message_from o)) f ∙ ap (λ m. write_message ix (resolve σ m)) (sym (message-word script start (lt-ltb start 65536 s))))
-        (λ e. absurd (b e)) (λ e. absurd (c e)) (λ x y z. ap (λ (o : ℕ). write_message ix (message_from o)) f)
+  -- the receipts around its body
+  pub within-other : (i : ℕ) → (kind ≡ 3 → ⊥) → ix ≡ within (unfold_head σ (head_of script kind start offset)) i ix
+  unfolding within unfold_head
+  within-other i c = by_kind script kind start offset (λ h. ix ≡ within (unfold_head σ h) i ix) (λ e. refl) (λ e. refl) (λ e. absurd (c e)) (λ x y z. refl)
 
-    -- the receipts around its body
-    pub within-other : (i : ℕ) → (kind ≡ 3 → ⊥) → ix ≡ within (unfold_head σ (head_of script kind start offset)) i ix
-    unfolding within unfold_head
-    within-other i c = by_kind script kind start offset (λ h. ix ≡ within (unfold_head σ h) i ix) (λ e. refl) (λ e. refl) (λ e. absurd (c e)) (λ x y z. refl)
-
-    pub within-receipt : (i : ℕ) → kind ≡ 3 → (start, i) ∷ ix ≡ within (unfold_head σ (head_of script kind start offset)) i ix
-    unfolding within unfold_head
-    within-receipt i e = sym (ap (λ (h : ClosureHead). within (unfold_head σ h) i ix) (head-receipt script kind start offset e))
-
--- ---- the receipts around, lent as two tails
-
-module _ (a : Around) {vs is : List ℕ} (e : vs ≡ drop a.first a.variables) (f : is ≡ drop a.first a.indices) where
-  pub tails-indexed : Right a → Indexed vs is
-  tails-indexed ok = rw (e, f) ok.indexed
-
-  pub tails-indices : indices_in vs is ≡ indices_of a
-  unfolding indices_of
-  tails-indices = rw (e, f)
+  pub within-receipt : (i : ℕ) → kind ≡ 3 → (start, i) ∷ ix ≡ within (unfold_head σ (head_of script kind start offset)) i ix
+  unfolding within unfold_head
+  within-receipt i e = sym (ap (λ (h : ClosureHead). within (unfold_head σ h) i ix) (head-receipt script kind start offset e))

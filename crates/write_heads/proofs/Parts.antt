@@ -1,12 +1,13 @@
 -- What a part and a body are written with, by the body of the part and by the first part of the body. Assumes nothing.
-use Prim.Native.Nat.{ℕ, ◌+◌, ◌≤◌, ◌<◌}
+use Prim.Native.Nat.{ℕ, ◌+◌, ◌^◌, ◌≤◌, ◌<◌}
 use mathlib.Core.Bool.{true, false, true≢false}
 use mathlib.Core.List.{List, [], ◌∷◌, ◌++◌, append-nil, tail}
 use mathlib.Core.Path.{◌≡◌, refl, sym, ap, ◌∙◌, subst}
 use native.Mathlib.Omega.{arith}
 use lib.ListN.{length}
 use Rattle.read_messages.specs.Words.{word}
-use Rattle.base_sets.specs.Sets.{head_or}
+use Rattle.base_sets.specs.Sets.{members, head_or}
+use Rattle.base_sets.proofs.Members.{first-is}
 use Rattle.read_scripts.specs.Tree.{ambient, action, receipt, output, close, part, tops, total_over, parts, map_heads, Plain}
 use Rattle.read_scripts.specs.Represents.{Held}
 use Rattle.theory_closures.specs.Resolve.{resolve}
@@ -53,6 +54,10 @@ pub no-parts : (fuel : ℕ) → fuel ≡ 0 → (ix : Indices) (i : ℕ) (σ : Bi
 unfolding total_over
 no-parts fuel z ix i σ close m = sym (write-close ix i σ)
 no-parts fuel z ix i σ (part k h b r) m = absurd (let y : ⊥ = omega arith in y)
+
+-- the first part and those beside it, as sets give them
+pub first_part : (left i l : ℕ) → left < 2 ^ 64 → (left ≡ 0 → ⊥) → i ≡ head_or 64 (members left) → members l ≡ tail (members left) → members left ≡ i ∷ members l
+first_part left i l h n f e = first-is left i h n f ∙ ap (λ (ms : List ℕ). i ∷ ms) (sym e)
 
 module _ (σ : Bindings) (k : ℕ → List ℕ) (w : ℕ → ClosureHead) (left : List ℕ) (fuel j : ℕ) (l : List ℕ) (first : left ≡ j ∷ l) where
   -- the words of the first part, and of those beside it

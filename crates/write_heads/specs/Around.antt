@@ -1,19 +1,25 @@
--- The receipts around what is written, as they are held: in arrays of 64, filled from the end, so that those from `first`
--- on are innermost first. Assumes nothing: these are definitions.
+-- The receipts around what is written, as they are held: in 64 rows, filled from the end, so that those from `first` on are
+-- innermost first. Assumes nothing: these are definitions.
 use Rattle.std.specs.Prelude.{ℕ, ◌+◌, ◌≤◌, List, [], ◌≡◌, drop}
 use Rattle.theory_closures.specs.Closure.{Bindings, unfold_head}
 use Rattle.engine_states.specs.Represents.{head_of}
 use Rattle.theory_written_trees.specs.Write.{Indices, within}
+use Rattle.write_messages.specs.declared.Receipt.{Receipt}
 use Rattle.write_messages.specs.Indices.{indices_in, Indexed}
 use Rattle.write_heads.specs.declared.Around.{Around}
 
+-- the receipts that are held
+abbrev pub receipts_in : Around → List Receipt
+receipts_in a = drop a.first a.rows
+
+-- each variable of theirs with its new index
 unfoldable pub indices_of : Around → Indices
-indices_of a = indices_in (drop a.first a.variables) (drop a.first a.indices)
+indices_of a = indices_in (receipts_in a)
 
 -- the receipts around are held right
 pub record Right (a : Around) : Type 0 where
   pub within : a.first ≤ 64
-  pub indexed : Indexed (drop a.first a.variables) (drop a.first a.indices)
+  pub indexed : Indexed (receipts_in a)
 
 -- no receipts around, and room for 64
 pub record NoneAround (a : Around) : Type 0 where

@@ -11,31 +11,48 @@ ghost use Rattle.engine_states.specs.Represents.{head_of};
 ghost use Rattle.theory_written_trees.specs.Write.{write_head};
 ghost use Rattle.write_messages.specs.Buffer.{Wrote};
 ghost use Rattle.write_messages.specs.Indices.{indices_in};
-ghost use Rattle.write_heads.specs.Around.{indices_of, NoneAround, BodyAround};
+ghost use Rattle.write_heads.specs.Around.{receipts_in, indices_of, Right, NoneAround, BodyAround};
 ghost use Rattle.write_heads.specs.Asked.{AroundAsked, LabelAsked, HeadAsked};
 ghost use Rattle.write_heads.specs.Heads.{has_body, write_label};
 
-use base_slices::{tail, wide};
-use write_messages::{write_items, write_message, write_word};
+use base_slices::wide;
+use engine_message_words::Binding;
+use engine_states::{ACTION, AMBIENT, RECEIPT};
+use write_messages::{Receipt, write_items, write_message, write_word};
 
-// The receipts around what is written, innermost first, from first on: their variables and their new indices.
+// The words in front of parts, by their kinds: the operand of each is 0.
+const AMBIENT_WORD: u32 = 0x10000000;
+
+const ACTION_WORD: u32 = 0x20000000;
+
+const RECEIPT_WORD: u32 = 0x30000000;
+
+const OUTPUT_WORD: u32 = 0x40000000;
+
+// How many receipts can be around a part: as many as there are parts.
+const MOST_AROUND: usize = 64;
+
+// The receipts around what is written: the rows from first on, innermost first.
 #[derive(Clone, Copy)]
 pub struct Around {
-    pub variables: [u32; 64],
-    pub indices: [u32; 64],
+    pub rows: [Receipt; 64],
     pub first: usize,
 }
 
+// The receipts around, as they are lent.
+fn receipts_in(around: &Around) -> &[Receipt]
+    requires { Right around.now }
+    ensures { result.now ≡ receipts_in around.now }
+{
+    &around.rows[around.first..]
+}
+
 // Whether the body of a part of that kind is written: an output has none.
+#[tactic(auto, using(std::proofs::lemmas::Bool::Decides::nat_tests), unfolding(crate::specs::Heads::has_body, engine_states::specs::Represents::head_of))]
 pub fn has_body(kind: u8) -> bool
     ensures { (script : List ℕ) (start offset : ℕ) → result ≡ has_body (head_of script kind start offset) }
 {
-    match kind {
-        1 => true,
-        2 => true,
-        3 => true,
-        _ => false,
-    }
+    matches!(kind, AMBIENT | ACTION | RECEIPT)
 }
 
 // No receipts around.
@@ -43,37 +60,41 @@ pub fn nothing_around() -> Around
     ensures { NoneAround result }
 {
     Around {
-        variables: [0; 64],
-        indices: [0; 64],
-        first: 64,
+        rows: [Receipt {
+            variable: 0,
+            index: 0,
+        }; 64],
+        first: MOST_AROUND,
     }
 }
 
 // The receipts around the body of a part of that kind and start, whose word has the index.
-pub fn around_body(around: Around, kind: u8, start: u32, index: u32) -> Around
-    requires { AroundAsked around start index }
-    ensures { BodyAround around kind start index result }
+pub fn around_body(around: &Around, kind: u8, start: u32, index: u32) -> Around
+    requires { AroundAsked around.now start index }
+    ensures { BodyAround around.now kind start index result }
 {
-    if kind != 3 {
-        return around;
+    let mut r = *around;
+    if kind == RECEIPT {
+        let next = around.first - 1;
+        r.rows[next] = Receipt {
+            variable: start,
+            index,
+        };
+        r.first = next;
     }
-    let next = around.first - 1;
-    let mut r = around;
-    r.variables[next] = start;
-    r.indices[next] = index;
-    r.first = next;
     r
 }
 
 // The word of a part of that kind.
+#[tactic(auto, using(std::proofs::lemmas::Bool::Decides::nat_tests), unfolding(read_scripts::specs::Tree::kind_number, read_messages::specs::Words::word, engine_states::specs::Represents::head_of))]
 fn head_word(kind: u8) -> u32
     ensures { (script : List ℕ) (start offset : ℕ) → result ≡ word (kind_number (head_of script kind start offset)) 0 }
 {
     match kind {
-        1 => 0x10000000,
-        2 => 0x20000000,
-        3 => 0x30000000,
-        _ => 0x40000000,
+        AMBIENT => AMBIENT_WORD,
+        ACTION => ACTION_WORD,
+        RECEIPT => RECEIPT_WORD,
+        _ => OUTPUT_WORD,
     }
 }
 
@@ -83,26 +104,19 @@ fn write_label(
     kind: u8,
     start: u32,
     offset: u32,
-    variables: &[u32],
-    sources: &[u32],
-    counts: &[u32],
-    receipts: &[u32],
-    indices: &[u32],
+    bindings: &[Binding],
+    receipts: &[Receipt],
     out: &mut [u32],
 ) -> usize
-    requires { LabelAsked script.now start offset variables.now sources.now counts.now receipts.now indices.now out.old }
-    ensures { Wrote (write_label (indices_in receipts.now indices.now) (unfold_head (bindings_in script.now variables.now sources.now) (head_of script.now kind start offset))) out.old out.new result }
+    requires { LabelAsked script.now start offset bindings.now receipts.now out.old }
+    ensures { Wrote (write_label (indices_in receipts.now) (unfold_head (bindings_in script.now bindings.now) (head_of script.now kind start offset))) out.old out.new result }
 {
     let at = wide(start);
-    if kind == 2 {
-        return write_items(
-            script, at, offset, variables, sources, counts, receipts, indices, out,
-        );
+    match kind {
+        ACTION => write_items(script, at, offset, bindings, receipts, out),
+        RECEIPT => 0,
+        _ => write_message(script, at, bindings, receipts, out),
     }
-    if kind == 3 {
-        return 0;
-    }
-    write_message(script, at, variables, sources, receipts, indices, out)
 }
 
 // Writes the words in front of a part's body.
@@ -111,29 +125,22 @@ pub fn write_head(
     kind: u8,
     start: u32,
     offset: u32,
-    variables: &[u32],
-    sources: &[u32],
-    counts: &[u32],
-    around: Around,
+    bindings: &[Binding],
+    around: &Around,
     out: &mut [u32],
 ) -> usize
-    requires { HeadAsked script.now start offset variables.now sources.now counts.now around out.old }
-    ensures { Wrote (write_head (indices_of around) (unfold_head (bindings_in script.now variables.now sources.now) (head_of script.now kind start offset))) out.old out.new result }
+    requires { HeadAsked script.now start offset bindings.now around.now out.old }
+    ensures { Wrote (write_head (indices_of around.now) (unfold_head (bindings_in script.now bindings.now) (head_of script.now kind start offset))) out.old out.new result }
 {
-    let receipts = around.variables;
-    let indices = around.indices;
-    let first = around.first;
     let m = write_word(head_word(kind), out);
+    let receipts = receipts_in(around);
     write_label(
         script,
         kind,
         start,
         offset,
-        variables,
-        sources,
-        counts,
-        tail(&receipts, first),
-        tail(&indices, first),
+        bindings,
+        receipts,
         &mut out[m..],
     ) + m
 }

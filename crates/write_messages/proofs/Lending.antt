@@ -4,9 +4,7 @@ use mathlib.Core.List.{List, [], ◌∷◌, ◌++◌, append_assoc, append-nil}
 use mathlib.Core.Path.{◌≡◌, refl, sym, ap, ◌∙◌}
 use native.Mathlib.Omega.{arith}
 use lib.ListN.{length, take, drop, set, length-append, length-drop, drop_of_length-le}
-use lib.Seq.{take_all, drop-drop, take_at, drop_at, length-take-le}
-use mir.Syntax.{w64}
-use mir.Val.{Fits}
+use lib.Seq.{take_all, drop-drop, take_at, drop_at}
 use Rattle.write_messages.specs.Buffer.{over, Front, Wrote}
 
 -- the tail of the buffer behind m words, as it is lent, and the buffer when the tail comes back as ys
@@ -43,25 +41,11 @@ pub record Partly (xs ys : List ℕ) (m : ℕ) : Type 0 where
   pub within : m ≤ length xs
   pub kept : length ys ≡ length xs
 
-partly-behind : {xs ys : List ℕ} {m : ℕ} → Partly xs ys m → m ≤ length ys
-partly-behind b = omega (arith, b.within, b.kept)
-
 pub partly-lent : {xs ys : List ℕ} {m : ℕ} → Partly xs ys m → length (lent m ys) + m ≡ length xs
 partly-lent {xs} {ys} {m} b = omega (arith, lent_length m ys, b.within, b.kept)
 
 pub partly-within : {xs ys : List ℕ} {m r : ℕ} → Partly xs ys m → r ≤ length (lent m ys) → r + m ≤ length xs
 partly-within b h = omega (arith, partly-lent b)
-
-pub partly-sum : {xs ys : List ℕ} {m r : ℕ} → Partly xs ys m → r ≤ length (lent m ys) → Fits w64 (r + m)
-partly-sum b h = omega (arith, partly-within b h, b.long)
-
-pub lent-sum : (m r : ℕ) (xs ys : List ℕ) → length xs * 4 < 2 ^ 63 → length ys ≡ length xs → m ≤ length xs → r ≤ length (lent m ys) → Fits w64 (r + m)
-lent-sum m r xs ys long kept h i = let b : Partly xs ys m = record { long = long; within = h; kept = kept } in partly-sum b i
-
--- the lent tail comes back with its length
-pub partly-kept : {xs ys : List ℕ} {m : ℕ} → Partly xs ys m → (zs : List ℕ) → length zs ≡ length (lent m ys) → length (joined m ys zs) ≡ length xs
-partly-kept {xs} {ys} {m} b zs e =
-    ap length (joined_is m ys zs) ∙ omega (arith, length-append (take m ys) zs, length-take-le m ys (partly-behind b), partly-lent b)
 
 pub wrote_as : {A B xs ys : List ℕ} {r : ℕ} → A ≡ B → Wrote A xs ys r → Wrote B xs ys r
 wrote_as {A} {B} {xs} {ys} {r} e w = rw (← e) w

@@ -1,14 +1,15 @@
 -- A pass over the words of messages writes each message whole. Assumes nothing.
-use Prim.Native.Nat.{ℕ, zero, suc, ◌+◌, ◌-◌, ◌*◌, ◌^◌, ◌≤◌, ◌<◌}
+use Prim.Native.Nat.{ℕ, zero, suc, ◌+◌, ◌-◌, ◌≤◌, ◌<◌}
 use mathlib.Core.Bool.{Bool, true, false, cond}
 use mathlib.Core.List.{List, [], ◌∷◌, ◌++◌, append_assoc, append-nil}
 use mathlib.Core.Path.{◌≡◌, refl, sym, ap, ◌∙◌}
 use native.Mathlib.Omega.{arith}
 use native.Mathlib.Nat.{add-zero}
 use lib.Dec.{eqb, leb}
-use lib.ListN.{length, drop, get_or, length-append, length-drop}
+use lib.ListN.{length, drop, length-append}
 use lib.Seq.{drop-drop}
 use borrow.Author.Tests.{leb-true}
+use Rattle.std.specs.Prelude.{Some}
 use Rattle.read_messages.specs.Words.{word, kind, operand, name_fits}
 use Rattle.read_messages.specs.Message.{Message, name, variable, enter, exit, opens, empty_message, path}
 use Rattle.read_messages.specs.ReadMessage.{message_word}
@@ -17,13 +18,12 @@ use Rattle.read_messages.specs.declared.MessageWord.{MessageWord}
 use Rattle.read_messages.specs.declared.MessageWord.TheVariants.{Name, Variable, Enter, Exit, Open, Empty, Path, Unfit}
 use Rattle.theory_closures.specs.Resolve.{resolve}
 use Rattle.engine_bindings.specs.Bindings.{bindings_in}
-use Rattle.engine_bindings.specs.Measures.{Kept, item_count}
 use Rattle.engine_held_bindings.specs.Sizes.{message_size, items_size}
-use Rattle.engine_message_words.specs.Words.{first_word, shape_of, arity_of, bound_at}
+use Rattle.engine_message_words.specs.Words.{binding_at, first_word, shape_of, arity_of, bound_at}
+use Rattle.engine_message_words.specs.declared.Binding.{Binding}
 use Rattle.engine_bindings.specs.Passes.{firsts}
 use Rattle.base_slices.proofs.Tests.{by_test}
 use Rattle.theory_closures.proofs.Resolving.{resolve-name, resolve-enter, resolve-exit, resolve-opens, resolve-empty, resolve-path}
-use Rattle.engine_bindings.proofs.Counting.{kept-drop}
 use Rattle.engine_message_words.proofs.FirstWords.{bound, bound-variable}
 use Rattle.engine_bindings.proofs.Passing.{firsts-first, Free, given-newest}
 use Rattle.theory_written_trees.specs.Write.{Indices, write_message, one_message}
@@ -140,25 +140,10 @@ written-variable : (ix : Indices) (σ : List (ℕ × Message)) (m : MessageWord)
 unfolding all_written firsts push top_message
 written-variable ix σ m v p s e = rw e
 
-pub written-bound : (ix : Indices) (script vs ps l : List ℕ) (p k : ℕ) → 0 < p → length ps ≡ length vs → k ≡ bound_at (first_word l) vs → k < length vs
-    → {us qs g r : List ℕ} → us ≡ drop (k + 1) vs → qs ≡ drop (k + 1) ps → g ≡ drop (get_or ps k 0) script → r ≡ drop 1 l
-    → all_written ix (bindings_in script us qs) (firsts 1 (spelled g)) ++ all_written ix (bindings_in script vs ps) (firsts (p - 1) (spelled r)) ≡ all_written ix (bindings_in script vs ps) (firsts p (spelled l))
-written-bound ix script vs ps l zero k z a b h e₁ e₂ e₃ e₄ = absurd (omega arith)
-written-bound ix script vs ps l (suc p) k z a b h {us} {qs} e₁ e₂ e₃ e₄ =
+pub written-bound : (ix : Indices) (script : List ℕ) (bs : List Binding) (l : List ℕ) (p k : ℕ) → 0 < p → Some k ≡ bound_at (first_word l) bs → {us : List Binding} {g r : List ℕ} → us ≡ drop (k + 1) bs → g ≡ drop (binding_at bs k).source script → r ≡ drop 1 l
+    → all_written ix (bindings_in script us) (firsts 1 (spelled g)) ++ all_written ix (bindings_in script bs) (firsts (p - 1) (spelled r)) ≡ all_written ix (bindings_in script bs) (firsts p (spelled l))
+written-bound ix script bs l zero k z b e₁ e₂ e₃ = absurd (omega arith)
+written-bound ix script bs l (suc p) k z b {us} e₁ e₂ e₃ =
     let q : suc p - 1 ≡ p = omega arith in
-    elim (bound-variable vs (first_word l) k b h)
-    [ bound v e g ↦ rw (q, firsts-first (suc p) l, one_written ix (bindings_in script us qs) e₃, e₁, e₂, e₄, given-newest script vs ps a k h v g) (sym (written-variable ix (bindings_in script vs ps) (first_word l) v p (spelled (drop 1 l)) e)) ]
-
--- what is lent to the writer of a binding's message: the script's words from an index on, and the older bindings
-
-pub few_words : {ws : List ℕ} (script : List ℕ) (at : ℕ) → ws ≡ drop at script → length script * 4 < 2 ^ 63 → 1 + length ws < 2 ^ 64
-few_words script at e h = omega (arith, ap length e, length-drop at script)
-
-pub fewer-older : {ws : List ℕ} (vs : List ℕ) (k : ℕ) → ws ≡ drop (k + 1) vs → k < length vs → length ws < length vs
-fewer-older vs k e h = omega (arith, ap length e, length-drop (k + 1) vs)
-
-pub older-aligned : {ws us : List ℕ} (vs ps : List ℕ) (k : ℕ) → ws ≡ drop k vs → us ≡ drop k ps → length ps ≡ length vs → length us ≡ length ws
-older-aligned vs ps k e f h = omega (arith, ap length e, ap length f, length-drop k vs, length-drop k ps)
-
-pub older-kept : {script vs ps cs us qs ds : List ℕ} → Kept item_count script vs ps cs → (k : ℕ) → us ≡ drop k vs → qs ≡ drop k ps → ds ≡ drop k cs → Kept item_count script us qs ds
-older-kept ok k e₁ e₂ e₃ = rw (e₁, e₂, e₃) (kept-drop ok k)
+    elim (bound-variable bs (first_word l) k b)
+    [ bound v e g ↦ rw (q, firsts-first (suc p) l, one_written ix (bindings_in script us) e₂, e₁, e₃, given-newest script bs k v g) (sym (written-variable ix (bindings_in script bs) (first_word l) v p (spelled (drop 1 l)) e)) ]

@@ -12,15 +12,38 @@ ghost use Rattle.engine_bindings.specs.Passes.{firsts, all_items, own_items};
 ghost use Rattle.theory_written_trees.specs.Write.{new_index, write_message, one_message};
 ghost use Rattle.write_messages.specs.Buffer.{Wrote};
 ghost use Rattle.write_messages.specs.Indices.{indices_in, Indexed};
-ghost use Rattle.write_messages.specs.Asked.{PlainWordAsked, MessageAsked, MessagesAsked, ItemsAsked, OwnItemsAsked, PendingItemsAsked};
+ghost use Rattle.write_messages.specs.Asked.{PlainWordAsked, MessagesAsked, ItemsAsked, OwnItemsAsked, PendingItemsAsked};
 ghost use Rattle.write_messages.specs.Passes.{all_written, plain_word, link, strung};
 
 use base_slices::tail;
 use engine_bindings::{after_own, item_count, own};
-use engine_message_words::{arity, bound, find, first_word, given};
+use engine_message_words::{Binding, arity, bound, first_word, given};
 use read_messages::MessageWord;
 
+// The words of messages, by their kinds: the operand of each is 0.
+const NAME_WORD: u32 = 0x80000000;
+
+const VARIABLE_WORD: u32 = 0x90000000;
+
+const ENTER_WORD: u32 = 0xA0000000;
+
+const EXIT_WORD: u32 = 0xB0000000;
+
+const OPEN_WORD: u32 = 0xC0000000;
+
+const EMPTY_WORD: u32 = 0xD0000000;
+
+const PATH_WORD: u32 = 0xE0000000;
+
+// A receipt around what is written: its variable, and its new index.
+#[derive(Clone, Copy)]
+pub struct Receipt {
+    pub variable: u32,
+    pub index: u32,
+}
+
 // Writes one word, if there is room; says how many words it wrote.
+#[tactic(auto, using(crate::proofs::Lending::wrote_one))]
 pub fn write_word(w: u32, out: &mut [u32]) -> usize
     ensures { Wrote (w ∷ []) out.old out.new result }
 {
@@ -32,31 +55,33 @@ pub fn write_word(w: u32, out: &mut [u32]) -> usize
 }
 
 // The word of VAR for the variable of a receipt: its new index.
-fn variable_word(v: u32, receipts: &[u32], indices: &[u32]) -> u32
-    requires { Indexed receipts.now indices.now }
-    ensures { result ≡ word 9 (new_index (indices_in receipts.now indices.now) v) }
+fn variable_word(v: u32, receipts: &[Receipt]) -> u32
+    requires { Indexed receipts.now }
+    ensures { result ≡ word 9 (new_index (indices_in receipts.now) v) }
 {
-    let k = find(receipts, v);
-    if k < receipts.len() {
-        return 0x90000000 + indices[k];
+    for r in receipts {
+        if r.variable == v {
+            return VARIABLE_WORD + r.index;
+        }
     }
-    0x90000000
+    VARIABLE_WORD
 }
 
 // The word that is written for a word of a message, no variable with a binding.
-fn plain_word(m: MessageWord, receipts: &[u32], indices: &[u32]) -> u32
-    requires { PlainWordAsked m receipts.now indices.now }
-    ensures { result ≡ plain_word (indices_in receipts.now indices.now) m }
+#[tactic(auto, unfolding(crate::specs::Passes::plain_word, read_messages::specs::Words::word))]
+fn plain_word(m: MessageWord, receipts: &[Receipt]) -> u32
+    requires { PlainWordAsked m receipts.now }
+    ensures { result ≡ plain_word (indices_in receipts.now) m }
 {
     match m {
-        MessageWord::Name(n) => 0x80000000 + n,
-        MessageWord::Variable(v) => variable_word(v, receipts, indices),
-        MessageWord::Enter => 0xA0000000,
-        MessageWord::Exit => 0xB0000000,
-        MessageWord::Open => 0xC0000000,
-        MessageWord::Empty => 0xD0000000,
-        MessageWord::Path => 0xE0000000,
-        MessageWord::Unfit => 0xD0000000,
+        MessageWord::Name(n) => NAME_WORD + n,
+        MessageWord::Variable(v) => variable_word(v, receipts),
+        MessageWord::Enter => ENTER_WORD,
+        MessageWord::Exit => EXIT_WORD,
+        MessageWord::Open => OPEN_WORD,
+        MessageWord::Empty => EMPTY_WORD,
+        MessageWord::Path => PATH_WORD,
+        MessageWord::Unfit => EMPTY_WORD,
     }
 }
 
@@ -65,53 +90,31 @@ fn write_from(
     script: &[u32],
     words: &[u32],
     pending: usize,
-    variables: &[u32],
-    sources: &[u32],
-    receipts: &[u32],
-    indices: &[u32],
+    bindings: &[Binding],
+    receipts: &[Receipt],
     out: &mut [u32],
 ) -> usize
-    requires { MessagesAsked words.now pending variables.now sources.now receipts.now indices.now }
-    ensures { Wrote (all_written (indices_in receipts.now indices.now) (bindings_in script.now variables.now sources.now) (firsts pending (spelled words.now))) out.old out.new result }
+    requires { MessagesAsked words.now pending receipts.now }
+    ensures { Wrote (all_written (indices_in receipts.now) (bindings_in script.now bindings.now) (firsts pending (spelled words.now))) out.old out.new result }
 {
     if pending == 0 {
         return 0;
     }
     let w = first_word(words);
-    let k = bound(w, variables);
-    if k < variables.len() {
-        let older = k + 1;
-        let m = write_from(
-            script,
-            given(script, sources, k),
-            1,
-            tail(variables, older),
-            tail(sources, older),
-            receipts,
-            indices,
-            out,
-        );
-        return write_from(
-            script,
-            tail(words, 1),
-            pending - 1,
-            variables,
-            sources,
-            receipts,
-            indices,
-            &mut out[m..],
-        ) + m;
+    let rest = tail(words, 1);
+    if let Some(k) = bound(w, bindings) {
+        let of_binding = given(script, bindings, k);
+        let m = write_from(script, of_binding, 1, &bindings[k + 1..], receipts, out);
+        return write_from(script, rest, pending - 1, bindings, receipts, &mut out[m..]) + m;
     }
-    let m = write_word(plain_word(w, receipts, indices), out);
-    let a = arity(w);
+    let m = write_word(plain_word(w, receipts), out);
+    let inside = arity(w);
     write_from(
         script,
-        tail(words, 1),
-        pending - 1 + a,
-        variables,
-        sources,
+        rest,
+        pending - 1 + inside,
+        bindings,
         receipts,
-        indices,
         &mut out[m..],
     ) + m
 }
@@ -120,42 +123,25 @@ fn write_from(
 pub fn write_message(
     script: &[u32],
     at: usize,
-    variables: &[u32],
-    sources: &[u32],
-    receipts: &[u32],
-    indices: &[u32],
+    bindings: &[Binding],
+    receipts: &[Receipt],
     out: &mut [u32],
 ) -> usize
-    requires { MessageAsked variables.now sources.now receipts.now indices.now }
-    ensures { Wrote (write_message (indices_in receipts.now indices.now) (resolve (bindings_in script.now variables.now sources.now) (message_at (drop at script.now)))) out.old out.new result }
+    requires { Indexed receipts.now }
+    ensures { Wrote (write_message (indices_in receipts.now) (resolve (bindings_in script.now bindings.now) (message_at (drop at script.now)))) out.old out.new result }
 {
-    write_from(
-        script,
-        tail(script, at),
-        1,
-        variables,
-        sources,
-        receipts,
-        indices,
-        out,
-    )
+    write_from(script, tail(script, at), 1, bindings, receipts, out)
 }
 
 // Writes PATH, if more than one item is still to be written.
+#[tactic(auto, using(crate::proofs::Lending::wrote_none), unfolding(crate::specs::Passes::link, read_messages::specs::Words::word))]
 fn write_link(left: u32, out: &mut [u32]) -> usize
     ensures { Wrote (link left) out.old out.new result }
 {
     if left <= 1 {
         return 0;
     }
-    write_word(0xE0000000, out)
-}
-
-// What is left of a when b is taken away, or nothing.
-fn less(a: u32, b: u32) -> u32
-    ensures { result ≡ a - b }
-{
-    if b <= a { a - b } else { 0 }
+    write_word(PATH_WORD, out)
 }
 
 // Writes those from the offset on of the items that the first of the words has of its own, where `left` items are still to
@@ -166,44 +152,28 @@ fn write_own(
     words: &[u32],
     offset: u32,
     left: u32,
-    variables: &[u32],
-    sources: &[u32],
-    counts: &[u32],
-    receipts: &[u32],
-    indices: &[u32],
+    bindings: &[Binding],
+    receipts: &[Receipt],
     out: &mut [u32],
 ) -> usize
-    requires { OwnItemsAsked script.now words.now offset variables.now sources.now counts.now receipts.now indices.now out.old }
-    ensures { Wrote (strung (indices_in receipts.now indices.now) left (drop offset (own_items (bindings_in script.now variables.now sources.now) words.now))) out.old out.new result }
+    requires { OwnItemsAsked script.now words.now offset bindings.now receipts.now out.old }
+    ensures { Wrote (strung (indices_in receipts.now) left (drop offset (own_items (bindings_in script.now bindings.now) words.now))) out.old out.new result }
 {
-    let k = bound(first_word(words), variables);
-    if k < variables.len() {
-        let older = k + 1;
+    if let Some(k) = bound(first_word(words), bindings) {
+        let of_binding = given(script, bindings, k);
         return write_rest(
             script,
-            given(script, sources, k),
+            of_binding,
             1,
             offset,
             left,
-            tail(variables, older),
-            tail(sources, older),
-            tail(counts, older),
+            &bindings[k + 1..],
             receipts,
-            indices,
             out,
         );
     }
     let m = write_link(left, out);
-    write_from(
-        script,
-        words,
-        1,
-        variables,
-        sources,
-        receipts,
-        indices,
-        &mut out[m..],
-    ) + m
+    write_from(script, words, 1, bindings, receipts, &mut out[m..]) + m
 }
 
 // Writes those from the offset on of the items of the first `pending` messages of the words, where `left` items are still
@@ -215,53 +185,42 @@ fn write_rest(
     pending: usize,
     offset: u32,
     left: u32,
-    variables: &[u32],
-    sources: &[u32],
-    counts: &[u32],
-    receipts: &[u32],
-    indices: &[u32],
+    bindings: &[Binding],
+    receipts: &[Receipt],
     out: &mut [u32],
 ) -> usize
-    requires { PendingItemsAsked script.now words.now pending offset variables.now sources.now counts.now receipts.now indices.now out.old }
-    ensures { Wrote (strung (indices_in receipts.now indices.now) left (drop offset (all_items (bindings_in script.now variables.now sources.now) (firsts pending (spelled words.now))))) out.old out.new result }
+    requires { PendingItemsAsked script.now words.now pending offset bindings.now receipts.now out.old }
+    ensures { Wrote (strung (indices_in receipts.now) left (drop offset (all_items (bindings_in script.now bindings.now) (firsts pending (spelled words.now))))) out.old out.new result }
 {
     if pending == 0 {
         return 0;
     }
-    let o = own(words, variables, counts);
+    let o = own(words, bindings);
     let b = after_own(words, pending);
-    let used = b.used;
+    let behind = tail(words, b.used);
     let after = b.left;
     if o <= offset {
         return write_rest(
             script,
-            tail(words, used),
+            behind,
             after,
             offset - o,
             left,
-            variables,
-            sources,
-            counts,
+            bindings,
             receipts,
-            indices,
             out,
         );
     }
-    let m = write_own(
-        script, words, offset, left, variables, sources, counts, receipts, indices, out,
-    );
-    let next = less(left, o - offset);
+    let m = write_own(script, words, offset, left, bindings, receipts, out);
+    let next = left.saturating_sub(o - offset);
     write_rest(
         script,
-        tail(words, used),
+        behind,
         after,
         0,
         next,
-        variables,
-        sources,
-        counts,
+        bindings,
         receipts,
-        indices,
         &mut out[m..],
     ) + m
 }
@@ -271,19 +230,16 @@ pub fn write_items(
     script: &[u32],
     at: usize,
     offset: u32,
-    variables: &[u32],
-    sources: &[u32],
-    counts: &[u32],
-    receipts: &[u32],
-    indices: &[u32],
+    bindings: &[Binding],
+    receipts: &[Receipt],
     out: &mut [u32],
 ) -> usize
-    requires { ItemsAsked script.now offset variables.now sources.now counts.now receipts.now indices.now out.old }
-    ensures { Wrote (write_message (indices_in receipts.now indices.now) (one_message (drop offset (items (resolve (bindings_in script.now variables.now sources.now) (message_at (drop at script.now))))))) out.old out.new result }
+    requires { ItemsAsked script.now offset bindings.now receipts.now out.old }
+    ensures { Wrote (write_message (indices_in receipts.now) (one_message (drop offset (items (resolve (bindings_in script.now bindings.now) (message_at (drop at script.now))))))) out.old out.new result }
 {
-    let n = item_count(script, at, variables, sources, counts);
+    let n = item_count(script, at, bindings);
     if n <= offset {
-        return write_word(0xD0000000, out);
+        return write_word(EMPTY_WORD, out);
     }
     write_rest(
         script,
@@ -291,11 +247,8 @@ pub fn write_items(
         1,
         offset,
         n - offset,
-        variables,
-        sources,
-        counts,
+        bindings,
         receipts,
-        indices,
         out,
     )
 }

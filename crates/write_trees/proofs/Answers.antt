@@ -8,25 +8,25 @@ use lib.Seq.{length-take-le}
 use borrow.Author.Tests.{le-leb, lt-leb}
 use Rattle.base_slices.specs.Sums.{capped}
 use Rattle.write_messages.specs.Buffer.{over, Wrote}
-use Rattle.write_trees.specs.Room.{room, answered, buffered, Fitted}
-use Rattle.write_trees.specs.declared.Fitting.TheVariants.{Words, Refused}
+use Rattle.write_trees.specs.Room.{room, unfit, answered, buffered, Fitted}
+use Rattle.std.specs.Prelude.{Ok, Err}
 
 -- n is the number of the words, as far as it is counted
 module _ (ws buffer : List ℕ) (n : ℕ) (e : n ≡ capped (length ws)) where
-  too_long : room buffer < length ws → Fitted ws buffer buffer (Refused 19 0)
+  too_long : room buffer < length ws → Fitted ws buffer buffer (Err unfit)
   unfolding answered buffered
   too_long h = let t = lt-leb (length ws) (room buffer) h in record { said = rw t; left = rw t }
 
-  pub over-limit : 268435456 < n → Fitted ws buffer buffer (Refused 19 0)
+  pub over-limit : 268435456 < n → Fitted ws buffer buffer (Err unfit)
   unfolding capped room
   over-limit h = too_long (omega arith)
 
-  pub over-buffer : length buffer < n → Fitted ws buffer buffer (Refused 19 0)
+  pub over-buffer : length buffer < n → Fitted ws buffer buffer (Err unfit)
   unfolding capped room
   over-buffer h = too_long (omega arith)
 
   -- the first u words are lent, and come back as ys
-  pub fitted : n ≤ 268435456 → (u : ℕ) → u ≡ n → u ≤ length buffer → (ys : List ℕ) (r : ℕ) → Wrote ws (take u buffer) ys r → Fitted ws buffer (ys ++ drop u buffer) (Words n)
+  pub fitted : n ≤ 268435456 → (u : ℕ) → u ≡ n → u ≤ length buffer → (ys : List ℕ) (r : ℕ) → Wrote ws (take u buffer) ys r → Fitted ws buffer (ys ++ drop u buffer) (Ok n)
   unfolding capped room answered buffered over
   fitted h u g f ys r w =
       let l : n ≡ length ws = omega arith in

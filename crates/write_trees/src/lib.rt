@@ -6,69 +6,63 @@
 ghost use Rattle.std.specs.Prelude.{◌≡◌, [], ◌≤◌};
 ghost use Rattle.base_sets.specs.Sets.{members};
 ghost use Rattle.read_scripts.specs.Tree.{tops, parts};
-ghost use Rattle.read_scripts.specs.Represents.{Held, body_in};
-ghost use Rattle.engine_bindings.specs.Bindings.{bindings_in};
+ghost use Rattle.read_scripts.specs.Represents.{Held};
 ghost use Rattle.theory_closures.specs.Closure.{Closure, unfolded};
-ghost use Rattle.engine_states.specs.Represents.{heads};
 ghost use Rattle.theory_written_trees.specs.Write.{write};
 ghost use Rattle.write_heads.specs.Around.{indices_of};
+ghost use Rattle.write_counts.specs.Trees.{bindings_under, bodies_in, heads_in};
 ghost use Rattle.write_counts.specs.Asked.{TreeAsked};
 ghost use Rattle.write_trees.specs.Room.{Fitted};
 ghost use Rattle.write_trees.specs.Asked.{PartAsked, BodyAsked};
 ghost use Rattle.write_trees.specs.Bodies.{Writes, WritesPart};
 
 use base_slices::wide;
-use write_counts::count_words;
+use read_messages::Refusal;
+use write_counts::{MOST_PARTS, Standing, TOP, count_words};
 use write_heads::{Around, around_body, has_body, nothing_around, write_head};
 use write_messages::write_word;
 
-// What the writer of a tree answers: the number of words written, or the number and place of the question that is answered
-// by no, where they do not fit.
-#[derive(Drop)]
-pub enum Fitting {
-    Words(u32),
-    Refused { question: u32, place: usize },
-}
+// The word behind the last part of a body.
+const CLOSE_WORD: u32 = 0;
+
+// How many words of a buffer count: an index fits an operand.
+const MOST_WORDS: u32 = 268435456;
+
+// Question 19 of document 01, whether the tree fits the buffer, is asked of no word: its place is 0.
+const TREE_FITS: u32 = 19;
+const NO_WORD: usize = 0;
 
 // Writes the part i, whose word has the index.
 #[cycle(write_body_write_part)]
-fn write_part<'a, 'b>(
-    script: &'a [u32],
-    kids: &'a [u64; 65],
-    kinds: &'a [u8; 64],
-    starts: &'a [u32; 64],
-    offsets: &'a [u32; 64],
-    variables: &'a [u32],
-    sources: &'a [u32],
-    counts: &'a [u32],
-    around: Around,
+fn write_part(
+    tree: &Standing,
+    around: &Around,
     i: usize,
     index: usize,
     fuel: usize,
-    out: &'b mut [u32],
+    out: &mut [u32],
 ) -> usize
-    requires { PartAsked script.now starts.now offsets.now variables.now sources.now counts.now around i index fuel out.old }
-    ensures { WritesPart (indices_of around) (bindings_in script.now variables.now sources.now) (body_in kids.now) (heads script.now kinds.now starts.now offsets.now) (body_in kids.now i) (heads script.now kinds.now starts.now offsets.now i) index fuel out.old out.new result }
+    requires { PartAsked tree.now around.now i index fuel out.old }
+    ensures { WritesPart (indices_of around.now) (bindings_under tree.now) (bodies_in tree.now) (heads_in tree.now) (bodies_in tree.now i) (heads_in tree.now i) index fuel out.old out.new result }
 {
-    let kind = kinds[i];
-    let start = starts[i];
-    let offset = offsets[i];
+    let kind = tree.kinds[i];
+    let start = tree.starts[i];
+    let offset = tree.offsets[i];
     let m = write_head(
-        script, kind, start, offset, variables, sources, counts, around, out,
+        tree.script,
+        kind,
+        start,
+        offset,
+        tree.bindings,
+        around,
+        out,
     );
     if has_body(kind) {
-        let inside = kids[i];
+        let inside = around_body(around, kind, start, index as u32);
         return write_body(
-            script,
-            kids,
-            kinds,
-            starts,
-            offsets,
-            variables,
-            sources,
-            counts,
-            around_body(around, kind, start, index as u32),
-            inside,
+            tree,
+            &inside,
+            tree.kids[i],
             index + m,
             fuel,
             &mut out[m..],
@@ -79,59 +73,28 @@ fn write_part<'a, 'b>(
 
 // Writes the body whose parts are left, its first word having the index.
 #[cycle(write_body_write_part)]
-fn write_body<'a, 'b>(
-    script: &'a [u32],
-    kids: &'a [u64; 65],
-    kinds: &'a [u8; 64],
-    starts: &'a [u32; 64],
-    offsets: &'a [u32; 64],
-    variables: &'a [u32],
-    sources: &'a [u32],
-    counts: &'a [u32],
-    around: Around,
+fn write_body(
+    tree: &Standing,
+    around: &Around,
     left: u64,
     index: usize,
     fuel: usize,
-    out: &'b mut [u32],
+    out: &mut [u32],
 ) -> usize
-    requires { BodyAsked script.now starts.now offsets.now variables.now sources.now counts.now around index fuel out.old }
-    ensures { Writes (indices_of around) (bindings_in script.now variables.now sources.now) (body_in kids.now) (heads script.now kinds.now starts.now offsets.now) (members left) index fuel out.old out.new result }
+    requires { BodyAsked tree.now around.now index fuel out.old }
+    ensures { Writes (indices_of around.now) (bindings_under tree.now) (bodies_in tree.now) (heads_in tree.now) (members left) index fuel out.old out.new result }
 {
     if out.len() == 0 {
         return 0;
     }
-    if left == 0 {
-        return write_word(0, out);
-    }
-    if fuel == 0 {
-        return write_word(0, out);
+    if left == 0 || fuel == 0 {
+        return write_word(CLOSE_WORD, out);
     }
     let i = base_sets::first(left);
-    let m = write_part(
-        script,
-        kids,
-        kinds,
-        starts,
-        offsets,
-        variables,
-        sources,
-        counts,
-        around,
-        i,
-        index,
-        fuel - 1,
-        out,
-    );
+    let m = write_part(tree, around, i, index, fuel - 1, out);
     let others = base_sets::rest(left);
     write_body(
-        script,
-        kids,
-        kinds,
-        starts,
-        offsets,
-        variables,
-        sources,
-        counts,
+        tree,
         around,
         others,
         index + m,
@@ -140,54 +103,27 @@ fn write_body<'a, 'b>(
     ) + m
 }
 
-// Writes the tree at the front of the buffer, if it fits in the first 2^28 words.
-pub fn write_tree<'a, 'b>(
-    script: &'a [u32],
-    kids: &'a [u64; 65],
-    kinds: &'a [u8; 64],
-    starts: &'a [u32; 64],
-    offsets: &'a [u32; 64],
-    variables: &'a [u32],
-    sources: &'a [u32],
-    counts: &'a [u32],
-    sizes: &'a [u32],
-    bulks: &'a [u32],
-    out: &'b mut [u32],
-) -> Fitting
-    requires { TreeAsked script.now starts.now offsets.now variables.now sources.now counts.now sizes.now bulks.now }
-    ensures { (b : Closure) → body_in kids.now 64 ≡ tops b → Held (body_in kids.now) (heads script.now kinds.now starts.now offsets.now) b → parts b ≤ 64 → Fitted (write [] 0 (unfolded (bindings_in script.now variables.now sources.now) b)) out.old out.new result }
+// Writes the tree at the front of the buffer, if it fits in the first 2^28 words; says how many words it wrote.
+pub fn write_tree(tree: &Standing, out: &mut [u32]) -> Result<u32, Refusal>
+    requires { TreeAsked tree.now }
+    ensures { (b : Closure) → bodies_in tree.now 64 ≡ tops b → Held (bodies_in tree.now) (heads_in tree.now) b → parts b ≤ 64 → Fitted (write [] 0 (unfolded (bindings_under tree.now) b)) out.old out.new result }
 {
-    let n = count_words(
-        script, kids, kinds, starts, offsets, variables, sources, counts, sizes, bulks,
-    );
-    if 268435456 < n {
-        return Fitting::Refused {
-            question: 19,
-            place: 0,
-        };
-    }
+    let n = count_words(tree);
     let words = wide(n);
-    if out.len() < words {
-        return Fitting::Refused {
-            question: 19,
-            place: 0,
-        };
+    if MOST_WORDS < n || out.len() < words {
+        return Err(Refusal {
+            question: TREE_FITS,
+            place: NO_WORD,
+        });
     }
-    let top = kids[64];
+    let around = nothing_around();
     write_body(
-        script,
-        kids,
-        kinds,
-        starts,
-        offsets,
-        variables,
-        sources,
-        counts,
-        nothing_around(),
-        top,
+        tree,
+        &around,
+        tree.kids[TOP],
         0,
-        64,
+        MOST_PARTS,
         &mut out[..words],
     );
-    Fitting::Words(n)
+    Ok(n)
 }

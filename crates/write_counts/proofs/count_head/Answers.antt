@@ -3,11 +3,11 @@ use Rattle.write_counts.proofs.Counting.{count-action, count-receipt, count-mess
 use borrow.Author.Rules.{rules}
 use Rattle.write_counts.proofs.count_head.Goals as goal
 
-pub returns-then-kind-eq2 : goal.returns-then-kind-eq2
-returns-then-kind-eq2 c ix = search (count-action, rules)
+pub returns-in-2 : goal.returns-in-2
+returns-in-2 c ix = search (count-action, rules)
 
-pub returns-then-kind-eq3 : goal.returns-then-kind-eq3
-returns-then-kind-eq3 c ix = count-receipt _ _ _ _ ix _ c.if-kind-eq3.true
+pub returns-in-3 : goal.returns-in-3
+returns-in-3 c ix = count-receipt _ _ _ _ ix _ c.in-3.is
 
-pub returns : goal.returns
-returns c ix = search (count-message, rules)
+pub returns-in_default : goal.returns-in_default
+returns-in_default c ix = search (count-message, rules)

@@ -5,4 +5,4 @@ use Rattle.engine_bindings.proofs.Counting.{rank}
 use Rattle.write_messages.proofs.+write_from.Given as goal
 
 abbrev pub decreases-write_from : goal.decreases-write_from
-decreases-write_from l = rank (length l.variables.now) (3 * length l.words.now + l.pending)
+decreases-write_from l = rank (length l.bindings.now) (3 * length l.words.now + l.pending)

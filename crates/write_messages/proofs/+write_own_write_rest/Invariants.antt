@@ -6,7 +6,7 @@ use Rattle.engine_bindings.proofs.Counting.{rank}
 use Rattle.write_messages.proofs.+write_own_write_rest.Given as goal
 
 abbrev pub decreases-write_own : goal.decreases-write_own
-decreases-write_own l = rank (length l.variables.now) 0
+decreases-write_own l = rank (length l.bindings.now) 0
 
 abbrev pub decreases-write_rest : goal.decreases-write_rest
-decreases-write_rest l = rank (length l.variables.now) (suc (3 * length l.words.now + l.pending))
+decreases-write_rest l = rank (length l.bindings.now) (suc (3 * length l.words.now + l.pending))

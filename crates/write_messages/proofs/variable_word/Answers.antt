@@ -1,26 +1,13 @@
--- `variable_word` meets its contract: the index that is kept with the receipt. Assumes nothing.
-use Prim.Native.Nat.{ℕ, ◌+◌, ◌≤◌}
-use mathlib.Core.List.{List}
-use mathlib.Core.Path.{◌≡◌, ap}
-use lib.ListN.{length, get_or}
-use Rattle.read_messages.specs.Words.{word}
-use Rattle.engine_message_words.specs.Words.{newest_binding}
-use Rattle.theory_written_trees.specs.Write.{new_index}
-use Rattle.write_messages.specs.Indices.{indices_in, Indexed}
-use Rattle.write_messages.proofs.Receipts.{index-found, index-none}
-use borrow.Author.Rules.{rules}
+-- `variable_word` meets its contract: the first receipt of the variable has its new index. Assumes nothing.
+use mathlib.Core.Path.{◌∙◌}
+use Rattle.write_messages.proofs.Receipts.{free_word, found_word, word_behind}
 use Rattle.write_messages.proofs.variable_word.Goals as goal
 
-found_word : (vs is : List ℕ) (v k : ℕ) → Indexed vs is → k ≡ newest_binding vs v → 2415919104 + get_or is k 0 ≡ word 9 (new_index (indices_in vs is) v)
-unfolding word
-found_word vs is v k ok e = ap (λ (x : ℕ). 2415919104 + x) (index-found vs is v k ok e)
+pub returns-then-r-v : goal.returns-then-r-v
+returns-then-r-v c = found_word _ _ _ c.loop-r-test.true c.if-r-v.true ∙ c.loop-r.invariant
 
-none-word : (vs is : List ℕ) (v k : ℕ) → Indexed vs is → k ≡ newest_binding vs v → length vs ≤ k → 2415919104 ≡ word 9 (new_index (indices_in vs is) v)
-unfolding word
-none-word vs is v k ok e h = ap (λ (x : ℕ). 2415919104 + x) (index-none vs is v k ok e h)
-
-pub returns-then-k-receipts : goal.returns-then-k-receipts
-returns-then-k-receipts c = search (found_word, rules)
+pub loop-r-preserved : goal.loop-r-preserved
+loop-r-preserved c = word_behind _ _ _ c.loop-r-test.true c.if-r-v.false ∙ c.loop-r.invariant
 
 pub returns : goal.returns
-returns c = search (none-word, rules)
+returns c = free_word _ _ _ c.loop-r-test.false ∙ c.loop-r.invariant
