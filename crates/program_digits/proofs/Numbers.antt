@@ -48,14 +48,6 @@ puts-hexadecimal (suc k) w d l x e y =
     let s : suc k - 1 ≡ k = omega arith in
     puts-as (λ t. hexadecimal (s t) (w / 16) ++ (e t ∷ [])) (puts-more x y)
 
-pub digit_low : (d : ℕ) → d < 10 → 48 + d ≡ digit d
-unfolding digit
-digit_low d l = rw (lt-ltb d 10 l) refl
-
-pub digit-high : (d : ℕ) → 10 ≤ d → 55 + d ≡ digit d
-unfolding digit
-digit-high d l = rw (le-ltb d 10 l) refl
-
 -- ---- words, one a line
 
 lines-append : (a b : List ℕ) → lines (a ++ b) ≡ lines a ++ lines b

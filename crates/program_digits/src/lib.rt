@@ -40,6 +40,7 @@ pub fn put_decimal(text: &mut [u8], at: usize, n: u64) -> usize
 }
 
 // An upper-case hexadecimal digit.
+#[tactic(auto, unfolding(crate::specs::Digits::digit))]
 fn glyph(d: u32) -> u8
     requires { d < 16 }
     ensures { result ≡ digit d }

@@ -1,27 +1,19 @@
 -- What is replied to the words of an input: the lists that it counts, and the text of their call's answer. Assumes nothing:
 -- these are definitions.
-use Rattle.std.specs.Prelude.{ℕ, cond, List, [], ◌∷◌, leb, length, take, drop, replicate}
-use Rattle.std.proofs.Math.Option.{Option, none, some}
+use Rattle.std.specs.Prelude.{ℕ, cond, Option, None, Some, List, [], ◌∷◌, leb, length, take, drop, replicate}
 use Rattle.theory_call.specs.Call.{answer}
 use Rattle.call_answers.specs.Answering.{call_of}
 use Rattle.program_text.specs.Text.{unfit_text, answer_text}
-use Rattle.program_replies.specs.declared.Counted.{Counted}
-use Rattle.program_replies.specs.declared.Counted.TheVariants.{Words, Short}
 
 -- a count and so many words: those words, and the words behind them
 unfoldable pub counted : List ℕ → Option (List ℕ × List ℕ)
-counted [] = none
-counted (n ∷ s) = cond (leb n (length s)) (some (take n s, drop n s)) none
-
--- what the code's count of words says of the words that it was read from
-unfoldable pub counted_by : Counted → List ℕ → Option (List ℕ × List ℕ)
-counted_by (Words n) s = some (take n (drop 1 s), drop n (drop 1 s))
-counted_by Short s = none
+counted [] = None
+counted (n ∷ s) = cond (leb n (length s)) (Some (take n s, drop n s)) None
 
 -- what is replied to a list with a count, or without
 unfoldable pub replied : Option (List ℕ × List ℕ) → (List ℕ → List ℕ → List ℕ) → List ℕ
-replied none k = unfit_text
-replied (some p) k = k p.0 p.1
+replied None k = unfit_text
+replied (Some p) k = k p.0 p.1
 
 -- "It lends 4,096 words." And, as document 02 has it, 256 for an itinerary, which is not printed.
 abbrev pub call_reply : (script moves rule : List ℕ) (patience : ℕ) → List ℕ

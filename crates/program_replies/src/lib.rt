@@ -2,35 +2,29 @@
 // answer, or that the input does not fit.
 #![tactic(auto)]
 
-ghost use Rattle.std.specs.Prelude.{◌≡◌};
+ghost use Rattle.std.specs.Prelude.{◌≡◌, MatchOption};
 ghost use Rattle.program_digits.specs.Digits.{Puts};
-ghost use Rattle.program_replies.specs.Reply.{counted, counted_by, call_reply, rule_reply, moves_reply, script_reply, words_reply};
+ghost use Rattle.program_replies.specs.Reply.{counted, call_reply, rule_reply, moves_reply, script_reply, words_reply};
 
-use base_slices::{head, tail};
 use checker::call;
 use program_text::{put_answer, put_unfit};
 
-// How many words a count at the start of a slice counts, or that there are not so many behind it.
-#[derive(Drop)]
-enum Counted {
-    Words(usize),
-    Short,
-}
+// "It lends 4,096 words."
+const OUT_WORDS: usize = 4096;
 
-fn read_count(s: &[u32]) -> Counted
-    ensures { counted_by result s.now ≡ counted s.now }
+// And 256 for an itinerary, which is not printed.
+const LIST_WORDS: usize = 256;
+
+// The words that a count at the start of a slice counts, and those behind them; none where there are not so many.
+#[tactic(auto, unfolding(crate::specs::Reply::counted))]
+fn read_count(s: &[u32]) -> Option<(&[u32], &[u32])>
+    ensures { MatchOption result (counted s.now ≡ None) (λ p. counted s.now ≡ Some (p.0.now, p.1.now)) }
 {
-    if s.len() == 0 {
-        return Counted::Short;
-    }
-    let n = s[0] as usize;
-    if s.len() - 1 < n {
-        return Counted::Short;
-    }
-    Counted::Words(n)
+    let (n, rest) = s.split_first()?;
+    rest.split_at_checked(*n as usize)
 }
 
-// "It lends 4,096 words." And 256 for an itinerary, which is not printed.
+// The text of the call's answer.
 fn put_call<'a>(
     script: &'a [u32],
     moves: &'a [u32],
@@ -40,13 +34,14 @@ fn put_call<'a>(
 ) -> usize
     ensures { Puts text.old text.new 0 result (call_reply script.now moves.now rule.now patience) }
 {
-    let mut out = [0u32; 4096];
-    let mut list = [0u32; 256];
+    let mut out = [0u32; OUT_WORDS];
+    let mut list = [0u32; LIST_WORDS];
     let a = call(script, moves, rule, patience, &mut out, &mut list);
     put_answer(text, a, &out)
 }
 
 // What stands behind the rule: "patience, filling the input exactly".
+#[tactic(auto, unfolding(crate::specs::Reply::rule_reply))]
 fn reply_with_rule<'a>(
     script: &'a [u32],
     moves: &'a [u32],
@@ -56,44 +51,41 @@ fn reply_with_rule<'a>(
 ) -> usize
     ensures { Puts text.old text.new 0 result (rule_reply script.now moves.now rule.now s.now) }
 {
-    if s.len() != 1 {
+    let [patience] = s else {
         return put_unfit(text);
-    }
-    put_call(script, moves, rule, s[0], text)
+    };
+    put_call(script, moves, rule, *patience, text)
 }
 
 // "rule count, rule"
+#[tactic(auto, unfolding(crate::specs::Reply::replied))]
 fn reply_with_moves<'a>(script: &'a [u32], moves: &'a [u32], s: &'a [u32], text: &mut [u8]) -> usize
     ensures { Puts text.old text.new 0 result (moves_reply script.now moves.now s.now) }
 {
-    let c = read_count(s);
-    let Counted::Words(n) = c else {
+    let Some((rule, rest)) = read_count(s) else {
         return put_unfit(text);
     };
-    let rest = tail(s, 1);
-    reply_with_rule(script, moves, head(rest, n), tail(rest, n), text)
+    reply_with_rule(script, moves, rule, rest, text)
 }
 
 // "move count, moves"
+#[tactic(auto, unfolding(crate::specs::Reply::replied))]
 fn reply_with_script<'a>(script: &'a [u32], s: &'a [u32], text: &mut [u8]) -> usize
     ensures { Puts text.old text.new 0 result (script_reply script.now s.now) }
 {
-    let c = read_count(s);
-    let Counted::Words(n) = c else {
+    let Some((moves, rest)) = read_count(s) else {
         return put_unfit(text);
     };
-    let rest = tail(s, 1);
-    reply_with_moves(script, head(rest, n), tail(rest, n), text)
+    reply_with_moves(script, moves, rest, text)
 }
 
 // "script count, script"
+#[tactic(auto, unfolding(crate::specs::Reply::replied))]
 pub fn reply_to_words(s: &[u32], text: &mut [u8]) -> usize
     ensures { Puts text.old text.new 0 result (words_reply s.now) }
 {
-    let c = read_count(s);
-    let Counted::Words(n) = c else {
+    let Some((script, rest)) = read_count(s) else {
         return put_unfit(text);
     };
-    let rest = tail(s, 1);
-    reply_with_script(head(rest, n), tail(rest, n), text)
+    reply_with_script(script, rest, text)
 }

@@ -65,6 +65,7 @@ fn put_said(text: &mut [u8], said: &[u8], a: Answer, out: &[u32]) -> usize
 }
 
 // An answer as text.
+#[tactic(auto, unfolding(call_answers::specs::Answering::verdict_of, call_answers::specs::Answering::answer_of, crate::specs::Text::said_text, crate::specs::Text::verdict_text))]
 pub fn put_answer(text: &mut [u8], a: Answer, out: &[u32]) -> usize
     ensures { Puts text.old text.new 0 result (answer_text (answer_of a out.now)) }
 {

@@ -2,7 +2,7 @@
 use Prim.Native.Nat.{ℕ, zero, suc, ◌+◌, ◌*◌, ◌-◌, ◌/◌, ◌%◌, ◌≤◌, min}
 use mathlib.Core.Bool.{Bool, true, false, cond, ◌&&◌}
 use mathlib.Core.List.{List, [], ◌∷◌, ◌++◌}
-use mathlib.Core.Option.{Option, none, some}
+use Rattle.std.specs.Prelude.{Option, None, Some}
 use mathlib.Core.Path.{◌≡◌, refl, sym, ap, ◌∙◌, subst}
 use native.Mathlib.Omega.{arith}
 use borrow.Author.Tests.{leb-true}
@@ -138,8 +138,8 @@ rule-short script moves rule (p ∷ q ∷ s) = unfit-short
 
 replied-short : (o : Option (List ℕ × List ℕ)) (k : List ℕ → List ℕ → List ℕ) → ((a b : List ℕ) → Short (k a b)) → Short (replied o k)
 unfolding replied
-replied-short none k h = unfit-short
-replied-short (some p) k h = h p.0 p.1
+replied-short None k h = unfit-short
+replied-short (Some p) k h = h p.0 p.1
 
 words-short : (s : List ℕ) → Short (words_reply s)
 words-short s =

@@ -3,14 +3,14 @@
 use Prim.Native.Nat.{ℕ, ◌/◌, ◌%◌, ◌≤◌}
 use mathlib.Core.Bool.{Bool, true, false, ◌&&◌, and-eq-true_iff}
 use mathlib.Core.List.{List, [], ◌∷◌, ◌++◌, append_assoc}
-use mathlib.Core.Option.{Option, none, some}
+use Rattle.std.specs.Prelude.{Option, None, Some}
 use mathlib.Core.Path.{◌≡◌, refl, sym, ap, ◌∙◌, subst}
 use native.Mathlib.Omega.{arith}
 use lib.Dec.{leb, eqb}
-use lib.ListN.{length, take, get_or, replicate, length-take, take-append-drop}
+use lib.ListN.{length, drop, take, get_or, replicate, length-take, take-append-drop}
 use borrow.Author.Tests.{leb-true, eqb-true}
 use Rattle.base_slices.proofs.Tests.{by_test}
-use Rattle.theory_machine.proofs.Options.{some_is, none≢some}
+use Rattle.std.proofs.lemmas.Option.{none-some, same_Some}
 use Rattle.theory_call.specs.Call.{Call, Verdict, accepted, refused, Answer, answer}
 use Rattle.theory_call.specs.Standing.{Decides}
 use Rattle.theory_call.proofs.Answers.{refused≢accepted}
@@ -83,21 +83,21 @@ rule-tells script moves rule (p ∷ []) = call-tells script moves rule p
 rule-tells script moves rule (p ∷ q ∷ s) = λ a b. unfit-silent a b
 
 -- a list that is counted stands behind its count
-counted_is : (s : List ℕ) (p : List ℕ × List ℕ) → counted s ≡ some p → s ≡ counting p.0 ++ p.1
+counted_is : (s : List ℕ) (p : List ℕ × List ℕ) → counted s ≡ Some p → s ≡ counting p.0 ++ p.1
 unfolding counted
-counted_is [] p e = none≢some e
+counted_is [] p e = absurd (none-some p e)
 counted_is (n ∷ s) p e = by_test (leb n (length s))
     (λ t. let k : length (take n s) ≡ n = omega (arith, length-take n s, leb-true n (length s) t) in
-    subst (λ (x : List ℕ × List ℕ). n ∷ s ≡ counting x.0 ++ x.1) (some_is (rw t at e)) (rw (k, take-append-drop n s)))
-    (λ t. none≢some (rw t at e))
+    subst (λ (x : List ℕ × List ℕ). n ∷ s ≡ counting x.0 ++ x.1) (same_Some (take n s, drop n s) p (rw t at e)) (rw (k, take-append-drop n s)))
+    (λ t. absurd (none-some p (rw t at e)))
 
 replied-tells : (before s : List ℕ) (k : List ℕ → List ℕ → List ℕ) → ((a b : List ℕ) → Tells (before ++ counting a ++ b) (k a b)) → Tells (before ++ s) (replied (counted s) k)
 unfolding replied
 replied-tells before s k f = by (counted s) refl
   where
     by : (o : Option (List ℕ × List ℕ)) → counted s ≡ o → Tells (before ++ s) (replied o k)
-    by none e = λ a b. unfit-silent a b
-    by (some p) e = subst (λ (l : List ℕ). Tells l (k p.0 p.1)) (append_assoc before (counting p.0) p.1 ∙ ap (λ (l : List ℕ). before ++ l) (sym (counted_is s p e))) (f p.0 p.1)
+    by None e = λ a b. unfit-silent a b
+    by (Some p) e = subst (λ (l : List ℕ). Tells l (k p.0 p.1)) (append_assoc before (counting p.0) p.1 ∙ ap (λ (l : List ℕ). before ++ l) (sym (counted_is s p e))) (f p.0 p.1)
 
 words-tell : (s : List ℕ) → Tells s (words_reply s)
 words-tell s =

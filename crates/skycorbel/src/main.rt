@@ -18,13 +18,24 @@ use program_words::unpack;
 use std::io;
 use std::io::{Read, Write};
 
+// The bytes that an input may have, and the words that they spell.
+const INPUT_BYTES: usize = 24576;
+
+const INPUT_WORDS: usize = INPUT_BYTES / 4;
+
+// One byte more is asked for, so that too long an input is seen.
+const ASKED_BYTES: usize = INPUT_BYTES + 1;
+
+// The bytes of the text: room for every reply.
+const TEXT_BYTES: usize = 40960;
+
 // The reply to an input of so many whole words.
 fn reply_to_bytes(input: &[u8], count: usize, text: &mut [u8]) -> usize
     requires whole { 4 * count ≤ length input.now }
-    requires few { count ≤ 6144 }
+    requires few { count ≤ INPUT_WORDS }
     ensures { Puts text.old text.new 0 result (words_reply (words_of count input.now)) }
 {
-    let mut words = [0u32; 6144];
+    let mut words = [0u32; INPUT_WORDS];
     unpack(input, count, &mut words);
     reply_to_words(head(&words, count), text)
 }
@@ -32,13 +43,13 @@ fn reply_to_bytes(input: &[u8], count: usize, text: &mut [u8]) -> usize
 // What the program writes for what it reads. "else, or above 24,576 bytes, it prints `refused 20 at 0`." Where it begins with
 // `yes` or `no`, that is so by the paper's own relation.
 fn reply(input: &[u8], text: &mut [u8]) -> usize
-    requires { 40960 ≤ length text.old }
+    requires { TEXT_BYTES ≤ length text.old }
     ensures counted { IsPrefixLen result text.new }
     ensures replied { take result text.new ≡ reply_of input.now }
     ensures right { Right input.now (take result text.new) }
 {
     let n = input.len();
-    if 24576 < n {
+    if INPUT_BYTES < n {
         return put_unfit(text);
     }
     if n % 4 != 0 {
@@ -47,7 +58,8 @@ fn reply(input: &[u8], text: &mut [u8]) -> usize
     reply_to_bytes(input, n / 4, text)
 }
 
-// Reads until the buffer is full or the input ends, and returns how many bytes it put at the start of the buffer.
+// Reads until the buffer is full or the input ends, and returns how many bytes it put at the start of the buffer. No library
+// call reads so into fixed memory: `read_exact` fails where the input ends, and `read_to_end` wants a heap.
 fn read_full(mut input: io::Stdin, buffer: &mut [u8]) -> io::Result<usize>
     ensures { ReadsAtMost result buffer.new }
 {
@@ -62,11 +74,10 @@ fn read_full(mut input: io::Stdin, buffer: &mut [u8]) -> io::Result<usize>
     Ok(done)
 }
 
-// One byte more than may be read is asked for, so that too long an input is seen.
 fn main(rt: HostRuntime) -> io::Result<()> {
-    let mut input = [0u8; 24577];
+    let mut input = [0u8; ASKED_BYTES];
     let n = read_full(rt.stdin(), &mut input)?;
-    let mut text = [0u8; 40960];
+    let mut text = [0u8; TEXT_BYTES];
     let k = reply(&input[..n], &mut text);
     rt.stdout().write_all(&text[..k])
 }

@@ -4,8 +4,8 @@ use Rattle.skycorbel.proofs.Bounds.{puts-all}
 use borrow.Author.Rules.{rules}
 use Rattle.skycorbel.proofs.reply.Goals as goal
 
-pub returns-then-n-gt24576 : goal.returns-then-n-gt24576
-returns-then-n-gt24576 c =
+pub returns-then-n-gt-INPUT_BYTES : goal.returns-then-n-gt-INPUT_BYTES
+returns-then-n-gt-INPUT_BYTES c =
     let (p, (q, r)) = puts-all c.args.text.now {new = c.put_unfit.new.text} c.args.input.now {r = c.put_unfit.result} c.requires (search (puts-long, rules)) in
     record { counted = p; replied = q; right = r }
 
