@@ -12,8 +12,9 @@ use Rattle.read_messages.specs.Message.{Message, name, variable, enter, exit, op
 use Rattle.read_scripts.specs.Tree.{Head, part, PlainHead, Plain}
 use Rattle.read_scripts.specs.Script.{Script, guarded_from, part_from}
 use Rattle.read_script_words.specs.ScriptWords.{part_word, part_fits}
+use Rattle.std.specs.Prelude.{Option, Some, None}
 use Rattle.read_script_words.specs.declared.PartWord.{PartWord}
-use Rattle.read_script_words.specs.declared.PartWord.TheVariants.{Close, Ambient, Action, Receipt, Output, No}
+use Rattle.read_script_words.specs.declared.PartWord.TheVariants.{Close, Ambient, Action, Receipt, Output}
 use Rattle.theory_written_trees.specs.Write.{Indices, write_message, one_message, write_head, within, write_inside, write, write_part}
 use Rattle.theory_written_trees.proofs.Trees.{write-part}
 use Rattle.theory_calculus.specs.Calculus.{Process}
@@ -101,19 +102,19 @@ whole-all P (i ∷ (j ∷ is)) x = (x.0, whole-all P (j ∷ is) x.1)
 -- ---- parts
 
 -- the word of a part
-abbrev pub IsPart : PartWord → Type 0
-IsPart Close = ⊥
-IsPart Ambient = Unit {0}
-IsPart Action = Unit {0}
-IsPart Receipt = Unit {0}
-IsPart Output = Unit {0}
-IsPart (No q) = Unit {0}
+abbrev pub IsPart : Option PartWord → Type 0
+IsPart (Some Close) = ⊥
+IsPart (Some Ambient) = Unit {0}
+IsPart (Some Action) = Unit {0}
+IsPart (Some Receipt) = Unit {0}
+IsPart (Some Output) = Unit {0}
+IsPart None = Unit {0}
 
 -- a part that has the message m and a body: how its words are read and written, the shape and the free variables of its
 -- process, its nesting
 pub record Guarded (h : PlainHead) (m : Message) : Type 0 where
   pub own : ℕ
-  pub says : PartWord
+  pub says : Option PartWord
   pub worded : part_word own ≡ says
   pub parted : IsPart says
   pub fitted : part_fits says ≡ true
@@ -130,7 +131,7 @@ pub ambient-guarded : (m : Message) → Guarded (Head.ambient m) m
 unfolding part_word kind operand word part_fits part_from write_part write_head write_inside within process_shape written_part piece free part_nesting
 ambient-guarded m = record {
   own = word 1 0;
-  says = Ambient;
+  says = Some Ambient;
   worded = refl;
   parted = tt;
   fitted = refl;
@@ -146,7 +147,7 @@ pub action-guarded : (is : List Message) → Guarded (Head.action is) (one_messa
 unfolding part_word kind operand word part_fits part_from write_part write_head write_inside within process_shape written_part piece part_nesting
 action-guarded is = record {
   own = word 2 0;
-  says = Action;
+  says = Some Action;
   worded = refl;
   parted = tt;
   fitted = refl;

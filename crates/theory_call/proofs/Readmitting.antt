@@ -22,6 +22,7 @@ use Rattle.read_scripts.specs.Tree.{Head, close, part, parts, bare, settle, Plai
 use Rattle.read_scripts.specs.Script.{Written, Script, part_from, or_close, read_body, read_script, head_with_items, with_items, started}
 use Rattle.read_script_words.specs.ScriptWords.{part_word}
 use Rattle.read_script_words.specs.ScriptWords as script
+use Rattle.std.specs.Prelude.{Option, Some}
 use Rattle.read_script_words.specs.declared.PartWord.{PartWord}
 use Rattle.read_script_words.specs.declared.PartWord.TheVariants.{Close, Receipt, Output}
 use Rattle.read_scripts.proofs.Cases as body
@@ -218,7 +219,7 @@ message-only ix s around (path m n) a b f nest c rest e l =
 abbrev Scoped : Indices → (around : List ℕ) → Process → Type 0
 Scoped ix around p = (v : ℕ) → ¬ (free v p ≡ 0) → member (new_index ix v) around ≡ true
 
-close-judged : (n : ℕ) (w : PartWord) (c : Cursor) (k : Reading (Script × Cursor)) → w ≡ Close → n ≤ 64 → Judged n (or_close w c k)
+close-judged : (n : ℕ) (w : Option PartWord) (c : Cursor) (k : Reading (Script × Cursor)) → w ≡ Some Close → n ≤ 64 → Judged n (or_close w c k)
 unfolding or_close
 close-judged n w c k e l = rw e (passed l)
 
@@ -234,7 +235,7 @@ close-first (suc f) nest around c ws e l =
 
 -- a is the greatest nesting of the part's words behind its own, b of the words behind the part
 part-first : (f nest a b n : ℕ) → n ≡ max nest (max a b) → (around : List ℕ) (c : Cursor) (w : ℕ) (ws : List ℕ) → c.left ≡ w ∷ ws → length c.left ≤ f
-    → (W : PartWord) → part_word w ≡ W → IsPart W → script.part_fits W ≡ true
+    → (W : Option PartWord) → part_word w ≡ W → IsPart W → script.part_fits W ≡ true
     → ((g : ℕ) (d : Cursor) → d.left ≡ ws → d.index ≡ suc c.index → length d.left ≤ g
     → Judged a (part_from (read_message g nest around) (read_body g (suc nest)) around W c.index d)
     × ((x : (Written × Script) × Cursor) → part_from (read_message g nest around) (read_body g (suc nest)) around W c.index d ≡ got x → Judged b (read_body g nest around x.1)))
@@ -250,9 +251,9 @@ part-first (suc f) nest a b n o around c w ws e l W t k fit h =
     (judged-then nest (max a b) n o (ask 4 c.index (leb nest 64)) _ (judged-level nest c.index)
     (λ _ _ m. subst (Judged (max a b)) (sym (part-all (part_word w) d _ (subst IsPart (sym t) k)))
     (judged-then a b (max a b) refl (part_from (read_message f nest around) (read_body f (suc nest)) around (part_word w) c.index (next_part d)) _
-    (subst (λ (o : PartWord). Judged a (part_from (read_message f nest around) (read_body f (suc nest)) around o c.index (next_part d))) (sym t) H.0)
+    (subst (λ (o : Option PartWord). Judged a (part_from (read_message f nest around) (read_body f (suc nest)) around o c.index (next_part d))) (sym t) H.0)
     (λ v y _. judged-last b b refl (read_body f nest around v.1) (λ r. (part c.number v.0.0 v.0.1 r.0, r.1))
-    (H.1 v (subst (λ (o : PartWord). part_from (read_message f nest around) (read_body f (suc nest)) around o c.index (next_part d) ≡ got v) t y)))))))
+    (H.1 v (subst (λ (o : Option PartWord). part_from (read_message f nest around) (read_body f (suc nest)) around o c.index (next_part d) ≡ got v) t y)))))))
 
 -- the words of a body whose variables' receipts stand around are judged by its nesting
 abbrev BodyOnly : Plain → Type 0
@@ -331,7 +332,7 @@ receipt-scoped ix around v i p sc u d = by_test (eqb v u)
 receipt-only : (v k : ℕ) (b r : Plain) → AnyBack b → BodyOnly b → BodyOnly r → BodyOnly (part k (Head.receipt v) b r)
 unfolding process piece free part_from script.part_fits nesting part_nesting part_word kind operand word
 receipt-only v k b r A B R ix s around sc f nest c i rest ei e l n =
-    part-first f nest (suc nest + nesting b) (nest + nesting r) _ deep around c (word 3 0) (inner ++ (outer ++ rest)) L.spelled n Receipt refl tt refl
+    part-first f nest (suc nest + nesting b) (nest + nesting r) _ deep around c (word 3 0) (inner ++ (outer ++ rest)) L.spelled n (Some Receipt) refl tt refl
     (λ g d dl di dn.
     let room : j₀ + length d.left ≤ 268435456 = subst (λ (o : List ℕ). j₀ + length o ≤ 268435456) (sym dl) L.inside in
     let dj : d.index ≡ j₀ = omega (arith, di, ei) in (
@@ -375,7 +376,7 @@ receipt-only v k b r A B R ix s around sc f nest c i rest ei e l n =
 output-only : (m : Message) → MessageAll Sound m → (k : ℕ) (b r : Plain) → BodyOnly r → BodyOnly (part k (Head.output m) b r)
 unfolding process piece free part_from script.part_fits nesting part_nesting part_word kind operand word
 output-only m names k b r R ix s around sc f nest c i rest ei e l n =
-    part-first f nest (nest + message_nesting m) (nest + nesting r) _ deep around c (word 4 0) (write_message ix m ++ (outer ++ rest)) L.spelled n Output refl tt refl
+    part-first f nest (nest + message_nesting m) (nest + nesting r) _ deep around c (word 4 0) (write_message ix m ++ (outer ++ rest)) L.spelled n (Some Output) refl tt refl
     (λ g d dl di dn. (
       judged-last (nest + message_nesting m) _ refl (read_message g nest around d) (λ p. ((record { index = c.index; head = Head.output p.0 }, close), p.1))
           (message-only ix s around m names (λ v o. sc v (λ z. o (omega arith))) g nest d (outer ++ rest) dl dn),

@@ -16,8 +16,9 @@ use Rattle.read_messages.proofs.Readings.{refuse≢got, bind_all, got-all, next}
 use Rattle.read_scripts.specs.Tree.{Head, close, part, total_over, parts, PlainHead, Plain}
 use Rattle.read_scripts.specs.Script.{Written, Script, part_from, or_close, read_body, read_script}
 use Rattle.read_script_words.specs.ScriptWords.{part_word, part_fits}
+use Rattle.std.specs.Prelude.{Option, Some, None}
 use Rattle.read_script_words.specs.declared.PartWord.{PartWord}
-use Rattle.read_script_words.specs.declared.PartWord.TheVariants.{Close, Ambient, Action, Receipt, Output, No}
+use Rattle.read_script_words.specs.declared.PartWord.TheVariants.{Close, Ambient, Action, Receipt, Output}
 use Rattle.read_script_words.specs.ScriptWords.{greatest_name}
 use Rattle.read_scripts.proofs.Laws.{short}
 use Rattle.base_slices.proofs.Tests.{by_test, eqb_same}
@@ -42,22 +43,22 @@ use Rattle.theory_call.proofs.Rereading.{same_head, same_rest, Fitting, Back, Sm
 
 -- ---- bodies
 
-pub close-word : part_word (word 0 0) ≡ Close
+pub close-word : part_word (word 0 0) ≡ Some Close
 unfolding part_word kind operand word
 close-word = refl
 
-close-all : (P : Script × Cursor → Type 0) (w : PartWord) (c : Cursor) (k : Reading (Script × Cursor)) → w ≡ Close → P (close, c) → (b : Script × Cursor) → or_close w c k ≡ got b → P b
+close-all : (P : Script × Cursor → Type 0) (w : Option PartWord) (c : Cursor) (k : Reading (Script × Cursor)) → w ≡ Some Close → P (close, c) → (b : Script × Cursor) → or_close w c k ≡ got b → P b
 unfolding or_close
 close-all P w c k e h b x = got-all P (close, c) h b (rw e at x)
 
-pub part-all : (w : PartWord) (c : Cursor) (k : Reading (Script × Cursor)) → IsPart w → or_close w c k ≡ k
+pub part-all : (w : Option PartWord) (c : Cursor) (k : Reading (Script × Cursor)) → IsPart w → or_close w c k ≡ k
 unfolding or_close
-part-all Close c k h = absurd h
-part-all Ambient c k h = refl
-part-all Action c k h = refl
-part-all Receipt c k h = refl
-part-all Output c k h = refl
-part-all (No q) c k h = refl
+part-all (Some Close) c k h = absurd h
+part-all (Some Ambient) c k h = refl
+part-all (Some Action) c k h = refl
+part-all (Some Receipt) c k h = refl
+part-all (Some Output) c k h = refl
+part-all None c k h = refl
 
 -- a body whose first word is known: CLOSE, or the word of a part
 close-first : (P : Script × Cursor → Type 0) (f nest : ℕ) (around : List ℕ) (c : Cursor) (ws : List ℕ) → c.left ≡ word 0 0 ∷ ws
@@ -73,7 +74,7 @@ close-first P (suc f) nest around c ws e h =
     let z : word 0 0 ∷ ws ≡ q.0 ∷ q.1.left = sym e ∙ n.words in
     close-all P (part_word q.0) q.1 _ (ap part_word (sym (same_head z)) ∙ close-word) (h q.1 (sym (same_rest z)) n.index))))
 
-part-first : (P : Script × Cursor → Type 0) (f nest : ℕ) (around : List ℕ) (c : Cursor) (w : ℕ) (ws : List ℕ) → c.left ≡ w ∷ ws → (W : PartWord) → part_word w ≡ W → IsPart W
+part-first : (P : Script × Cursor → Type 0) (f nest : ℕ) (around : List ℕ) (c : Cursor) (w : ℕ) (ws : List ℕ) → c.left ≡ w ∷ ws → (W : Option PartWord) → part_word w ≡ W → IsPart W
     → ((g : ℕ) (d : Cursor) → d.left ≡ ws → d.index ≡ suc c.index → (x : (Written × Script) × Cursor) → part_from (read_message g nest around) (read_body g (suc nest)) around W c.index d ≡ got x
     → (r : Script × Cursor) → read_body g nest around x.1 ≡ got r → P (part c.number x.0.0 x.0.1 r.0, r.1))
     → (p : Script × Cursor) → read_body f nest around c ≡ got p → P p
@@ -91,7 +92,7 @@ part-first P (suc f) nest around c w ws e W t k h =
     (λ v e₁. bind_all P (read_body f nest around v.1) _
     (λ r e₂. got-all P _
     (h f (next_part q.1) (sym (same_rest z)) n.index v
-    (subst (λ (o : PartWord). part_from (read_message f nest around) (read_body f (suc nest)) around o c.index (next_part q.1) ≡ got v) u e₁) r e₂))) p
+    (subst (λ (o : Option PartWord). part_from (read_message f nest around) (read_body f (suc nest)) around o c.index (next_part q.1) ≡ got v) u e₁) r e₂))) p
     (sym (part-all (part_word q.0) q.1 _ (subst IsPart (sym u) k)) ∙ y))))
 
 -- the new indices of the variables free in a process stand before i, and have the names that the variables have
@@ -212,7 +213,7 @@ receipt-says v b ix i j l x e p f n ρ σ a =
 receipt-back : (v k : ℕ) (b r : Plain) → AnyBack b → AnyBack r → AnyBack (part k (Head.receipt v) b r)
 unfolding written part_from total_over part_word kind operand word
 receipt-back v k b r B R ix s f nest around c i rest ei e l =
-    part-first (Reread ix i (part k h b r) rest) f nest around c (word 3 0) (inner ++ (outer ++ rest)) L.spelled Receipt refl tt
+    part-first (Reread ix i (part k h b r) rest) f nest around c (word 3 0) (inner ++ (outer ++ rest)) L.spelled (Some Receipt) refl tt
     (λ g d dl di x xe.
     bind_all (Q g) (read_body g (suc nest) (c.index ∷ around) d) _
     (λ t z. got-all (Q g) _ (λ rr w.
@@ -263,7 +264,7 @@ output-says m b ix i x e p n ρ σ a =
 output-back : (m : Message) → MessageAll Fitting m → (k : ℕ) (b r : Plain) → AnyBack r → AnyBack (part k (Head.output m) b r)
 unfolding written part_from total_over part_word kind operand word
 output-back m names k b r R ix s f nest around c i rest ei e l =
-    part-first (Reread ix i (part k h b r) rest) f nest around c (word 4 0) (write_message ix m ++ (outer ++ rest)) L.spelled Output refl tt
+    part-first (Reread ix i (part k h b r) rest) f nest around c (word 4 0) (write_message ix m ++ (outer ++ rest)) L.spelled (Some Output) refl tt
     (λ g d dl di x xe.
     bind_all (Q g) (read_message g nest around d) _
     (λ q y. got-all (Q g) _ (λ rr w.
