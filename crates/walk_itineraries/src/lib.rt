@@ -6,6 +6,7 @@ ghost use Rattle.std.specs.Prelude.{◌≡◌, ◌-◌, ◌≤◌, ◌<◌, leng
 ghost use Rattle.walk_stages.specs.Visits.{Visitable};
 ghost use Rattle.walk_itineraries.specs.Leading.{move_word, Begins, Leads as Guides};
 
+use engine_state_arrays::{NUMBERS, SETS};
 use walk_rule_answers::next_count;
 use walk_stages::{Counts, DEPTHS, EARLY_END, NO_DEPTH, NO_VISIT, OPERANDS, WORDS, Walked};
 use walk_states::{Spot, Step, Walk, all_targets, next_state, next_turn};
@@ -21,8 +22,8 @@ pub struct Led {
 // A visit at SOMETIME up to its first move: its stop, or what the visit of the inner rule answers.
 fn begin(
     walk: &Walk,
-    sets: &[u64; 131],
-    numbers: &[u32; 481],
+    sets: &[u64; SETS],
+    numbers: &[u32; NUMBERS],
     chosen: &[u32; 256],
     spot: Spot,
     c: Counts,
@@ -63,8 +64,8 @@ fn note_move(list: &mut [u32; 256], left: usize, actor: usize, target: usize)
 // that makes it.
 pub fn lead(
     walk: &Walk,
-    sets: &[u64; 131],
-    numbers: &[u32; 481],
+    sets: &[u64; SETS],
+    numbers: &[u32; NUMBERS],
     chosen: &[u32; 256],
     spot: Spot,
     c: Counts,
@@ -81,6 +82,7 @@ pub fn lead(
     let mut targets: [u64; 64] = [0; 64];
     let homes = all_targets(sets, numbers, spot.top, walk.limits.limit, &mut targets);
     let mut now = begun;
+    // An iterator of turns would hold the same two numbers and lend the targets: no plainer.
     let mut turn = next_turn(&targets, 0, 0, walk.limits.limit);
     while turn.rest != 0 {
         let a = turn.from - 1;

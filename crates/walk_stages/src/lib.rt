@@ -48,7 +48,8 @@ pub struct Limits {
     pub limit: usize,
 }
 
-// Yes or no with the counts; or the question's number, the place and the visits made.
+// Yes or no with the counts; or the question's number, the place and the visits made. No Result: yes and no are both answers,
+// and a word goes on from either, so that a ? would hand up the wrong one.
 #[derive(Drop)]
 pub enum Walked {
     Yes(Counts),

@@ -23,7 +23,9 @@ ghost use Rattle.walk_stages.specs.Visits.{Lendable};
 use base_arrays::put;
 use engine_moves::make_move;
 use engine_settling::place_part;
-use engine_state_arrays::{bodies, from_arrays, to_arrays};
+use engine_state_arrays::{
+    ACTS, AIMS, NAMED, NAMES, NUMBERS, SETS, TOP, bodies, from_arrays, to_arrays,
+};
 use engine_states::State;
 use engine_targets::{put_homes, targets};
 use walk_stages::{Limits, PROGRAM};
@@ -56,8 +58,8 @@ pub struct Turn {
 // A state and its part table for lending, beside the set of its top parts.
 #[derive(Drop)]
 pub struct LentState {
-    pub sets: [u64; 131],
-    pub numbers: [u32; 481],
+    pub sets: [u64; SETS],
+    pub numbers: [u32; NUMBERS],
     pub top: u64,
 }
 
@@ -69,23 +71,17 @@ pub enum Step {
 }
 
 // Whether the part i is an ambient of that name.
-pub fn is_called(sets: &[u64; 131], numbers: &[u32; 481], i: usize, name: u32) -> bool
+pub fn is_called(sets: &[u64; SETS], numbers: &[u32; NUMBERS], i: usize, name: u32) -> bool
     ensures { i < 64 → result ≡ same_name (Some name) (name_in (get_or sets.now 129 0) (stretch 192 64 numbers.now) i) }
 {
-    if 64 <= i {
-        return false;
-    }
-    if base_sets::has(sets[129], i) {
-        return numbers[192 + i] == name;
-    }
-    false
+    i < 64 && base_sets::has(sets[NAMED], i) && numbers[NAMES + i] == name
 }
 
 // The homes of all parts of the state that is lent; the targets of each actor below the limit are put into `found`, which is
 // lent since to hand it up would cost a copy.
 pub fn all_targets(
-    sets: &[u64; 131],
-    numbers: &[u32; 481],
+    sets: &[u64; SETS],
+    numbers: &[u32; NUMBERS],
     top: u64,
     limit: usize,
     found: &mut [u64; 64],
@@ -96,9 +92,9 @@ pub fn all_targets(
 {
     let kids = bodies(sets, top);
     let mut homes: [usize; 64] = [65; 64];
-    put_homes(&mut homes, &kids, sets[129]);
+    put_homes(&mut homes, &kids, sets[NAMED]);
     for a in 0..limit {
-        found[a] = targets(&kids, numbers[256 + a], sets[65 + a], &homes, a);
+        found[a] = targets(&kids, numbers[ACTS + a], sets[AIMS + a], &homes, a);
     }
     homes
 }
@@ -141,15 +137,15 @@ pub fn as_arrays(kinds: [u8; 64], starts: [u32; 64], state: State) -> LentState
     LentState {
         sets,
         numbers,
-        top: sets[64],
+        top: sets[TOP],
     }
 }
 
 // The top parts after the move of the actor a to its target t, which is made in the lent state, with top as its top parts.
 fn after_move(
     script: &[u32],
-    sets: &mut [u64; 131],
-    numbers: &mut [u32; 481],
+    sets: &mut [u64; SETS],
+    numbers: &mut [u32; NUMBERS],
     top: u64,
     homes: &[usize; 64],
     a: usize,
@@ -160,16 +156,16 @@ fn after_move(
     ensures table { (kinds_in numbers.new ≡ kinds_in numbers.old) × (starts_in numbers.new ≡ starts_in numbers.old) }
     ensures made { Moves script.now (kinds_in numbers.old) (starts_in numbers.old) (state_in sets.old numbers.old top) (state_in sets.new numbers.new result) (λ i. get_or homes.now i 0) a t }
 {
-    sets[64] = top;
+    sets[TOP] = top;
     make_move(script, sets, numbers, homes, a, t);
-    sets[64]
+    sets[TOP]
 }
 
 // The top parts where top is the body of a new part i, an ambient of that name, which is made in the lent state.
 fn place_within(
     script: &[u32],
-    sets: &mut [u64; 131],
-    numbers: &mut [u32; 481],
+    sets: &mut [u64; SETS],
+    numbers: &mut [u32; NUMBERS],
     top: u64,
     i: usize,
     name: u32,
@@ -197,8 +193,8 @@ fn place_within(
 // that it is not put into the frames of a deep walk; to hand up a state would cost copies of it.
 pub fn next_state(
     script: &[u32],
-    sets: &mut [u64; 131],
-    numbers: &mut [u32; 481],
+    sets: &mut [u64; SETS],
+    numbers: &mut [u32; NUMBERS],
     top: u64,
     homes: &[usize; 64],
     step: Step,

@@ -5,6 +5,7 @@
 ghost use Rattle.std.specs.Prelude.{◌+◌, ◌-◌, ◌≤◌, ◌<◌};
 ghost use Rattle.walk_stages.specs.Visits.{Visitable, Visits as Answers, Looks as Finds, Splits};
 
+use engine_state_arrays::{NAMED, NUMBERS, SETS};
 use walk_rule_answers::{
     last_name, name_said, next_count, placing, right_rule, turned, void_rule, with_name,
 };
@@ -14,12 +15,17 @@ use walk_stages::{
 };
 use walk_states::{Spot, Step, Walk, all_targets, is_called, next_state, next_turn};
 
+// There are so many parts at most, and so many SOMEs around a word; a name is below the third.
+const PARTS: usize = 64;
+const SOMES: usize = 8;
+const NAMES: u32 = 536870912;
+
 // A visit at the word of the spot, whose depth is among the depths left.
 #[cycle(at_name_beside_either_negation_placed_in_some_name_sometime_somewhere_split_visit)]
 pub fn visit(
     walk: &Walk,
-    sets: &[u64; 131],
-    numbers: &[u32; 481],
+    sets: &[u64; SETS],
+    numbers: &[u32; NUMBERS],
     chosen: &[u32; 256],
     spot: Spot,
     c: Counts,
@@ -62,8 +68,8 @@ pub fn visit(
 #[cycle(at_name_beside_either_negation_placed_in_some_name_sometime_somewhere_split_visit)]
 fn negation(
     walk: &Walk,
-    sets: &[u64; 131],
-    numbers: &[u32; 481],
+    sets: &[u64; SETS],
+    numbers: &[u32; NUMBERS],
     chosen: &[u32; 256],
     spot: Spot,
     c: Counts,
@@ -81,8 +87,8 @@ fn negation(
 #[cycle(at_name_beside_either_negation_placed_in_some_name_sometime_somewhere_split_visit)]
 fn either(
     walk: &Walk,
-    sets: &[u64; 131],
-    numbers: &[u32; 481],
+    sets: &[u64; SETS],
+    numbers: &[u32; NUMBERS],
     chosen: &[u32; 256],
     spot: Spot,
     c: Counts,
@@ -105,8 +111,8 @@ fn either(
 #[cycle(at_name_beside_either_negation_placed_in_some_name_sometime_somewhere_split_visit)]
 fn at_name(
     walk: &Walk,
-    sets: &[u64; 131],
-    numbers: &[u32; 481],
+    sets: &[u64; SETS],
+    numbers: &[u32; NUMBERS],
     chosen: &[u32; 256],
     spot: Spot,
     c: Counts,
@@ -133,8 +139,8 @@ fn at_name(
 #[cycle(at_name_beside_either_negation_placed_in_some_name_sometime_somewhere_split_visit)]
 fn split(
     walk: &Walk,
-    sets: &[u64; 131],
-    numbers: &[u32; 481],
+    sets: &[u64; SETS],
+    numbers: &[u32; NUMBERS],
     chosen: &[u32; 256],
     spot: Spot,
     c: Counts,
@@ -159,8 +165,8 @@ fn split(
 #[cycle(at_name_beside_either_negation_placed_in_some_name_sometime_somewhere_split_visit)]
 fn beside(
     walk: &Walk,
-    sets: &[u64; 131],
-    numbers: &[u32; 481],
+    sets: &[u64; SETS],
+    numbers: &[u32; NUMBERS],
     chosen: &[u32; 256],
     spot: Spot,
     c: Counts,
@@ -169,6 +175,7 @@ fn beside(
     ensures { Finds walk.now.program.now walk.now.script.now sets.now numbers.now chosen.now spot.top spot.somes spot.left spot.at walk.now.limits c result 5 }
 {
     let mut now = c;
+    // An iterator of shares would hold this number and take the same step: no plainer.
     let mut share: u64 = 0;
     loop {
         let w = split(walk, sets, numbers, chosen, spot, now, share);
@@ -187,8 +194,8 @@ fn beside(
 #[cycle(at_name_beside_either_negation_placed_in_some_name_sometime_somewhere_split_visit)]
 fn some_name(
     walk: &Walk,
-    sets: &[u64; 131],
-    numbers: &[u32; 481],
+    sets: &[u64; SETS],
+    numbers: &[u32; NUMBERS],
     chosen: &[u32; 256],
     spot: Spot,
     c: Counts,
@@ -197,7 +204,7 @@ fn some_name(
     ensures { Finds walk.now.program.now walk.now.script.now sets.now numbers.now chosen.now spot.top spot.somes spot.left spot.at walk.now.limits c result 6 }
 {
     let somes = spot.somes;
-    if 8 <= somes {
+    if SOMES <= somes {
         return Walked::Stopped(MANY_SOMES, spot.at, c.visits);
     }
     let last = last_name(walk.limits, somes);
@@ -220,8 +227,8 @@ fn some_name(
 #[cycle(at_name_beside_either_negation_placed_in_some_name_sometime_somewhere_split_visit)]
 fn sometime(
     walk: &Walk,
-    sets: &[u64; 131],
-    numbers: &[u32; 481],
+    sets: &[u64; SETS],
+    numbers: &[u32; NUMBERS],
     chosen: &[u32; 256],
     spot: Spot,
     c: Counts,
@@ -239,6 +246,7 @@ fn sometime(
     let mut targets: [u64; 64] = [0; 64];
     let homes = all_targets(sets, numbers, spot.top, walk.limits.limit, &mut targets);
     let mut now = c2;
+    // An iterator of turns would hold the same two numbers and lend the targets: no plainer.
     let mut turn = next_turn(&targets, 0, 0, walk.limits.limit);
     while turn.rest != 0 {
         let a = turn.from - 1;
@@ -263,8 +271,8 @@ fn sometime(
 #[cycle(at_name_beside_either_negation_placed_in_some_name_sometime_somewhere_split_visit)]
 fn somewhere(
     walk: &Walk,
-    sets: &[u64; 131],
-    numbers: &[u32; 481],
+    sets: &[u64; SETS],
+    numbers: &[u32; NUMBERS],
     chosen: &[u32; 256],
     spot: Spot,
     c: Counts,
@@ -279,7 +287,8 @@ fn somewhere(
         return w;
     };
     let mut now = c2;
-    let mut rest = base_sets::intersection(spot.top, sets[129]);
+    // A set is held in a number: no iterator of base_sets, which would hold this number and take the same two steps.
+    let mut rest = base_sets::intersection(spot.top, sets[NAMED]);
     while rest != 0 {
         let i = base_sets::first(rest);
         let others = base_sets::rest(rest);
@@ -299,8 +308,8 @@ fn somewhere(
 #[cycle(at_name_beside_either_negation_placed_in_some_name_sometime_somewhere_split_visit)]
 fn placed_in(
     walk: &Walk,
-    sets: &[u64; 131],
-    numbers: &[u32; 481],
+    sets: &[u64; SETS],
+    numbers: &[u32; NUMBERS],
     chosen: &[u32; 256],
     spot: Spot,
     c: Counts,
@@ -310,15 +319,15 @@ fn placed_in(
 {
     let at = spot.at;
     let number = placing(walk.program, at);
-    if 64 <= number {
+    if PARTS <= number {
         return Walked::Stopped(MANY_PARTS, at, c.visits);
     }
     let i = walk.limits.parts + number;
     let name = name_said(walk.program[at], chosen);
-    if 64 <= i {
+    if PARTS <= i {
         return Walked::Stopped(MANY_PARTS, at, c.visits);
     }
-    if 536870912 <= name {
+    if NAMES <= name {
         return Walked::Stopped(ODD_WORD, at, c.visits);
     }
     let nowhere: [usize; 64] = [65; 64];

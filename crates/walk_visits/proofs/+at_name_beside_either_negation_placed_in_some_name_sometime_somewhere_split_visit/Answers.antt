@@ -77,20 +77,20 @@ negation-returns t c =
 
 -- ---- PLACED
 
-pub placed_in-returns-then-number-ge64 : goal.placed_in-returns-then-number-ge64
-placed_in-returns-then-number-ge64 t c =
+pub placed_in-returns-then-number-ge-PARTS : goal.placed_in-returns-then-number-ge-PARTS
+placed_in-returns-then-number-ge-PARTS t c =
     let x = c.args in
-    placed-far x.walk.now.program.now x.walk.now.script.now x.sets.now x.numbers.now x.chosen.now x.spot.top x.spot.somes x.spot.left x.spot.at x.walk.now.limits x.c (rw (sym c.placing-number.ensures) c.if-number-ge64.true) _
+    placed-far x.walk.now.program.now x.walk.now.script.now x.sets.now x.numbers.now x.chosen.now x.spot.top x.spot.somes x.spot.left x.spot.at x.walk.now.limits x.c (rw (sym c.placing-number.ensures) c.if-number-ge-PARTS.true) _
 
-pub placed_in-returns-then-i-ge64 : goal.placed_in-returns-then-i-ge64
-placed_in-returns-then-i-ge64 t c =
+pub placed_in-returns-then-i-ge-PARTS : goal.placed_in-returns-then-i-ge-PARTS
+placed_in-returns-then-i-ge-PARTS t c =
     let x = c.args in
-    placed-number x.walk.now.program.now x.walk.now.script.now x.sets.now x.numbers.now x.chosen.now x.spot.top x.spot.somes x.spot.left x.spot.at x.walk.now.limits x.c _ (ap (λ (y : ℕ). x.walk.now.limits.parts + y) c.placing-number.ensures) c.if-i-ge64.true _
+    placed-number x.walk.now.program.now x.walk.now.script.now x.sets.now x.numbers.now x.chosen.now x.spot.top x.spot.somes x.spot.left x.spot.at x.walk.now.limits x.c _ (ap (λ (y : ℕ). x.walk.now.limits.parts + y) c.placing-number.ensures) c.if-i-ge-PARTS.true _
 
-pub placed_in-returns-then-name-ge536870912 : goal.placed_in-returns-then-name-ge536870912
-placed_in-returns-then-name-ge536870912 t c =
+pub placed_in-returns-then-name-ge-NAMES : goal.placed_in-returns-then-name-ge-NAMES
+placed_in-returns-then-name-ge-NAMES t c =
     let x = c.args in
-    placed-name x.walk.now.program.now x.walk.now.script.now x.sets.now x.numbers.now x.chosen.now x.spot.top x.spot.somes x.spot.left x.spot.at x.walk.now.limits x.c c.requires.2.few-somes _ c.name_said-name.ensures c.if-name-ge536870912.true _
+    placed-name x.walk.now.program.now x.walk.now.script.now x.sets.now x.numbers.now x.chosen.now x.spot.top x.spot.somes x.spot.left x.spot.at x.walk.now.limits x.c c.requires.2.few-somes _ c.name_said-name.ensures c.if-name-ge-NAMES.true _
 
 pub placed_in-returns : goal.placed_in-returns
 placed_in-returns t c =
@@ -101,8 +101,8 @@ placed_in-returns t c =
 
 -- ---- SOME
 
-pub some_name-returns-then-somes-ge8 : goal.some_name-returns-then-somes-ge8
-some_name-returns-then-somes-ge8 t c = let x = c.args in naming-none x.walk.now.program.now x.walk.now.script.now x.sets.now x.numbers.now x.chosen.now x.spot.top x.spot.somes x.spot.left x.spot.at x.walk.now.limits x.c _ c.if-somes-ge8.true
+pub some_name-returns-then-somes-ge-SOMES : goal.some_name-returns-then-somes-ge-SOMES
+some_name-returns-then-somes-ge-SOMES t c = let x = c.args in naming-none x.walk.now.program.now x.walk.now.script.now x.sets.now x.numbers.now x.chosen.now x.spot.top x.spot.somes x.spot.left x.spot.at x.walk.now.limits x.c _ c.if-somes-ge-SOMES.true
 
 pub some_name-loop-n-init : goal.some_name-loop-n-init
 some_name-loop-n-init t c = let x = c.args in (c.last_name-last.ensures, naming-holds x.walk.now.program.now x.walk.now.script.now x.sets.now x.numbers.now x.chosen.now x.spot.top x.spot.somes x.spot.left x.spot.at x.walk.now.limits x.c)
