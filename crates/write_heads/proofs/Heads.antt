@@ -1,10 +1,9 @@
 -- What a part is written with in front of its body, by its head and by its kind, and the receipts around its body. Assumes
 -- nothing.
-use Prim.Native.Nat.{ℕ, suc, ◌+◌, ◌≤◌, ◌<◌}
+use Prim.Native.Nat.{ℕ, suc, ◌<◌}
 use mathlib.Core.List.{List, [], ◌∷◌, ◌++◌}
 use mathlib.Core.Path.{◌≡◌, refl, sym, ap, ◌∙◌}
-use native.Mathlib.Omega.{arith}
-use lib.ListN.{length, drop, get_or}
+use lib.ListN.{length, drop}
 use borrow.Author.Tests.{lt-ltb}
 use Rattle.read_messages.specs.Words.{word}
 use Rattle.read_messages.specs.Message.{Message, items}
@@ -16,7 +15,7 @@ use Rattle.theory_closures.specs.Closure.{ClosureHead, Bindings, items_left, unf
 use Rattle.engine_states.specs.Represents.{head_of}
 use Rattle.engine_states.proofs.Heads.{by_kind, head-action, head-receipt}
 use Rattle.theory_written_trees.specs.Write.{Indices, write_message, one_message, write_head, within}
-use Rattle.write_heads.specs.Heads.{write_label, Scripted}
+use Rattle.write_heads.specs.Heads.{write_label}
 
 -- ---- a part, by its head
 

@@ -30,6 +30,7 @@ const MOST_WORDS: u32 = 268435456;
 
 // Question 19 of document 01, whether the tree fits the buffer, is asked of no word: its place is 0.
 const TREE_FITS: u32 = 19;
+
 const NO_WORD: usize = 0;
 
 // Writes the part i, whose word has the index.
@@ -48,25 +49,10 @@ fn write_part(
     let kind = tree.kinds[i];
     let start = tree.starts[i];
     let offset = tree.offsets[i];
-    let m = write_head(
-        tree.script,
-        kind,
-        start,
-        offset,
-        tree.bindings,
-        around,
-        out,
-    );
+    let m = write_head(tree.script, kind, start, offset, tree.bindings, around, out);
     if has_body(kind) {
         let inside = around_body(around, kind, start, index as u32);
-        return write_body(
-            tree,
-            &inside,
-            tree.kids[i],
-            index + m,
-            fuel,
-            &mut out[m..],
-        ) + m;
+        return write_body(tree, &inside, tree.kids[i], index + m, fuel, &mut out[m..]) + m;
     }
     m
 }
@@ -93,14 +79,7 @@ fn write_body(
     let i = base_sets::first(left);
     let m = write_part(tree, around, i, index, fuel - 1, out);
     let others = base_sets::rest(left);
-    write_body(
-        tree,
-        around,
-        others,
-        index + m,
-        fuel - 1,
-        &mut out[m..],
-    ) + m
+    write_body(tree, around, others, index + m, fuel - 1, &mut out[m..]) + m
 }
 
 // Writes the tree at the front of the buffer, if it fits in the first 2^28 words; says how many words it wrote.

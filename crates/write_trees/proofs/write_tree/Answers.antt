@@ -1,7 +1,7 @@
 -- `write_tree` meets its contract: the words are counted first, and written only where they fit. Assumes nothing.
-use mathlib.Core.List.{List, []}
+use mathlib.Core.List.{[]}
 use mathlib.Core.Logic.{inl, inr}
-use mathlib.Core.Path.{◌≡◌, ap}
+use mathlib.Core.Path.{ap}
 use native.Mathlib.Omega.{arith}
 use Rattle.theory_closures.specs.Closure.{unfolded}
 use Rattle.theory_written_trees.specs.Write.{Indices, write}
