@@ -10,10 +10,11 @@ ghost use Rattle.read_messages.specs.ReadMessage.{message_word, asked, read_mess
 // A word's top 4 bits are its kind and the low 28 its operand, so it is its kind times this and its operand.
 pub const KIND_UNIT: u32 = 268435456;
 
-// The kinds of the message words with an operand.
+// The kind of a word that is a name.
 pub const NAME: u32 = 8;
 
-pub const VARIABLE: u32 = 9;
+// The kind of a word that is a variable: its operand is the index of a receipt.
+const VARIABLE: u32 = 9;
 
 // The greatest name.
 pub const MOST_NAME: u32 = 255;

@@ -10,17 +10,19 @@ ghost use Rattle.read_rule_words.specs.RuleWords.{term_word, levelled, asked_pla
 
 use read_messages::{KIND_UNIT, MOST_NAME, Refusal, greatest, is_around};
 
-// The kinds of the rule words with an operand.
+// The kind of a word that says where a rule holds; its operand is a term.
 const AT: u32 = 4;
 
+// The kind of a word that places a part; its operand is a term.
 const PLACED: u32 = 9;
 
 // An operand with bit 27 set is this and the index of a SOME.
 const CHOSEN: u32 = 134217728;
 
-// Question 10: the most rules around a word, and the most SOMEs.
+// Question 10: the most rules around a word.
 const MOST_AROUND: usize = 64;
 
+// Question 10: the most SOMEs around a word, itself counted.
 pub const MOST_SOMES: usize = 8;
 
 // What a word of AT or PLACED says: a name, or the index of the SOME whose name it is.

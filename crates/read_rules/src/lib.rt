@@ -17,7 +17,7 @@ const MOST_WORDS: usize = 256;
 const MOST_PARTS: usize = 64;
 
 // The rule's words by index: of an OR or BESIDE where its right rule starts, of a PLACED its place among the PLACED words.
-// count is the number of PLACED words.
+// count is the number of PLACED words. The arrays are no rows: the walk's program has each as a stretch of numbers (walk_rules: loaded).
 #[derive(Drop)]
 pub struct RuleTable {
     pub rights: [u16; 256],

@@ -24,8 +24,8 @@ pub const SCRIPT_BODY: usize = 64;
 // The receipts around a word are at most this many: question 4 lets in the nestings 0 to 64.
 const MOST_RECEIPTS: usize = 65;
 
-// The kinds of parts in a table.
-// Kinds stay numbers: a state is lent as arrays of numbers (engine_state_arrays: kinds_in), and head_of and heads speak of them.
+// The kinds of parts in a table. They stay numbers: a state is lent as arrays of numbers (engine_state_arrays: kinds_in), and
+// head_of and heads speak of them.
 const AMBIENT: u8 = 1;
 
 const ACTION: u8 = 2;
@@ -35,7 +35,8 @@ const RECEIPT: u8 = 3;
 const OUTPUT: u8 = 4;
 
 // The parts by number: kind, where the message starts (of a receipt, its own index), and the set of the parts in the body;
-// entry 64 of kids is the script's own body. count is the number of parts.
+// entry 64 of kids is the script's own body. count is the number of parts. The arrays stay beside each other, and are no rows:
+// a state is lent as such arrays.
 #[derive(Clone, Copy)]
 pub struct Table {
     pub kinds: [u8; 64],
@@ -97,6 +98,7 @@ pub fn read_body(
     requires { Readable s.now at nest around.first table.count }
     ensures { result ≡ scanned owner table (read_body (length s.now) nest (drop around.first around.indices) (cursor at table.count s.now)) }
 {
+    // How long a part is is known only when it was read, so that no iterator goes from part to part.
     let mut k: usize = 0;
     let mut t = table;
     while k < s.len() {

@@ -18,14 +18,14 @@ returns-in_err-a c =
 pub returns-then-a-n : goal.returns-then-a-n
 returns-then-a-n c =
     let asked = rule-asked c.args.parts {s = c.args.rule.now} _ c.none.result.indices c.none.result.first c.vacant.ensures (search rules) (omega arith) (omega arith) c.read_rule.ensures in
-    answers _ _ _ (rule-behind _ asked _ c.in_ok-a.was c.if-a-n.true)
+    answers _ _ _ (rule-behind _ asked _ c.in_ok-a.was (omega arith))
 
 pub returns-then-saturating_add-gt-MOST_PARTS : goal.returns-then-saturating_add-gt-MOST_PARTS
 returns-then-saturating_add-gt-MOST_PARTS c =
     let asked = rule-asked c.args.parts {s = c.args.rule.now} _ c.none.result.indices c.none.result.first c.vacant.ensures (search rules) (omega arith) (omega arith) c.read_rule.ensures in
-    answers _ _ _ (rule-many _ asked _ c.in_ok-a.was c.if-a-n.false (omega (arith, c.saturating_add.ensures)))
+    answers _ _ _ (rule-many _ asked _ c.in_ok-a.was (omega arith) (omega (arith, c.saturating_add.ensures)))
 
 pub returns : goal.returns
 returns c =
     let asked = rule-asked c.args.parts {s = c.args.rule.now} _ c.none.result.indices c.none.result.first c.vacant.ensures (search rules) (omega arith) (omega arith) c.read_rule.ensures in
-    answers _ _ _ (rule-whole _ asked _ c.in_ok-a.was c.if-a-n.false (omega (arith, c.saturating_add.ensures)))
+    answers _ _ _ (rule-whole _ asked _ c.in_ok-a.was (omega arith) (omega (arith, c.saturating_add.ensures)))

@@ -18,14 +18,14 @@ returns-in_err-a c =
 pub returns-then-a-n : goal.returns-then-a-n
 returns-then-a-n c =
     let read = body-asked {s = c.args.s.now} _ c.none.result.indices c.none.result.first c.vacant.ensures (search rules) (omega arith) (omega arith) c.read_body.ensures in
-    answers _ _ (script-behind read _ c.in_ok-a.was c.if-a-n.true)
+    answers _ _ (script-behind read _ c.in_ok-a.was (omega arith))
 
 pub returns-then-a-gt-MOST_PARTS : goal.returns-then-a-gt-MOST_PARTS
 returns-then-a-gt-MOST_PARTS c =
     let read = body-asked {s = c.args.s.now} _ c.none.result.indices c.none.result.first c.vacant.ensures (search rules) (omega arith) (omega arith) c.read_body.ensures in
-    answers _ _ (script-many read _ c.in_ok-a.was c.if-a-n.false c.if-a-gt-MOST_PARTS.true)
+    answers _ _ (script-many read _ c.in_ok-a.was (omega arith) (omega arith))
 
 pub returns : goal.returns
 returns c =
     let read = body-asked {s = c.args.s.now} _ c.none.result.indices c.none.result.first c.vacant.ensures (search rules) (omega arith) (omega arith) c.read_body.ensures in
-    answers _ _ (script-read read _ c.in_ok-a.was c.if-a-n.false c.if-a-gt-MOST_PARTS.false)
+    answers _ _ (script-read read _ c.in_ok-a.was (omega arith) (omega arith))
