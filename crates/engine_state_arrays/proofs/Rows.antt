@@ -4,8 +4,8 @@ use mathlib.Core.List.{List, [], ◌∷◌}
 use mathlib.Core.Path.{◌≡◌, refl, sym, ap, ap₂, ◌∙◌, subst}
 use native.Mathlib.Omega.{arith}
 use lib.Dec.{eqb}
-use lib.ListN.{get_or, set, length, drop, length-drop}
-use lib.Seq.{ext_get_or, get_or-drop, get_or-set_same, get_or-set_other}
+use lib.ListN.{get_or, length, drop, length-drop}
+use lib.Seq.{ext_get_or, get_or-drop}
 use borrow.Author.Tests.{eqb-true, eqb-false}
 use Rattle.base_slices.proofs.Tests.{by_test}
 use Rattle.base_arrays.specs.Stretches.{Put}
@@ -79,15 +79,9 @@ module _ (rows : List Binding) where
 abbrev pub Read : (numbers : List ℕ) (from i : ℕ) (rows : List Binding) → Type 0
 Read numbers from i rows = (j : ℕ) → from ≤ j → j < i → binding_at rows j ≡ row_at (320 + 5 * j) numbers
 
-module _ (numbers : List ℕ) (from : ℕ) where
-  pub read_next : (i : ℕ) (rows : List Binding) (b : Binding) → i < length rows → Read numbers from i rows → b ≡ row_at (320 + 5 * i) numbers → Read numbers from (i + 1) (set rows i b)
-  read_next i rows b within R e j l m = by_test (eqb j i)
-      (λ t. rw (eqb-true j i t) (get_or-set_same rows i b free within ∙ e))
-      (λ t. get_or-set_other rows i j b free (eqb-false j i t) ∙ R j l (omega (arith, eqb-false j i t)))
-
-  pub read_all : (rows : List Binding) → length rows ≡ 32 → Read numbers from 32 rows → drop from rows ≡ drop from (rows_at 320 32 numbers)
-  read_all rows long R = ext_get_or free (drop from rows) (drop from (rows_at 320 32 numbers))
-      (length-drop from rows ∙ ap (λ (n : ℕ). n - from) (long ∙ sym (length-rows 320 32 numbers)) ∙ sym (length-drop from (rows_at 320 32 numbers)))
-      (λ j m.
-      let l : from + j < 32 = omega (arith, m, length-drop from rows, long) in
-      get_or-drop from rows j free ∙ R (from + j) (omega arith) l ∙ sym (binding_at-rows 320 32 (from + j) numbers l) ∙ sym (get_or-drop from (rows_at 320 32 numbers) j free))
+pub read_all : (numbers : List ℕ) (from : ℕ) (rows : List Binding) → length rows ≡ 32 → Read numbers from 32 rows → drop from rows ≡ drop from (rows_at 320 32 numbers)
+read_all numbers from rows long R = ext_get_or free (drop from rows) (drop from (rows_at 320 32 numbers))
+    (length-drop from rows ∙ ap (λ (n : ℕ). n - from) (long ∙ sym (length-rows 320 32 numbers)) ∙ sym (length-drop from (rows_at 320 32 numbers)))
+    (λ j m.
+    let l : from + j < 32 = omega (arith, m, length-drop from rows, long) in
+    get_or-drop from rows j free ∙ R (from + j) (omega arith) l ∙ sym (binding_at-rows 320 32 (from + j) numbers l) ∙ sym (get_or-drop from (rows_at 320 32 numbers) j free))
