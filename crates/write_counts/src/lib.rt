@@ -25,7 +25,8 @@ pub const TOP: usize = 64;
 pub const MOST_PARTS: usize = 64;
 
 // The tree that stands, as it is lent to be written: the script; which parts stand in each body; of each part its kind,
-// where its message starts, and how many of its items are spent; and the bindings, newest first.
+// where its message starts, and how many of its items are spent; and the bindings, newest first. What is known of the parts
+// stands in an array each, and in no rows: so the part table and the state hold it (read_scripts::Table, engine_states::State).
 #[derive(Clone, Copy)]
 pub struct Standing<'a> {
     pub script: &'a [u32],

@@ -35,10 +35,7 @@ head-length ix σ h = sym (ap length (head-words ix σ h))
 -- ---- a part, by its kind
 
 module _ (script : List ℕ) (kind start offset : ℕ) (ix : Indices) (σ : Bindings) where
-  -- what it is written with in front of its body, and its message, which stands at the index n
-  abbrev front : List ℕ
-  front = write_head ix (unfold_head σ (head_of script kind start offset))
-
+  -- the words of its message, and the message, which stands at the index n
   abbrev label : List ℕ
   label = write_label ix (unfold_head σ (head_of script kind start offset))
 
