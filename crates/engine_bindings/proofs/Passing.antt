@@ -128,8 +128,10 @@ module _ (l : List ℕ) (p : ℕ) (some : 0 < p) (m : MessageWord) (f : Shape) (
   opened-small : f.opened ≤ arity_of (first_word l)
   opened-small = rw (shape, first) (omega arith)
 
-  pub opened-fits : p + length l < 2 ^ 64 → p - 1 + f.opened < 2 ^ 64
-  opened-fits h = omega (arith, (room l p f.opened 0 some opened-small).0)
+  pub left-fits : (a : ℕ) → a ≤ f.closed + f.opened → p + length l < 2 ^ 64 → p - 1 + a < 2 ^ 64
+  left-fits a s h =
+      let small : a ≤ arity_of (first_word l) = rw (shape, first) at s in
+      omega (arith, (room l p a 0 some small).0)
 
   module _ (ws : List ℕ) (e : ws ≡ drop 1 l) where
     pub closed-room : p + length l < 2 ^ 64 → f.closed + length ws < 2 ^ 64

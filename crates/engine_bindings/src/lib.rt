@@ -80,11 +80,9 @@ pub fn after_own(words: &[u32], pending: usize) -> Behind
     ensures { Passed words.now pending result }
 {
     let s = shape_of(first_word(words));
-    let closed = s.closed;
-    let opened = s.opened;
     Behind {
-        used: skip(tail(words, 1), closed) + 1,
-        left: pending - 1 + opened,
+        used: skip(tail(words, 1), s.closed) + 1,
+        left: pending - 1 + s.opened,
     }
 }
 
