@@ -97,10 +97,10 @@ read_guarded-returns t c =
 
 -- a part by its word
 pub read_part-read_guarded-requires : goal.read_part-read_guarded-requires
-read_part-read_guarded-requires t c = (omega arith, guarded-asks c.requires 1 (omega arith) (omega arith))
+read_part-read_guarded-requires t c = (omega arith, guarded-asks c.requires _ (omega arith) (omega arith))
 
 pub read_part-read_guarded-requires-in-Action : goal.read_part-read_guarded-requires-in-Action
-read_part-read_guarded-requires-in-Action t c = (omega arith, guarded-asks c.requires 2 (omega arith) (omega arith))
+read_part-read_guarded-requires-in-Action t c = (omega arith, guarded-asks c.requires _ (omega arith) (omega arith))
 
 pub read_part-with-inner-requires : goal.read_part-with-inner-requires
 read_part-with-inner-requires t c = (omega arith, (omega (arith, c.requires.reads.room, passed c.requires), c.requires.reads.receipts))
