@@ -36,17 +36,35 @@ stretch-is {A = A} d at n l r m e = e ∙ ap (take n) (take_all (length l - at) 
 
 -- ---- element by element
 
+-- a loop that fills r, an array of 64: the first i are those of f
+pub record Filling (f : ℕ → ℕ) (i : ℕ) (r : List ℕ) : Type 0 where
+  pub kept : length r ≡ 64
+  pub copied : (j : ℕ) → j < i → get_or r j 0 ≡ f j
+
+pub filling-none : (f : ℕ → ℕ) (r : List ℕ) → length r ≡ 64 → Filling f 0 r
+filling-none f r e = record { kept = e; copied = λ j m. absurd (let z : ⊥ = omega arith in z) }
+
+pub filling-next : (f : ℕ → ℕ) (i v : ℕ) (r : List ℕ) → Filling f i r → i < 64 → v ≡ f i → Filling f (i + 1) (set r i v)
+filling-next f i v r F l e =
+    let d = F.kept in
+    record {
+      kept = length-set r i v ∙ d;
+      copied = λ j m. by_test (eqb j i)
+          (λ t. rw (eqb-true j i t) (get_or-set_same r i v 0 (omega arith) ∙ e))
+          (λ t. get_or-set_other r i j v 0 (eqb-false j i t) ∙ F.copied j (omega (arith, eqb-false j i t)));
+    }
+
 -- what is so at each index, is so of the array
-pub same-mapped : (l r : List ℕ) → length l ≡ 64 → length r ≡ 64 → ((i : ℕ) → i < 64 → get_or r i 0 ≡ get_or l i 0) → r ≡ l
-same-mapped l r e f same = ext_get_or 0 r l (f ∙ sym e) (λ i m. same i (omega arith))
+same-filled : (l r : List ℕ) → length l ≡ 64 → Filling (λ i. get_or l i 0) 64 r → r ≡ l
+same-filled l r e F = let d = F.kept in ext_get_or 0 r l (d ∙ sym e) (λ i m. F.copied i (omega arith))
 
 -- numbers below 256 as bytes
-pub narrowed : (l r : List ℕ) → length l ≡ 64 → length r ≡ 64 → ((i : ℕ) → i < 64 → get_or r i 0 ≡ get_or l i 0 % 256) → ((i : ℕ) → i < 64 → get_or l i 0 < 256) → r ≡ l
-narrowed l r e f same low = same-mapped l r e f (λ i m. omega (arith, same i m, low i m))
+pub narrowed : (l r : List ℕ) → length l ≡ 64 → Filling (λ i. get_or l i 0 % 256) 64 r → ((i : ℕ) → i < 64 → get_or l i 0 < 256) → r ≡ l
+narrowed l r e F low = same-filled l r e (record { kept = F.kept; copied = λ i m. omega (arith, F.copied i m, low i m) })
 
 -- bytes as numbers
-pub widened : (l r : List ℕ) → length l ≡ 64 → length r ≡ 64 → ((i : ℕ) → i < 64 → get_or r i 0 ≡ get_or l i 0) → ((i : ℕ) → Fits w8 (get_or l i 0)) → Widened l r
-widened l r e f same low = record { same = same-mapped l r e f same; bytes = λ i m. subst (λ (n : ℕ). n < 256) (sym (same i m)) (low i).fits }
+pub widened : (l r : List ℕ) → length l ≡ 64 → Filling (λ i. get_or l i 0) 64 r → ((i : ℕ) → Fits w8 (get_or l i 0)) → Widened l r
+widened l r e F low = record { same = same-filled l r e F; bytes = λ i m. subst (λ (n : ℕ). n < 256) (sym (F.copied i m)) (low i).fits }
 
 -- ---- what is put stands, and stays where something is put elsewhere
 

@@ -1,9 +1,13 @@
--- `narrow` meets its contract: each number is taken by 256. Assumes nothing.
-use Rattle.std.proofs.Common.{rules, ◌≡◌, ℕ, ◌<◌, ◌%◌, get_or}
-use Rattle.base_arrays.proofs.Copying.{narrowed}
+-- `narrow` meets its contract: the first i numbers are copied. Assumes nothing.
+use Rattle.std.proofs.Common.{rules}
+use Rattle.base_arrays.proofs.Copying.{filling-none, filling-next, narrowed}
 use Rattle.base_arrays.proofs.narrow.Goals as goal
 
+pub loop-i-init : goal.loop-i-init
+loop-i-init c = search (rules, filling-none)
+
+pub loop-i-preserved : goal.loop-i-preserved
+loop-i-preserved c = search (rules, filling-next)
+
 pub returns : goal.returns
-returns c =
-    let each : (i : ℕ) → i < 64 → get_or c.map.result i 0 ≡ get_or c.args.from i 0 % 256 = λ i m. let called = c.map.ensures.items.at i 0 0 m in search rules in
-    search (rules, narrowed)
+returns c = search (rules, narrowed)
