@@ -97,9 +97,6 @@ module _ (l : List ℕ) (p : ℕ) (some : p ≡ 0 → ⊥) (word : length l ≡ 
 pub tail-less : (l ws : List ℕ) → ws ≡ drop 1 l → (length l ≡ 0 → ⊥) → (t : ℕ) → length l ≡ t → length ws < t
 tail-less l ws e h t q = omega (arith, ap length e, length-drop 1 l)
 
-pub skipped-fits : (l ws : List ℕ) → ws ≡ drop 1 l → (p r : ℕ) → Skipped ws p r → length l * 4 < 2 ^ 63 → r + 1 < 2 ^ 64
-skipped-fits l ws e p r k h = omega (arith, ap length e, length-drop 1 l, k.within)
-
 -- the items of messages, by the first word's own and those behind them
 split-word : (σ : List (ℕ × Message)) (m : MessageWord) (p : ℕ) (s : List Message)
     → all_items σ (firsts (suc p) (push m s)) ≡ word_items σ m s ++ all_items σ (firsts (p + (shape_of m).opened) (drop (shape_of m).closed s))

@@ -1,5 +1,5 @@
 -- Laws of where a variable is bound. Assumes nothing.
-use Prim.Native.Nat.{ℕ, suc, ◌+◌, ◌<◌}
+use Prim.Native.Nat.{ℕ, suc, ◌+◌}
 use mathlib.Core.Bool.{Bool, true, false, cond}
 use mathlib.Core.List.{List, [], ◌∷◌}
 use mathlib.Core.Path.{◌≡◌, refl, sym, ap}
@@ -10,8 +10,7 @@ use borrow.Author.Tests.{eq-eqb, ne_eqb, eqb-true, eqb-false, lt-ltb, le-ltb, lt
 use Rattle.std.specs.Prelude.{Option, Some, None, option_map}
 use Rattle.std.specs.List.{position_or_len}
 use Rattle.std.proofs.lemmas.Option.{none-some, same_Some}
-use Rattle.std.proofs.lemmas.List.Quantifiers.{position-Some}
-use Rattle.engine_message_words.specs.Words.{newest_binding, binding_at}
+use Rattle.engine_message_words.specs.Words.{newest_binding}
 use Rattle.engine_message_words.specs.declared.Binding.{Binding}
 
 pub newest-none : (u : ℕ) → newest_binding [] u ≡ None
@@ -39,8 +38,3 @@ older-none (Some k) e = absurd (none-some (suc k) (sym e))
 pub older-some : (o : Option ℕ) (k : ℕ) → option_map suc o ≡ Some k → (j : ℕ) × (o ≡ Some j) × (suc j ≡ k)
 older-some None k e = absurd (none-some k e)
 older-some (Some j) k e = (j, refl, same_Some (suc j) k e)
-
--- a binding that is found is one of them
-pub newest-within : (bs : List Binding) (u k : ℕ) → newest_binding bs u ≡ Some k → k < length bs
-unfolding newest_binding
-newest-within bs u k e = (position-Some _ bs k (binding_at bs 0) e).0
