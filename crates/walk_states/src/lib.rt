@@ -20,7 +20,6 @@ ghost use Rattle.walk_states.specs.declared.Step.TheVariants.{Move, Place};
 ghost use Rattle.walk_stages.specs.Order.{pairs_behind, TurnWithin, Turns};
 ghost use Rattle.walk_stages.specs.Visits.{Lendable};
 
-use base_arrays::put;
 use engine_moves::make_move;
 use engine_settling::place_part;
 use engine_state_arrays::{
@@ -132,12 +131,10 @@ pub fn as_arrays(kinds: [u8; 64], starts: [u32; 64], state: State) -> LentState
     ensures state { state_in result.sets result.numbers result.top ≡ state }
 {
     let l = to_arrays(kinds, starts, state);
-    let sets = l.sets;
-    let numbers = l.numbers;
     LentState {
-        sets,
-        numbers,
-        top: sets[TOP],
+        sets: l.sets,
+        numbers: l.numbers,
+        top: l.sets[TOP],
     }
 }
 
@@ -176,16 +173,12 @@ fn place_within(
     ensures placed { (weight spent : ℕ) (b : Closure) → Represents script.now (kinds_in numbers.old) (starts_in numbers.old) weight spent (state_in sets.old numbers.old top) b → times_in i b ≡ 0 → weight < 64 → Represents script.now (kinds_in numbers.new) (starts_in numbers.new) (weight + 1) spent (state_in sets.new numbers.new result) (part i (ambient (called name)) b close) }
 {
     let b = from_arrays(sets, numbers, top);
-    let kinds = b.kinds;
-    let starts = b.starts;
-    let p = place_part(script, kinds, starts, b.state, i, name);
-    let with_kind = p.kinds;
-    let with_start = p.starts;
-    let l = as_arrays(with_kind, with_start, p.state);
+    let p = place_part(script, b.kinds, b.starts, b.state, i, name);
+    let l = as_arrays(p.kinds, p.starts, p.state);
     let new_sets = l.sets;
     let new_numbers = l.numbers;
-    put(sets, 0, &new_sets);
-    put(numbers, 0, &new_numbers);
+    *sets = new_sets;
+    *numbers = new_numbers;
     l.top
 }
 

@@ -1,14 +1,11 @@
 -- `place_within` meets its contract: the state is put inside a new ambient, and the arrays are those of what comes of it. Assumes nothing.
 use Prim.Native.Nat.{ℕ, ◌+◌}
 use mathlib.Core.List.{List}
-use mathlib.Core.Path.{◌≡◌, sym, ap, ◌∙◌, subst}
-use lib.ListN.{length}
-use Rattle.base_arrays.proofs.Copying.{put_whole}
+use mathlib.Core.Path.{ap, ◌∙◌}
 use Rattle.read_messages.specs.Message.{name as called}
 use Rattle.read_scripts.specs.Tree.{ambient, close, part}
 use Rattle.engine_states.specs.Represents.{bound_in, Ready, Represents}
 use Rattle.engine_states.specs.declared.State.{State}
-use Rattle.engine_state_arrays.specs.Lent.{kinds_in, starts_in, state_in, Small}
 use Rattle.walk_states.proofs.Lendings.{carried}
 use Rattle.walk_states.proofs.place_within.Goals as goal
 
@@ -23,21 +20,16 @@ returns c =
     let x = c.args in
     let b = c.from_arrays-b.ensures c.requires.2.small in
     let r = c.from_arrays-b.result in
-    let l = c.as_arrays-l.result in
     let t = c.as_arrays-l.ensures.tables in
     let q = c.place_part-p.ensures in
-    let s₁ = c.put_sets.new.to in
-    let n₁ = c.put_numbers.new.to in
-    let es : s₁ ≡ l.sets = put_whole l.sets x.sets.now s₁ (t.3 ∙ sym c.put_sets.ensures.kept) c.put_sets.ensures.put in
-    let en : n₁ ≡ l.numbers = put_whole l.numbers x.numbers.now n₁ (t.4 ∙ sym c.put_numbers.ensures.kept) c.put_numbers.ensures.put in
-    let e : state_in s₁ n₁ l.top ≡ c.place_part-p.result.state = (λ i. state_in (es i) (en i) l.top) ∙ c.as_arrays-l.ensures.state in
-    let k : kinds_in n₁ ≡ c.place_part-p.result.kinds = ap kinds_in en ∙ t.0 in
-    let v : starts_in n₁ ≡ c.place_part-p.result.starts = ap starts_in en ∙ t.1 in
+    let e = c.as_arrays-l.ensures.state in
+    let k = t.0 in
+    let v = t.1 in
     record {
       lends = record {
-        sets-long = ap length es ∙ t.3;
-        numbers-long = ap length en ∙ t.4;
-        small = subst Small (sym en) t.2;
+        sets-long = t.3;
+        numbers-long = t.4;
+        small = t.2;
         ready = carried (λ (k : List ℕ) (l : List ℕ) (z : State). Ready x.script.now k l z) _ _ _ _ _ _ k v e q.ready.0;
       };
       bound = ap (bound_in x.script.now) e ∙ q.ready.1 ∙ ap (bound_in x.script.now) b.2;
