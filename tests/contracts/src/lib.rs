@@ -39,18 +39,36 @@ mod tests {
 
     /// The name of the function that a line declares as public.
     fn declared(line: &str) -> Option<&str> {
+        let line = line.trim_start();
         let rest = line.strip_prefix("pub fn ").or_else(|| line.strip_prefix("pub extern \"C\" fn "))?;
         rest.split(|c: char| !c.is_alphanumeric() && c != '_').next()
     }
 
-    /// Every public function of every crate, as crate::function.
+    /// The type whose methods follow a line, as `Bindings` behind `impl Bindings {` or `impl<const N: usize> Bindings<N> {`.
+    fn owner(line: &str) -> Option<&str> {
+        let rest = line.strip_prefix("impl")?;
+        let rest = if rest.starts_with('<') { &rest[rest.find("> ")? + 1..] } else { rest };
+        rest.trim_start().split(|c: char| !c.is_alphanumeric() && c != '_').next()
+    }
+
+    /// The public functions of a source text, a method behind its type, as type::method.
+    fn functions(text: &str) -> Vec<String> {
+        let (mut found, mut of) = (Vec::new(), None);
+        for line in text.lines() {
+            of = if line == "}" { None } else { owner(line).or(of) };
+            if let Some(function) = declared(line) {
+                found.push(of.map_or(function.to_string(), |of| format!("{of}::{function}")));
+            }
+        }
+        found
+    }
+
+    /// Every public function of every crate, as crate::function or crate::type::method.
     fn public_functions() -> BTreeSet<String> {
         let mut found = BTreeSet::new();
         for folder in entries(&root().join("crates")) {
             for file in entries(&folder.join("src")) {
-                for function in read(&file).lines().filter_map(declared) {
-                    found.insert(format!("{}::{function}", name(&folder)));
-                }
+                found.extend(functions(&read(&file)).iter().map(|function| format!("{}::{function}", name(&folder))));
             }
         }
         found
