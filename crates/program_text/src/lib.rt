@@ -19,8 +19,11 @@ fn put_refusal(text: &mut [u8], first_no: Refusal) -> usize
     let b = put_decimal(text, a, first_no.question as u64);
     let c = put_bytes(text, b, b" at ");
     let d = put_decimal(text, c, first_no.place as u64);
-    put_byte(text, d, 10)
+    put_byte(text, d, b'\n')
 }
+
+// The question whether an input fits.
+const INPUT_QUESTION: u32 = 20;
 
 // Question 20, where it is no.
 pub fn put_unfit(text: &mut [u8]) -> usize
@@ -29,7 +32,7 @@ pub fn put_unfit(text: &mut [u8]) -> usize
     put_refusal(
         text,
         Refusal {
-            question: 20,
+            question: INPUT_QUESTION,
             place: 0,
         },
     )
@@ -52,7 +55,7 @@ fn put_counts(text: &mut [u8], at: usize, a: Answer) -> usize
     let d = put_count(text, c, b" deepest ", a.deepest as u64);
     let e = put_count(text, d, b" weight ", a.weight as u64);
     let f = put_count(text, e, b" words ", a.words as u64);
-    put_byte(text, f, 10)
+    put_byte(text, f, b'\n')
 }
 
 // The line of a yes or no, then "the tree's words one a line"
