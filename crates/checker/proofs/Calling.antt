@@ -11,13 +11,12 @@ use Rattle.read_scripts.specs.Tree.{parts}
 use Rattle.read_scripts.specs.Script.{Script, read_script}
 use Rattle.read_scripts.specs.Represents.{Tabled}
 use Rattle.read_scripts.specs.Represents as read
-use Rattle.read_scripts.specs.Table as table
 use Rattle.read_scripts.specs.declared.Table.{Table}
-use Rattle.read_scripts.proofs.Tabled.{script-number}
+use Rattle.read_scripts.proofs.Tabled.{script-number, script-accepted}
 use Rattle.read_rule_words.specs.Rule.{Rule}
 use Rattle.read_rule_words.specs.ReadRule.{read_whole_rule}
 use Rattle.read_rules.specs.Ruled as ruled
-use Rattle.read_rules.specs.RuleTable as rules
+use Rattle.read_rules.proofs.Tabled.{rule-accepted}
 use Rattle.read_rules.specs.declared.RuleTable.{RuleTable}
 use Rattle.theory_closures.specs.Closure.{ClosureMachine, settle_under, closure_of, Bindings}
 use Rattle.engine_states.specs.Represents.{bound_in, Ready, Represents}
@@ -40,39 +39,11 @@ use Rattle.theory_call.proofs.Called.{answers-door, answers-halted}
 
 -- ---- what the readers' answers say
 
-script-refuses : (x : Reading (Script × Cursor)) (r : Refusal) → Err r ≡ table.tabled x → x ≡ refuse r.question r.place
-unfolding table.tabled
-script-refuses (refuse q i) r e = let a : q ≡ r.question = cc in let b : i ≡ r.place = cc in λ k. refuse (a k) (b k)
-script-refuses (got p) r e = ok≢err (sym e)
+pub script-held : (ws : List ℕ) (r : Result Table Refusal) (t : Table) → read.Answers ws r → r ≡ Ok t → ScriptHeld ws t
+script-held ws r t A d = let (p, x, T) = script-accepted ws r t A d in record { read = p; reads = x; tabled = T }
 
-script-reads : (x : Reading (Script × Cursor)) (t : Table) → Ok t ≡ table.tabled x → (p : Script × Cursor) × (x ≡ got p)
-unfolding table.tabled
-script-reads (refuse q i) t e = ok≢err e
-script-reads (got p) t e = (p, refl)
-
-module _ (ws : List ℕ) (r : Result Table Refusal) (A : read.Answers ws r) where
-  pub script-refused : (x : Refusal) → r ≡ Err x → read_script ws ≡ refuse x.question x.place
-  script-refused x d = script-refuses (read_script ws) x (sym d ∙ A.answer)
-
-  pub script-held : (t : Table) → r ≡ Ok t → ScriptHeld ws t
-  script-held t d = let (p, x) = script-reads (read_script ws) t (sym d ∙ A.answer) in record { read = p; reads = x; tabled = A.table p t x d }
-
-rule-refuses : (x : Reading (Rule × Cursor)) (r : Refusal) → Err r ≡ rules.tabled x → x ≡ refuse r.question r.place
-unfolding rules.tabled
-rule-refuses (refuse q i) r e = let a : q ≡ r.question = cc in let b : i ≡ r.place = cc in λ k. refuse (a k) (b k)
-rule-refuses (got p) r e = ok≢err (sym e)
-
-rule-reads : (x : Reading (Rule × Cursor)) (t : RuleTable) → Ok t ≡ rules.tabled x → (p : Rule × Cursor) × (x ≡ got p)
-unfolding rules.tabled
-rule-reads (refuse q i) t e = ok≢err e
-rule-reads (got p) t e = (p, refl)
-
-module _ (k : ℕ) (ws : List ℕ) (r : Result RuleTable Refusal) (A : ruled.Answers k ws r) where
-  pub rule-refused : (x : Refusal) → r ≡ Err x → read_whole_rule k ws ≡ refuse x.question x.place
-  rule-refused x d = rule-refuses (read_whole_rule k ws) x (sym d ∙ A.answer)
-
-  pub rule-held : (t : RuleTable) → r ≡ Ok t → RuleHeld k ws t
-  rule-held t d = let (p, x) = rule-reads (read_whole_rule k ws) t (sym d ∙ A.answer) in record { read = p; reads = x; tabled = A.table p t x d }
+pub rule-held : (k : ℕ) (ws : List ℕ) (r : Result RuleTable Refusal) (t : RuleTable) → ruled.Answers k ws r → r ≡ Ok t → RuleHeld k ws t
+rule-held k ws r t A d = let (p, x, T) = rule-accepted k ws r t A d in record { read = p; reads = x; tabled = T }
 
 -- ---- how a list ends
 

@@ -2,7 +2,8 @@
 use Rattle.theory_call.proofs.Called.{answers-script}
 use Rattle.call_answers.specs.Answering.{call_of, CallGives}
 use Rattle.call_answers.proofs.Refusals.{gives-refusal}
-use Rattle.checker.proofs.Calling.{script-refused, script-held}
+use Rattle.read_scripts.proofs.Tabled.{script-refuses}
+use Rattle.checker.proofs.Calling.{script-held}
 use Rattle.checker.proofs.Concluding.{call_kept}
 use borrow.Author.Rules.{rules}
 use Rattle.checker.proofs.call.Goals as goal
@@ -11,7 +12,7 @@ pub returns-in-Err : goal.returns-in-Err
 returns-in-Err c =
     let x = c.args in
     let asked = call_of x.script.now x.moves.now x.rule.now x.patience x.out.now x.list.now in
-    let gives : CallGives asked c.handed_up.result x.out.now x.list.now = search (gives-refusal, answers-script, script-refused, rules) in
+    let gives : CallGives asked c.handed_up.result x.out.now x.list.now = search (gives-refusal, answers-script, script-refuses, rules) in
     let k = call_kept asked c.handed_up.result x.out.now x.list.now gives in
     record {
       answered = k.0;
