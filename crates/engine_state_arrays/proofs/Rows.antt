@@ -1,14 +1,10 @@
 -- The rows of the bindings in the numbers: read, written, and where numbers elsewhere change. Assumes nothing.
 use Prim.Native.Nat.{ℕ, zero, suc, ◌+◌, ◌*◌, ◌-◌, ◌≤◌, ◌<◌}
-use mathlib.Core.List.{List, [], ◌∷◌}
+use mathlib.Core.List.{List, ◌∷◌}
 use mathlib.Core.Path.{◌≡◌, refl, sym, ap, ap₂, ◌∙◌, subst}
 use native.Mathlib.Omega.{arith}
-use lib.Dec.{eqb}
 use lib.ListN.{get_or, length, drop, length-drop}
 use lib.Seq.{ext_get_or, get_or-drop}
-use borrow.Author.Tests.{eqb-true, eqb-false}
-use Rattle.base_slices.proofs.Tests.{by_test}
-use Rattle.base_arrays.specs.Stretches.{Put}
 use Rattle.engine_message_words.specs.Words.{binding_at}
 use Rattle.engine_message_words.specs.declared.Binding.{Binding}
 use Rattle.engine_state_arrays.specs.Lent.{row_at, rows_at}
@@ -51,27 +47,9 @@ rows-same at (suc n) l k same = ap₂ (λ (b : Binding) (bs : List Binding). b �
 abbrev pub Written : (rows : List Binding) (i : ℕ) (numbers : List ℕ) → Type 0
 Written rows i numbers = (j : ℕ) → j < i → row_at (320 + 5 * j) numbers ≡ binding_at rows j
 
-module _ (rows : List Binding) where
-  pub written_next : (i : ℕ) (b : Binding) (before after : List ℕ) → Written rows i before → b ≡ binding_at rows i
-      → Put (320 + 5 * i) (b.variable ∷ (b.source ∷ (b.count ∷ (b.size ∷ (b.bulk ∷ []))))) before after → Written rows (i + 1) after
-  written_next i b before after W e P j m = by_test (eqb j i)
-      (λ t. rw (eqb-true j i t) (here ∙ e))
-      (λ t. row-same (320 + 5 * j) after before (λ x l u. P.below 0 x (omega (arith, eqb-false j i t))) ∙ W j (omega (arith, eqb-false j i t)))
-    where
-      here : row_at (320 + 5 * i) after ≡ b
-      here =
-          let at = 320 + 5 * i in
-          let start : at ≡ at + 0 = omega arith in
-          let v = ap (λ (x : ℕ). get_or after x 0) start ∙ P.here 0 0 (omega arith) in
-          let s = P.here 0 1 (omega arith) in
-          let c = P.here 0 2 (omega arith) in
-          let z = P.here 0 3 (omega arith) in
-          let k = P.here 0 4 (omega arith) in
-          λ q. record { variable = v q; source = s q; count = c q; size = z q; bulk = k q }
-
-  pub written_all : (numbers : List ℕ) → length rows ≡ 32 → Written rows 32 numbers → rows_at 320 32 numbers ≡ rows
-  written_all numbers long W = ext_get_or free (rows_at 320 32 numbers) rows (length-rows 320 32 numbers ∙ sym long)
-      (λ j m. let l : j < 32 = subst (λ (x : ℕ). j < x) (length-rows 320 32 numbers) m in binding_at-rows 320 32 j numbers l ∙ W j l)
+pub written_all : (rows : List Binding) (numbers : List ℕ) → length rows ≡ 32 → Written rows 32 numbers → rows_at 320 32 numbers ≡ rows
+written_all rows numbers long W = ext_get_or free (rows_at 320 32 numbers) rows (length-rows 320 32 numbers ∙ sym long)
+    (λ j m. let l : j < 32 = subst (λ (x : ℕ). j < x) (length-rows 320 32 numbers) m in binding_at-rows 320 32 j numbers l ∙ W j l)
 
 -- ---- read
 

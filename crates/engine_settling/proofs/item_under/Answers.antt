@@ -18,12 +18,6 @@ held-rows : (n : List ℕ) (f first : ℕ) (rows held : List Binding) → f ≡ 
     → held ≡ drop (get_or n 480 0) (rows_at 320 32 n)
 held-rows n f first rows held e d r h = h ∙ ap (λ (k : ℕ). drop k rows) (d ∙ sym e) ∙ r ∙ ap (λ (k : ℕ). drop k (rows_at 320 32 n)) e
 
-pub part_item-requires : goal.part_item-requires
-part_item-requires c =
-    let x = c.args in
-    let b = c.bindings_from-bindings in
-    subst (Counted x.script.now) (sym (held-rows x.numbers.now c.wide.result b.result.first b.result.rows c.held.result.now c.wide.ensures b.ensures.0 b.ensures.1 c.held.ensures)) c.requires.cached.counted
-
 pub returns : goal.returns
 unfolding bindings_of
 returns c low =

@@ -1,25 +1,12 @@
 -- `with_bindings` meets its contract: all rows are written, and the first binding behind them. Assumes nothing.
-use mathlib.Core.Path.{refl, ◌∙◌}
+use mathlib.Core.Path.{◌∙◌}
 use native.Mathlib.Omega.{arith}
 use lib.ListN.{set}
 use lib.Seq.{get_or-set_same, get_or-set_other}
 use borrow.Author.Rules.{rules}
 use Rattle.base_arrays.proofs.Copying.{stretch-same, set_before}
-use Rattle.engine_state_arrays.proofs.Rows.{rows-same, written_next, written_all}
+use Rattle.engine_state_arrays.proofs.Rows.{rows-same, written_all}
 use Rattle.engine_state_arrays.proofs.with_bindings.Goals as goal
-
-pub put-requires : goal.put-requires
-put-requires c = (omega arith, record { long = c.loop-i.invariant.long; room = omega (arith, c.loop-i-test.true) })
-
-pub loop-i-init : goal.loop-i-init
-loop-i-init c = record { long = search rules; written = λ j m. absurd (let z : ⊥ = omega arith in z); others = λ j m. refl }
-
-pub loop-i-preserved : goal.loop-i-preserved
-loop-i-preserved c = let I = c.loop-i.invariant in record {
-  long = c.put.array_long;
-  written = written_next c.args.bindings.rows c.loop-i.i _ c.loop-i.r c.put.new.to I.written refl c.put.ensures.put;
-  others = λ j m. c.put.ensures.put.below 0 j (omega arith) ∙ I.others j m;
-}
 
 pub returns-clause-rows : goal.returns-clause-rows
 returns-clause-rows c =
