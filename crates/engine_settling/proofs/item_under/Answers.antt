@@ -5,7 +5,6 @@ use mathlib.Core.Path.{◌≡◌, sym, ap, ◌∙◌, subst}
 use lib.ListN.{get_or, drop}
 use Rattle.engine_message_words.specs.declared.Binding.{Binding}
 use Rattle.engine_bindings.specs.Bindings.{bindings_in}
-use Rattle.engine_bindings.specs.Measures.{Counted}
 use Rattle.engine_held_bindings.specs.Held.{bindings_of}
 use Rattle.theory_machine.specs.Moves.{first_of}
 use Rattle.theory_closures.specs.Closure.{view_under}
