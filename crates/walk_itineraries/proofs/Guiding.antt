@@ -15,7 +15,7 @@ use Rattle.engine_states.specs.Represents.{bound_in}
 use Rattle.engine_states.specs.declared.State.{State}
 use Rattle.engine_targets.specs.Targets.{TargetsOf}
 use Rattle.engine_targets.specs.Makes.{Moves}
-use Rattle.base_arrays.specs.Stretches.{stretch}
+use Rattle.base_arrays.specs.Stretches.{stretch_or, stretch}
 use Rattle.engine_state_arrays.specs.Lent.{kinds_in, starts_in, state_in}
 use Rattle.theory_decision.specs.Walk.{Count, on_no, look}
 use Rattle.theory_decision.specs.Walk as spec
@@ -114,7 +114,7 @@ module _ (program script sets numbers choices : List ℕ) (top somes left index 
 
   -- no move is made
   pub leads-first : (r : Walked) (list : List ℕ) → Begun r → NotNo r → Led r 0 list
-  unfolding stretch closure_run
+  unfolding stretch_or closure_run
   leads-first r list B h = record {
     answers = λ q X. no-stops r (walked_of r) refl (tried q X) h ∙ sym (B.goes q X);
     few = omega arith;

@@ -12,7 +12,7 @@ use Rattle.read_messages.specs.Words.{kind, operand, word}
 use Rattle.read_rule_words.specs.Rule.{Names, Rule}
 use Rattle.theory_machine.specs.Moves.{MoveMade}
 use Rattle.theory_closures.specs.Closure.{Action, ClosureMachine, closure_move}
-use Rattle.base_arrays.specs.Stretches.{stretch}
+use Rattle.base_arrays.specs.Stretches.{stretch_or, stretch}
 use Rattle.base_arrays.proofs.Copying.{stretch-same}
 use Rattle.theory_call.specs.Call.{actor, target, move_fits}
 use Rattle.theory_call.specs.ClosureCall.{halted, after_move, if_made, closure_run}
@@ -54,7 +54,7 @@ noted a t at l = let e : 268435456 + a * 256 + t ≡ move_word a t = omega arith
 
 -- THEOREM: a word that is put before a stretch makes one that is one longer.
 pub stretch-before : (at k w : ℕ) (l : List ℕ) → at < length l → stretch at (suc k) (set l at w) ≡ w ∷ stretch (suc at) k l
-unfolding stretch
+unfolding stretch_or
 stretch-before at k w l h =
     ap₂ (λ (x : ℕ) (xs : List ℕ). x ∷ xs) (get_or-set_same l at w 0 h)
     (stretch-same (suc at) k (set l at w) l (λ j g m. get_or-set_other l at j w 0 (λ e. omega arith)))

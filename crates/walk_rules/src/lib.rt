@@ -22,9 +22,11 @@ fn loaded(rule: &[u32], rights: [u16; 256], placings: [u8; 256]) -> [u32; PROGRA
 {
     let mut program: [u32; PROGRAM] = [0; PROGRAM];
     for i in 0..WORDS {
+        let right = rights[i] as u32;
+        let placing = placings[i] as u32;
         program[i] = rule.get(i).copied().unwrap_or(0);
-        program[RIGHTS + i] = rights[i] as u32;
-        program[PLACINGS + i] = placings[i] as u32;
+        program[RIGHTS + i] = right;
+        program[PLACINGS + i] = placing;
     }
     program
 }

@@ -17,7 +17,9 @@ use walk_states::{Spot, Step, Walk, all_targets, is_called, next_state, next_tur
 
 // There are so many parts at most, and so many SOMEs around a word; a name is below the third.
 const PARTS: usize = 64;
+
 const SOMES: usize = 8;
+
 const NAMES: u32 = 536870912;
 
 // A visit at the word of the spot, whose depth is among the depths left.
