@@ -8,7 +8,7 @@ use lib.ListN.{length, take}
 use lib.Seq.{take_all}
 use Rattle.read_messages.specs.Reading.{Cursor, Reading, refuse, got}
 use Rattle.read_scripts.specs.Tree.{parts}
-use Rattle.read_scripts.specs.Script.{Script, read_script}
+use Rattle.read_scripts.specs.Script.{Script}
 use Rattle.read_scripts.specs.Represents.{Tabled}
 use Rattle.read_scripts.specs.Represents as read
 use Rattle.read_scripts.specs.declared.Table.{Table}

@@ -64,23 +64,23 @@ fn write_state(
 fn finish(
     script: &[u32],
     parts: &Table,
-    state: &State,
+    state: State,
     moves: usize,
     yes: bool,
     counts: Counts,
     out: &mut [u32],
 ) -> Answer
-    requires { Writable script.now parts.now.kinds parts.now.starts state.now }
-    ensures { ComesTo script.now parts.now.kinds parts.now.starts state.now moves out.old out.new result (says yes (count_of counts)) }
+    requires { Writable script.now parts.now.kinds parts.now.starts state }
+    ensures { ComesTo script.now parts.now.kinds parts.now.starts state moves out.old out.new result (says yes (count_of counts)) }
 {
-    match write_state(script, parts, state, out) {
+    match write_state(script, parts, &state, out) {
         Err(first_no) => refused(first_no, moves, counts.visits),
         Ok(words) => Answer {
             verdict: said(yes),
             moves,
             visits: counts.visits,
             deepest: counts.deepest,
-            weight: weigh(*state),
+            weight: weigh(state),
             words,
             count: 0,
         },
@@ -100,8 +100,8 @@ fn after_walk(
     ensures { ComesTo script.now parts.now.kinds parts.now.starts state.now moves out.old out.new result (walked_of w) }
 {
     match w {
-        Walked::Yes(counts) => finish(script, parts, state, moves, true, counts, out),
-        Walked::No(counts) => finish(script, parts, state, moves, false, counts, out),
+        Walked::Yes(counts) => finish(script, parts, *state, moves, true, counts, out),
+        Walked::No(counts) => finish(script, parts, *state, moves, false, counts, out),
         Walked::Stopped(question, place, visits) => {
             refused(Refusal { question, place }, moves, visits)
         }
@@ -111,14 +111,14 @@ fn after_walk(
 // The walk on the tree that stands after the moves; where it says yes to SOMETIME, the moves that lead there are put into
 // `found`.
 fn walk_standing(
-    request: Request,
+    request: &Request,
     parts: &Table,
     state: &State,
     table: RuleTable,
     found: &mut [u32; 256],
 ) -> Led
-    requires { Walkable request.script.now parts.now table state.now × (length found.old ≡ 256) }
-    ensures { (moves list : List ℕ) (S : StateHeld request.script.now moves request.rule.now request.patience list parts.now table state.now) → WalkSays S result.walked result.count found.new }
+    requires { Walkable request.now.script.now parts.now table state.now × (length found.old ≡ 256) }
+    ensures { (moves list : List ℕ) (S : StateHeld request.now.script.now moves request.now.rule.now request.now.patience list parts.now table state.now) → WalkSays S result.walked result.count found.new }
 {
     let limits = Limits {
         patience: request.patience,
@@ -158,14 +158,14 @@ fn conclude(
 
 // Questions 15 and 16 and the moves, of a call whose script and rule are read and whose numbers are let in.
 fn with_terms(
-    request: Request,
+    request: &Request,
     parts: &Table,
     table: RuleTable,
     out: &mut [u32],
     list: &mut [u32],
 ) -> Answer
-    requires { Entered request.script.now request.moves.now request.rule.now request.patience list.old parts.now table }
-    ensures { CallGives (call_by request out.old list.old) result out.new list.new }
+    requires { Entered request.now.script.now request.now.moves.now request.now.rule.now request.now.patience list.old parts.now table }
+    ensures { CallGives (call_by request.now out.old list.old) result out.new list.new }
 {
     let script = request.script;
     let begun = first_state(script, &parts.kinds, &parts.starts, parts.kids);
@@ -193,14 +193,14 @@ fn with_terms(
 
 // Questions 13 to 19 and 21, of a call whose script and rule are read.
 fn with_rule(
-    request: Request,
+    request: &Request,
     parts: &Table,
     table: RuleTable,
     out: &mut [u32],
     list: &mut [u32],
 ) -> Answer
-    requires { BothHeld request.script.now request.rule.now parts.now table }
-    ensures { CallGives (call_by request out.old list.old) result out.new list.new }
+    requires { BothHeld request.now.script.now request.now.rule.now parts.now table }
+    ensures { CallGives (call_by request.now out.old list.old) result out.new list.new }
 {
     match ask_terms(request.patience, request.moves.len(), list.len()) {
         Err(first_no) => handed_up(first_no),
@@ -209,9 +209,9 @@ fn with_rule(
 }
 
 // Questions 7 to 19 and 21, of a call whose script is read.
-fn with_script(request: Request, parts: &Table, out: &mut [u32], list: &mut [u32]) -> Answer
-    requires { ScriptHeld request.script.now parts.now }
-    ensures { CallGives (call_by request out.old list.old) result out.new list.new }
+fn with_script(request: &Request, parts: &Table, out: &mut [u32], list: &mut [u32]) -> Answer
+    requires { ScriptHeld request.now.script.now parts.now }
+    ensures { CallGives (call_by request.now out.old list.old) result out.new list.new }
 {
     match read_whole_rule(request.rule, parts.count) {
         Err(first_no) => handed_up(first_no),
@@ -246,6 +246,6 @@ pub fn call(
     };
     match read_script(script) {
         Err(first_no) => handed_up(first_no),
-        Ok(parts) => with_script(request, &parts, out, list),
+        Ok(parts) => with_script(&request, &parts, out, list),
     }
 }

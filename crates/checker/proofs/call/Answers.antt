@@ -33,4 +33,13 @@ returns-in-Ok c =
     let x = c.args in
     let asked = call_of x.script.now x.moves.now x.rule.now x.patience x.out.now x.list.now in
     let k = call_kept asked c.with_script.result c.with_script.new.out c.with_script.new.list c.with_script.ensures in
-    k
+    record {
+      answered = k.0;
+      decided = k.1.0;
+      bounded = k.1.1.0;
+      weighed = k.1.1.1.0;
+      reduced = k.1.1.1.1.0;
+      reread = k.1.1.1.1.1.0;
+      readmitted = k.1.1.1.1.1.1.0;
+      listed = k.1.1.1.1.1.1.1;
+    }
