@@ -7,32 +7,29 @@ ghost use Rattle.theory_call.specs.Call.{actor, target, move_fits};
 ghost use Rattle.call_lists.specs.Running.{Runnable, ListRan};
 
 use engine_moves::make_if_possible;
-use read_messages::Refusal;
-
-// A word's low 28 bits are its operand: so many operands there are.
-const OPERANDS: u32 = 268435456;
+use read_messages::{KIND_UNIT, Refusal};
 
 // The actor and the target of a move word.
 fn actor_of(w: u32) -> usize
     ensures { result ≡ actor w }
 {
-    (w % OPERANDS / 256) as usize
+    (w % KIND_UNIT / 256) as usize
 }
 
 fn target_of(w: u32) -> usize
     ensures { result ≡ target w }
 {
-    (w % OPERANDS % 256) as usize
+    (w % KIND_UNIT % 256) as usize
 }
 
 // Question 15 of a word.
 fn move_fits(w: u32, parts: usize) -> bool
     ensures { result ≡ move_fits parts w }
 {
-    if w / OPERANDS != 1 {
+    if w / KIND_UNIT != 1 {
         return false;
     }
-    if w % OPERANDS >= 65536 {
+    if w % KIND_UNIT >= 65536 {
         return false;
     }
     if actor_of(w) >= parts {

@@ -18,7 +18,7 @@ use base_slices::{sum, tail, wide};
 use engine_message_words::{Binding, arity, bound, first_word, given, plain_name, shape_of};
 
 // From here on a part's start is no word of the script: the rest is a name that the part was given directly.
-const FIRST_NAME: u32 = 65536;
+pub const FIRST_NAME: u32 = 65536;
 
 // Where a pass stands behind a word's own items: the words used, and the messages still pending.
 #[derive(Drop)]

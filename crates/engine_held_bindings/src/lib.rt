@@ -19,7 +19,7 @@ use engine_message_words::{Binding, arity, bound, first_word, given};
 use read_messages::MessageWord;
 
 // How many bindings can be held.
-const MOST: usize = 32;
+pub const MOST_BINDINGS: usize = 32;
 
 // A row that no binding has taken.
 const FREE: Binding = Binding {
@@ -159,8 +159,8 @@ impl Bindings {
         ensures { (script : List ℕ) → NoneHeld script result }
     {
         Bindings {
-            rows: [FREE; MOST],
-            first: MOST,
+            rows: [FREE; MOST_BINDINGS],
+            first: MOST_BINDINGS,
         }
     }
 
@@ -169,10 +169,10 @@ impl Bindings {
         ensures { result.now ≡ drop self.now.first self.now.rows }
     {
         let first = self.first;
-        if first <= MOST {
+        if first <= MOST_BINDINGS {
             &self.rows[first..]
         } else {
-            &self.rows[MOST..]
+            &self.rows[MOST_BINDINGS..]
         }
     }
 

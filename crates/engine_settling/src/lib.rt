@@ -18,16 +18,15 @@ ghost use Rattle.engine_state_arrays.specs.Lent.{kinds_in, starts_in, bindings_a
 
 use base_arrays::stretch;
 use base_slices::wide;
+use engine_bindings::FIRST_NAME;
 use engine_held_bindings::Bindings;
 use engine_state_arrays::{
     ACTS, AIMS, BUSY, FIRST, NAMED, NAMES, NUMBERS, OFFSETS, SETS, STARTS, TOP, TabledState,
     bindings_from, from_arrays, to_arrays,
 };
-use engine_states::{ACTION, AMBIENT, NameTable, State, item_deed, noted, part_item};
+use engine_states::{NameTable, State, item_deed, noted, part_item};
 use read_messages::First;
-
-// From here on a part's start is no word of the script: the rest is a name that the part was given directly.
-const FIRST_NAME: u32 = 65536;
+use read_scripts::{ACTION, AMBIENT};
 
 // What becomes of the parts of left when they are settled: an action with no items left goes, and its body comes in its
 // place; in the bodies of ambients too, which sets then holds. Where none of them is busy, nothing changes.

@@ -7,7 +7,7 @@ ghost use Rattle.engine_state_arrays.specs.Lent.{kinds_in, starts_in, row_at, bi
 
 use base_arrays::{narrow, put, stretch, widen};
 use base_slices::wide;
-use engine_held_bindings::Bindings;
+use engine_held_bindings::{Bindings, MOST_BINDINGS};
 use engine_message_words::Binding;
 use engine_states::{PartNotes, State};
 
@@ -40,9 +40,7 @@ pub const ROWS: usize = 320;
 
 pub const FIRST: usize = 480;
 
-// How many rows there are, and how many numbers a row is.
-const MOST: usize = 32;
-
+// How many numbers a row is.
 const ROW: usize = 5;
 
 // A state beside the part table to which it belongs.
@@ -89,7 +87,7 @@ fn with_bindings(numbers: [u32; NUMBERS], bindings: Bindings) -> [u32; NUMBERS]
     ensures others { (i n : ℕ) → i + n ≤ 320 → stretch i n result ≡ stretch i n numbers }
 {
     let mut r = numbers;
-    for i in 0..MOST {
+    for i in 0..MOST_BINDINGS {
         let b = bindings.rows[i];
         put(
             &mut r,
@@ -160,7 +158,7 @@ pub fn bindings_from(numbers: &[u32; NUMBERS], from: usize) -> Bindings
 {
     let mut bindings = Bindings::none();
     bindings.first = wide(numbers[FIRST]);
-    for i in from..MOST {
+    for i in from..MOST_BINDINGS {
         bindings.rows[i] = row(numbers, ROWS + ROW * i);
     }
     bindings

@@ -19,13 +19,7 @@ use engine_first_items::first_item;
 use engine_held_bindings::Bindings;
 use engine_message_words::Binding;
 use read_messages::First;
-
-// The kinds of parts, as the part table has them; every other kind is an output.
-pub const AMBIENT: u8 = 1;
-
-pub const ACTION: u8 = 2;
-
-pub const RECEIPT: u8 = 3;
+use read_scripts::{ACTION, AMBIENT, RECEIPT};
 
 // What a part does first: what an action's first item asks, or that a receipt receives.
 pub const NO_ACT: u8 = 0;

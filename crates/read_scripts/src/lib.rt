@@ -26,13 +26,13 @@ const MOST_RECEIPTS: usize = 65;
 
 // The kinds of parts in a table. They stay numbers: a state is lent as arrays of numbers (engine_state_arrays: kinds_in), and
 // head_of and heads speak of them.
-const AMBIENT: u8 = 1;
+pub const AMBIENT: u8 = 1;
 
-const ACTION: u8 = 2;
+pub const ACTION: u8 = 2;
 
-const RECEIPT: u8 = 3;
+pub const RECEIPT: u8 = 3;
 
-const OUTPUT: u8 = 4;
+pub const OUTPUT: u8 = 4;
 
 // The parts by number: kind, where the message starts (of a receipt, its own index), and the set of the parts in the body;
 // entry 64 of kids is the script's own body. count is the number of parts. The arrays stay beside each other, and are no rows:

@@ -7,8 +7,9 @@ ghost use Rattle.walk_stages.specs.Visits.{Visitable};
 ghost use Rattle.walk_itineraries.specs.Leading.{move_word, Begins, Leads as Guides};
 
 use engine_state_arrays::{NUMBERS, SETS};
+use read_messages::KIND_UNIT;
 use walk_rule_answers::next_count;
-use walk_stages::{Counts, DEPTHS, EARLY_END, NO_DEPTH, NO_VISIT, OPERANDS, WORDS, Walked};
+use walk_stages::{Counts, DEPTHS, EARLY_END, NO_DEPTH, NO_VISIT, WORDS, Walked};
 use walk_states::{Spot, Step, Walk, all_targets, next_state, next_turn};
 use walk_visits::visit;
 
@@ -57,7 +58,7 @@ fn note_move(list: &mut [u32; 256], left: usize, actor: usize, target: usize)
     ensures kept { length list.new ≡ length list.old }
     ensures noted { list.new ≡ set list.old (256 - left) (move_word actor target) }
 {
-    list[DEPTHS - left] = OPERANDS + (actor as u32) * 256 + target as u32;
+    list[DEPTHS - left] = KIND_UNIT + (actor as u32) * 256 + target as u32;
 }
 
 // A visit at SOMETIME, as the walk's own. On yes the moves that lead to it stand in the list, each at the index of the visit

@@ -7,9 +7,10 @@ ghost use Rattle.walk_stages.specs.Visits.{Walks};
 ghost use Rattle.walk_rules.specs.Walking.{Loading, RuleWalkable, Routed};
 
 use engine_states::State;
+use read_messages::KIND_UNIT;
 use read_rules::RuleTable;
 use walk_itineraries::{Led, lead};
-use walk_stages::{Counts, DEPTHS, Limits, OPERANDS, PLACINGS, PROGRAM, RIGHTS, WORDS};
+use walk_stages::{Counts, DEPTHS, Limits, PLACINGS, PROGRAM, RIGHTS, WORDS};
 use walk_states::{Spot, Walk, as_arrays};
 use walk_visits::visit;
 
@@ -65,7 +66,7 @@ pub fn walk_rule(
         somes: 0,
         left: DEPTHS,
     };
-    if program[0] / OPERANDS == SOMETIME {
+    if program[0] / KIND_UNIT == SOMETIME {
         return lead(&walk, &s.sets, &s.numbers, &chosen, spot, counts, list);
     }
     let walked = visit(&walk, &s.sets, &s.numbers, &chosen, spot, counts);

@@ -15,9 +15,6 @@ pub const RIGHTS: usize = 256;
 
 pub const PLACINGS: usize = 512;
 
-// A word's operand is below this, which stands beside its kind.
-pub const OPERANDS: u32 = 268435456;
-
 // The questions of document 01 at which a walk stops, by their numbers: a word that no rule has, too many SOMEs around, a rule
 // that ends too early, too many parts, no depth left, and no visit left.
 pub const ODD_WORD: u32 = 8;

@@ -6,12 +6,12 @@ ghost use Rattle.std.specs.Prelude.{◌+◌, ◌-◌, ◌≤◌, ◌<◌};
 ghost use Rattle.walk_stages.specs.Visits.{Visitable, Visits as Answers, Looks as Finds, Splits};
 
 use engine_state_arrays::{NAMED, NUMBERS, SETS};
+use read_messages::KIND_UNIT;
 use walk_rule_answers::{
     last_name, name_said, next_count, placing, right_rule, turned, void_rule, with_name,
 };
 use walk_stages::{
-    Counts, EARLY_END, MANY_PARTS, MANY_SOMES, NO_DEPTH, NO_VISIT, ODD_WORD, OPERANDS, WORDS,
-    Walked,
+    Counts, EARLY_END, MANY_PARTS, MANY_SOMES, NO_DEPTH, NO_VISIT, ODD_WORD, WORDS, Walked,
 };
 use walk_states::{Spot, Step, Walk, all_targets, is_called, next_state, next_turn};
 
@@ -47,7 +47,7 @@ pub fn visit(
     if WORDS <= at {
         return Walked::Stopped(EARLY_END, at, visits);
     }
-    let kind = walk.program[at] / OPERANDS;
+    let kind = walk.program[at] / KIND_UNIT;
     let n = next_count(c, left);
     let mut below = spot;
     below.left = left - 1;

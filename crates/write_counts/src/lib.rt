@@ -15,14 +15,8 @@ ghost use Rattle.write_counts.specs.Counts.{CountsPart, CountsBody};
 use base_slices::{sum, wide};
 use engine_held_bindings::{item_words, words_of};
 use engine_message_words::Binding;
-use engine_states::{ACTION, RECEIPT};
+use read_scripts::{ACTION, MOST_PARTS, RECEIPT, SCRIPT_BODY};
 use write_heads::has_body;
-
-// The number of the script's own body, behind those of the parts.
-pub const TOP: usize = 64;
-
-// How many parts there can be.
-pub const MOST_PARTS: usize = 64;
 
 // The tree that stands, as it is lent to be written: the script; which parts stand in each body; of each part its kind,
 // where its message starts, and how many of its items are spent; and the bindings, newest first. What is known of the parts
@@ -92,5 +86,5 @@ pub fn count_words(tree: &Standing) -> u32
     requires { TreeAsked tree.now }
     ensures { CountsBody (bindings_under tree.now) (bodies_in tree.now) (heads_in tree.now) (bodies_in tree.now 64) 64 result }
 {
-    count_body(tree, tree.kids[TOP], MOST_PARTS)
+    count_body(tree, tree.kids[SCRIPT_BODY], MOST_PARTS)
 }

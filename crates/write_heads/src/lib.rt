@@ -17,7 +17,7 @@ ghost use Rattle.write_heads.specs.Heads.{has_body, write_label};
 
 use base_slices::wide;
 use engine_message_words::Binding;
-use engine_states::{ACTION, AMBIENT, RECEIPT};
+use read_scripts::{ACTION, AMBIENT, RECEIPT};
 use write_messages::{Receipt, write_items, write_message, write_word};
 
 // The words in front of parts, by their kinds: the operand of each is 0.

@@ -18,7 +18,8 @@ ghost use Rattle.write_trees.specs.Bodies.{Writes, WritesPart};
 
 use base_slices::wide;
 use read_messages::Refusal;
-use write_counts::{MOST_PARTS, Standing, TOP, count_words};
+use read_scripts::{MOST_PARTS, SCRIPT_BODY};
+use write_counts::{Standing, count_words};
 use write_heads::{Around, around_body, has_body, nothing_around, write_head};
 use write_messages::write_word;
 
@@ -99,7 +100,7 @@ pub fn write_tree(tree: &Standing, out: &mut [u32]) -> Result<u32, Refusal>
     write_body(
         tree,
         &around,
-        tree.kids[TOP],
+        tree.kids[SCRIPT_BODY],
         0,
         MOST_PARTS,
         &mut out[..words],
