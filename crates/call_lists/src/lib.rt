@@ -7,6 +7,7 @@ ghost use Rattle.theory_call.specs.Call.{actor, target, move_fits};
 ghost use Rattle.call_lists.specs.Running.{Runnable, ListRan};
 
 use engine_moves::make_if_possible;
+use engine_state_arrays::StateArrays;
 use read_messages::{KIND_UNIT, Refusal};
 
 // The actor and the target of a move word.
@@ -41,13 +42,12 @@ fn move_fits(w: u32, parts: usize) -> bool
 // The moves of the list, one by one, made on the state that is lent.
 pub fn run_list<'a, 'b>(
     script: &'a [u32],
-    sets: &'b mut [u64; 131],
-    numbers: &'b mut [u32; 481],
+    lent: &'b mut StateArrays,
     moves: &'a [u32],
     parts: usize,
 ) -> Result<(), Refusal>
-    requires { Runnable script.now sets.old numbers.old moves.now parts }
-    ensures { ListRan script.now sets.old numbers.old moves.now parts sets.new numbers.new result }
+    requires { Runnable script.now lent.old.sets lent.old.numbers moves.now parts }
+    ensures { ListRan script.now lent.old.sets lent.old.numbers moves.now parts lent.new.sets lent.new.numbers result }
 {
     for (i, &w) in moves.iter().enumerate() {
         if !move_fits(w, parts) {
@@ -56,7 +56,7 @@ pub fn run_list<'a, 'b>(
                 place: i,
             });
         }
-        if !make_if_possible(script, sets, numbers, actor_of(w), target_of(w)) {
+        if !make_if_possible(script, lent, actor_of(w), target_of(w)) {
             return Err(Refusal {
                 question: 16,
                 place: i,

@@ -6,161 +6,145 @@ ghost use Rattle.engine_targets.specs.Makes.{Opens, Enters, Exits, Receives, Mov
 ghost use Rattle.engine_state_arrays.specs.Lent.{kinds_in, starts_in, own_state, LentReady};
 
 use engine_settling::{received, settle, spend};
-use engine_state_arrays::{ACTS, AIMS, NAMED, NUMBERS, SETS, TOP, bodies, from_arrays, to_arrays};
+use engine_state_arrays::{ACTS, AIMS, NAMED, StateArrays, TOP, bodies, from_arrays, to_arrays};
 use engine_states::{ENTER, OPEN, RECEIVE};
 use engine_targets::{locate, targets};
 
 // OPEN: the part t goes from the body of p, in which the actor stands, and its body stays.
-fn open_part<'a, 'b>(
-    script: &'a [u32],
-    sets: &'b mut [u64; SETS],
-    numbers: &'b mut [u32; NUMBERS],
-    p: usize,
-    a: usize,
-    t: usize,
-)
-    requires { (p < 65) × (a < 64) × (t < 64) × LentReady script.now sets.old numbers.old }
-    ensures lends { LentReady script.now sets.new numbers.new }
-    ensures table { (kinds_in numbers.new ≡ kinds_in numbers.old) × (starts_in numbers.new ≡ starts_in numbers.old) }
-    ensures made { Opens script.now (kinds_in numbers.old) (starts_in numbers.old) (own_state sets.old numbers.old) (own_state sets.new numbers.new) p a t }
+fn open_part<'a, 'b>(script: &'a [u32], lent: &'b mut StateArrays, p: usize, a: usize, t: usize)
+    requires { (p < 65) × (a < 64) × (t < 64) × LentReady script.now lent.old.sets lent.old.numbers }
+    ensures lends { LentReady script.now lent.new.sets lent.new.numbers }
+    ensures table { (kinds_in lent.new.numbers ≡ kinds_in lent.old.numbers) × (starts_in lent.new.numbers ≡ starts_in lent.old.numbers) }
+    ensures made { Opens script.now (kinds_in lent.old.numbers) (starts_in lent.old.numbers) (own_state lent.old.sets lent.old.numbers) (own_state lent.new.sets lent.new.numbers) p a t }
 {
-    let here = sets[p];
-    let inside = sets[t];
-    sets[p] = base_sets::union(inside, base_sets::without(here, t));
-    spend(script, sets, numbers, a);
-    settle(sets, numbers)
+    let here = lent.sets[p];
+    let inside = lent.sets[t];
+    lent.sets[p] = base_sets::union(inside, base_sets::without(here, t));
+    spend(script, lent, a);
+    settle(&mut lent.sets, &lent.numbers)
 }
 
 // IN and EXIT: the part p goes from one body into another.
 fn carry<'a, 'b>(
     script: &'a [u32],
-    sets: &'b mut [u64; SETS],
-    numbers: &'b mut [u32; NUMBERS],
+    lent: &'b mut StateArrays,
     p: usize,
     from: usize,
     into: usize,
     a: usize,
 )
-    requires { (p < 64) × (from < 65) × (into < 65) × (a < 64) × LentReady script.now sets.old numbers.old }
-    ensures lends { LentReady script.now sets.new numbers.new }
-    ensures table { (kinds_in numbers.new ≡ kinds_in numbers.old) × (starts_in numbers.new ≡ starts_in numbers.old) }
-    ensures entered { Enters script.now (kinds_in numbers.old) (starts_in numbers.old) (own_state sets.old numbers.old) (own_state sets.new numbers.new) p from a into }
-    ensures left { Exits script.now (kinds_in numbers.old) (starts_in numbers.old) (own_state sets.old numbers.old) (own_state sets.new numbers.new) p from into a }
+    requires { (p < 64) × (from < 65) × (into < 65) × (a < 64) × LentReady script.now lent.old.sets lent.old.numbers }
+    ensures lends { LentReady script.now lent.new.sets lent.new.numbers }
+    ensures table { (kinds_in lent.new.numbers ≡ kinds_in lent.old.numbers) × (starts_in lent.new.numbers ≡ starts_in lent.old.numbers) }
+    ensures entered { Enters script.now (kinds_in lent.old.numbers) (starts_in lent.old.numbers) (own_state lent.old.sets lent.old.numbers) (own_state lent.new.sets lent.new.numbers) p from a into }
+    ensures left { Exits script.now (kinds_in lent.old.numbers) (starts_in lent.old.numbers) (own_state lent.old.sets lent.old.numbers) (own_state lent.new.sets lent.new.numbers) p from into a }
 {
-    let here = sets[from];
-    sets[from] = base_sets::without(here, p);
-    let there = sets[into];
-    sets[into] = base_sets::with(there, p);
-    spend(script, sets, numbers, a);
-    settle(sets, numbers)
+    let here = lent.sets[from];
+    lent.sets[from] = base_sets::without(here, p);
+    let there = lent.sets[into];
+    lent.sets[into] = base_sets::with(there, p);
+    spend(script, lent, a);
+    settle(&mut lent.sets, &lent.numbers)
 }
 
 // A receipt: the receipt a and the output t go from the body of p.
-fn receive_part<'a, 'b>(
-    script: &'a [u32],
-    sets: &'b mut [u64; SETS],
-    numbers: &'b mut [u32; NUMBERS],
-    p: usize,
-    a: usize,
-    t: usize,
-)
-    requires { (p < 65) × (a < 64) × (t < 64) × LentReady script.now sets.old numbers.old }
-    ensures lends { LentReady script.now sets.new numbers.new }
-    ensures table { (kinds_in numbers.new ≡ kinds_in numbers.old) × (starts_in numbers.new ≡ starts_in numbers.old) }
-    ensures made { Receives script.now (kinds_in numbers.old) (starts_in numbers.old) (own_state sets.old numbers.old) (own_state sets.new numbers.new) p a t }
+fn receive_part<'a, 'b>(script: &'a [u32], lent: &'b mut StateArrays, p: usize, a: usize, t: usize)
+    requires { (p < 65) × (a < 64) × (t < 64) × LentReady script.now lent.old.sets lent.old.numbers }
+    ensures lends { LentReady script.now lent.new.sets lent.new.numbers }
+    ensures table { (kinds_in lent.new.numbers ≡ kinds_in lent.old.numbers) × (starts_in lent.new.numbers ≡ starts_in lent.old.numbers) }
+    ensures made { Receives script.now (kinds_in lent.old.numbers) (starts_in lent.old.numbers) (own_state lent.old.sets lent.old.numbers) (own_state lent.new.sets lent.new.numbers) p a t }
 {
-    let top = sets[TOP];
-    let b = from_arrays(sets, numbers, top);
+    let top = lent.sets[TOP];
+    let b = from_arrays(lent, top);
     let s = received(script, &b.kinds, &b.starts, b.state, p, a, t);
-    let l = to_arrays(b.kinds, b.starts, s);
-    let new_sets = l.sets;
-    let new_numbers = l.numbers;
-    *sets = new_sets;
-    *numbers = new_numbers;
-    settle(sets, numbers)
+    *lent = to_arrays(b.kinds, b.starts, s);
+    settle(&mut lent.sets, &lent.numbers)
 }
 
 // IN, or where it is none EXIT, of the actor a in the body of p.
 fn carry_around<'a, 'b>(
     script: &'a [u32],
-    sets: &'b mut [u64; SETS],
-    numbers: &'b mut [u32; NUMBERS],
+    lent: &'b mut StateArrays,
     homes: &'a [usize; 64],
     p: usize,
     a: usize,
     t: usize,
     enters: bool,
 )
-    requires { (p < 64) × (a < 64) × (t < 64) × LentReady script.now sets.old numbers.old }
-    ensures lends { LentReady script.now sets.new numbers.new }
-    ensures table { (kinds_in numbers.new ≡ kinds_in numbers.old) × (starts_in numbers.new ≡ starts_in numbers.old) }
-    ensures entered { enters ≡ true → get_or homes.now p 0 < 65 → Enters script.now (kinds_in numbers.old) (starts_in numbers.old) (own_state sets.old numbers.old) (own_state sets.new numbers.new) p (get_or homes.now p 0) a t }
-    ensures left { enters ≡ false → get_or homes.now t 0 < 65 → Exits script.now (kinds_in numbers.old) (starts_in numbers.old) (own_state sets.old numbers.old) (own_state sets.new numbers.new) p t (get_or homes.now t 0) a }
+    requires { (p < 64) × (a < 64) × (t < 64) × LentReady script.now lent.old.sets lent.old.numbers }
+    ensures lends { LentReady script.now lent.new.sets lent.new.numbers }
+    ensures table { (kinds_in lent.new.numbers ≡ kinds_in lent.old.numbers) × (starts_in lent.new.numbers ≡ starts_in lent.old.numbers) }
+    ensures entered { enters ≡ true → get_or homes.now p 0 < 65 → Enters script.now (kinds_in lent.old.numbers) (starts_in lent.old.numbers) (own_state lent.old.sets lent.old.numbers) (own_state lent.new.sets lent.new.numbers) p (get_or homes.now p 0) a t }
+    ensures left { enters ≡ false → get_or homes.now t 0 < 65 → Exits script.now (kinds_in lent.old.numbers) (starts_in lent.old.numbers) (own_state lent.old.sets lent.old.numbers) (own_state lent.new.sets lent.new.numbers) p t (get_or homes.now t 0) a }
 {
     if enters {
         let q = homes[p];
         if q > TOP {
             return;
         }
-        return carry(script, sets, numbers, p, q, t, a);
+        return carry(script, lent, p, q, t, a);
     }
     let q = homes[t];
     if q > TOP {
         return;
     }
-    carry(script, sets, numbers, p, t, q, a)
+    carry(script, lent, p, t, q, a)
 }
 
 // The move of the actor a to t, one of its targets, homes being those of all parts.
 pub fn make_move<'a, 'b>(
     script: &'a [u32],
-    sets: &'b mut [u64; SETS],
-    numbers: &'b mut [u32; NUMBERS],
+    lent: &'b mut StateArrays,
     homes: &'a [usize; 64],
     a: usize,
     t: usize,
 )
-    requires { (a < 64) × (t < 64) × LentReady script.now sets.old numbers.old }
-    ensures lends { LentReady script.now sets.new numbers.new }
-    ensures table { (kinds_in numbers.new ≡ kinds_in numbers.old) × (starts_in numbers.new ≡ starts_in numbers.old) }
-    ensures made { Moves script.now (kinds_in numbers.old) (starts_in numbers.old) (own_state sets.old numbers.old) (own_state sets.new numbers.new) (λ i. get_or homes.now i 0) a t }
+    requires { (a < 64) × (t < 64) × LentReady script.now lent.old.sets lent.old.numbers }
+    ensures lends { LentReady script.now lent.new.sets lent.new.numbers }
+    ensures table { (kinds_in lent.new.numbers ≡ kinds_in lent.old.numbers) × (starts_in lent.new.numbers ≡ starts_in lent.old.numbers) }
+    ensures made { Moves script.now (kinds_in lent.old.numbers) (starts_in lent.old.numbers) (own_state lent.old.sets lent.old.numbers) (own_state lent.new.sets lent.new.numbers) (λ i. get_or homes.now i 0) a t }
 {
     let p = homes[a];
     if p > TOP {
         return;
     }
-    let act = numbers[ACTS + a];
+    let act = lent.numbers[ACTS + a];
     if act == OPEN as u32 {
-        return open_part(script, sets, numbers, p, a, t);
+        return open_part(script, lent, p, a, t);
     }
     if act == RECEIVE as u32 {
-        return receive_part(script, sets, numbers, p, a, t);
+        return receive_part(script, lent, p, a, t);
     }
     if p == TOP {
         return;
     }
-    carry_around(script, sets, numbers, homes, p, a, t, act == ENTER as u32)
+    carry_around(script, lent, homes, p, a, t, act == ENTER as u32)
 }
 
 // The move (a, t) where the machine can make it, and whether it can.
 pub fn make_if_possible<'a, 'b>(
     script: &'a [u32],
-    sets: &'b mut [u64; SETS],
-    numbers: &'b mut [u32; NUMBERS],
+    lent: &'b mut StateArrays,
     a: usize,
     t: usize,
 ) -> bool
-    requires { (a < 64) × (t < 64) × LentReady script.now sets.old numbers.old }
-    ensures lends { LentReady script.now sets.new numbers.new }
-    ensures table { (kinds_in numbers.new ≡ kinds_in numbers.old) × (starts_in numbers.new ≡ starts_in numbers.old) }
-    ensures made { MakesOrLeaves script.now (kinds_in numbers.old) (starts_in numbers.old) (own_state sets.old numbers.old) (own_state sets.new numbers.new) result a t }
+    requires { (a < 64) × (t < 64) × LentReady script.now lent.old.sets lent.old.numbers }
+    ensures lends { LentReady script.now lent.new.sets lent.new.numbers }
+    ensures table { (kinds_in lent.new.numbers ≡ kinds_in lent.old.numbers) × (starts_in lent.new.numbers ≡ starts_in lent.old.numbers) }
+    ensures made { MakesOrLeaves script.now (kinds_in lent.old.numbers) (starts_in lent.old.numbers) (own_state lent.old.sets lent.old.numbers) (own_state lent.new.sets lent.new.numbers) result a t }
 {
-    let top = sets[TOP];
-    let kids = bodies(sets, top);
-    let homes = locate(&kids, sets[NAMED]);
-    let aimed = targets(&kids, numbers[ACTS + a], sets[AIMS + a], &homes, a);
+    let top = lent.sets[TOP];
+    let kids = bodies(&lent.sets, top);
+    let homes = locate(&kids, lent.sets[NAMED]);
+    let aimed = targets(
+        &kids,
+        lent.numbers[ACTS + a],
+        lent.sets[AIMS + a],
+        &homes,
+        a,
+    );
     if base_sets::has(aimed, t) {
-        make_move(script, sets, numbers, &homes, a, t);
+        make_move(script, lent, &homes, a, t);
         return true;
     }
     false

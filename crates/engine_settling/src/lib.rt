@@ -21,8 +21,8 @@ use base_slices::wide;
 use engine_bindings::FIRST_NAME;
 use engine_held_bindings::Bindings;
 use engine_state_arrays::{
-    ACTS, AIMS, BUSY, FIRST, NAMED, NAMES, NUMBERS, OFFSETS, SETS, STARTS, TOP, TabledState,
-    bindings_from, from_arrays, to_arrays,
+    ACTS, AIMS, BUSY, FIRST, NAMED, NAMES, NUMBERS, OFFSETS, SETS, STARTS, StateArrays, TOP,
+    TabledState, bindings_from, from_arrays, to_arrays,
 };
 use engine_states::{NameTable, State, item_deed, noted, part_item};
 use read_messages::First;
@@ -30,6 +30,7 @@ use read_scripts::{ACTION, AMBIENT};
 
 // What becomes of the parts of left when they are settled: an action with no items left goes, and its body comes in its
 // place; in the bodies of ambients too, which sets then holds. Where none of them is busy, nothing changes.
+// The two arrays stand apart: lent as one, the contract would also have to say that the numbers stay, which is no plainer.
 fn settle_below<'a, 'b>(
     sets: &'b mut [u64; SETS],
     numbers: &'a [u32; NUMBERS],
@@ -63,7 +64,7 @@ fn settle_below<'a, 'b>(
     base_sets::with(rest, i)
 }
 
-// Every action with no items left goes.
+// Every action with no items left goes. The two arrays stand apart, for the same reason.
 pub fn settle<'a, 'b>(sets: &'b mut [u64; SETS], numbers: &'a [u32; NUMBERS])
     requires { length sets.old ≡ 131 }
     ensures kept { length sets.new ≡ 131 }
@@ -86,33 +87,28 @@ fn item_under(script: &[u32], start: u32, offset: u32, numbers: &[u32; NUMBERS])
 }
 
 // What the action a does first, at the next offset.
-pub fn spend<'a, 'b>(
-    script: &'a [u32],
-    sets: &'b mut [u64; SETS],
-    numbers: &'b mut [u32; NUMBERS],
-    a: usize,
-)
-    requires { (a < 64) × LentReady script.now sets.old numbers.old }
-    ensures lends { LentReady script.now sets.new numbers.new }
-    ensures table { (kinds_in numbers.new ≡ kinds_in numbers.old) × (starts_in numbers.new ≡ starts_in numbers.old) }
-    ensures same { ((own_state sets.new numbers.new).kids ≡ (own_state sets.old numbers.old).kids) × ((own_state sets.new numbers.new).bindings ≡ (own_state sets.old numbers.old).bindings) }
-    ensures raised { get_or (kinds_in numbers.old) a 0 ≡ 2 → get_or (own_state sets.old numbers.old).offsets a 0 < 4294967295 → (own_state sets.new numbers.new).offsets ≡ set (own_state sets.old numbers.old).offsets a (get_or (own_state sets.old numbers.old).offsets a 0 + 1) }
+pub fn spend<'a, 'b>(script: &'a [u32], lent: &'b mut StateArrays, a: usize)
+    requires { (a < 64) × LentReady script.now lent.old.sets lent.old.numbers }
+    ensures lends { LentReady script.now lent.new.sets lent.new.numbers }
+    ensures table { (kinds_in lent.new.numbers ≡ kinds_in lent.old.numbers) × (starts_in lent.new.numbers ≡ starts_in lent.old.numbers) }
+    ensures same { ((own_state lent.new.sets lent.new.numbers).kids ≡ (own_state lent.old.sets lent.old.numbers).kids) × ((own_state lent.new.sets lent.new.numbers).bindings ≡ (own_state lent.old.sets lent.old.numbers).bindings) }
+    ensures raised { get_or (kinds_in lent.old.numbers) a 0 ≡ 2 → get_or (own_state lent.old.sets lent.old.numbers).offsets a 0 < 4294967295 → (own_state lent.new.sets lent.new.numbers).offsets ≡ set (own_state lent.old.sets lent.old.numbers).offsets a (get_or (own_state lent.old.sets lent.old.numbers).offsets a 0 + 1) }
 {
-    let offset = numbers[OFFSETS + a];
-    if numbers[a] != ACTION as u32 || offset == u32::MAX {
+    let offset = lent.numbers[OFFSETS + a];
+    if lent.numbers[a] != ACTION as u32 || offset == u32::MAX {
         return;
     }
-    let item = item_under(script, numbers[STARTS + a], offset + 1, numbers);
+    let item = item_under(script, lent.numbers[STARTS + a], offset + 1, &lent.numbers);
     let names = NameTable {
-        named: sets[NAMED],
-        names: stretch(numbers, NAMES),
+        named: lent.sets[NAMED],
+        names: stretch(&lent.numbers, NAMES),
     };
     let d = item_deed(item, &names);
-    let busy = sets[BUSY];
-    numbers[OFFSETS + a] = offset + 1;
-    numbers[ACTS + a] = d.act as u32;
-    sets[AIMS + a] = d.aim;
-    sets[BUSY] = base_sets::with_if(base_sets::without(busy, a), a, d.busy);
+    let busy = lent.sets[BUSY];
+    lent.numbers[OFFSETS + a] = offset + 1;
+    lent.numbers[ACTS + a] = d.act as u32;
+    lent.sets[AIMS + a] = d.aim;
+    lent.sets[BUSY] = base_sets::with_if(base_sets::without(busy, a), a, d.busy);
 }
 
 // The state before it is settled: the receipt a and the output t are gone from the body of p, the receipt's body stands
@@ -152,10 +148,10 @@ pub fn first_state<'a>(
     ensures begun { (count : ℕ) (b : Script) → Tabled script.now (record { kinds = kinds.entry.now; starts = starts.now; kids = kids; count = count }) b → Represents script.now kinds.entry.now starts.now (parts b) 0 result (settle_under [] (closure_of b)) }
 {
     let begun = noted(script, kinds, starts, kids, [0; 64], Bindings::none());
-    let l = to_arrays(*kinds, *starts, begun);
-    let mut sets = l.sets;
-    settle(&mut sets, &l.numbers);
-    from_arrays(&sets, &l.numbers, sets[TOP]).state
+    let mut lent = to_arrays(*kinds, *starts, begun);
+    settle(&mut lent.sets, &lent.numbers);
+    let top = lent.sets[TOP];
+    from_arrays(&lent, top).state
 }
 
 // PLACED: the top parts as the body of a new part i, an ambient of that name. Its start represents the name itself.

@@ -52,7 +52,7 @@ pub struct TabledState {
 }
 
 // A state and its part table as two arrays.
-#[derive(Drop)]
+#[derive(Clone, Copy)]
 pub struct StateArrays {
     pub sets: [u64; SETS],
     pub numbers: [u32; NUMBERS],
@@ -165,24 +165,24 @@ pub fn bindings_from(numbers: &[u32; NUMBERS], from: usize) -> Bindings
 }
 
 // What was lent, with top as the set of the top parts.
-pub fn from_arrays<'a>(sets: &'a [u64; SETS], numbers: &'a [u32; NUMBERS], top: u64) -> TabledState
-    ensures { Small numbers.now → (result.kinds ≡ kinds_in numbers.now) × (result.starts ≡ starts_in numbers.now) × (result.state ≡ state_in sets.now numbers.now top) }
+pub fn from_arrays(lent: &StateArrays, top: u64) -> TabledState
+    ensures { Small lent.now.numbers → (result.kinds ≡ kinds_in lent.now.numbers) × (result.starts ≡ starts_in lent.now.numbers) × (result.state ≡ state_in lent.now.sets lent.now.numbers top) }
 {
     let notes = PartNotes {
-        named: sets[NAMED],
-        names: stretch(numbers, NAMES),
-        acts: narrow(stretch(numbers, ACTS)),
-        aims: stretch(sets, AIMS),
-        busy: sets[BUSY],
+        named: lent.sets[NAMED],
+        names: stretch(&lent.numbers, NAMES),
+        acts: narrow(stretch(&lent.numbers, ACTS)),
+        aims: stretch(&lent.sets, AIMS),
+        busy: lent.sets[BUSY],
     };
     TabledState {
-        kinds: narrow(stretch(numbers, KINDS)),
-        starts: stretch(numbers, STARTS),
+        kinds: narrow(stretch(&lent.numbers, KINDS)),
+        starts: stretch(&lent.numbers, STARTS),
         state: State {
-            kids: bodies(sets, top),
-            offsets: stretch(numbers, OFFSETS),
+            kids: bodies(&lent.sets, top),
+            offsets: stretch(&lent.numbers, OFFSETS),
             notes,
-            bindings: bindings_from(numbers, 0),
+            bindings: bindings_from(&lent.numbers, 0),
         },
     }
 }

@@ -23,7 +23,7 @@ ghost use Rattle.walk_stages.specs.Visits.{Lendable};
 use engine_moves::make_move;
 use engine_settling::place_part;
 use engine_state_arrays::{
-    ACTS, AIMS, NAMED, NAMES, NUMBERS, SETS, TOP, bodies, from_arrays, to_arrays,
+    ACTS, AIMS, NAMED, NAMES, StateArrays, TOP, bodies, from_arrays, to_arrays,
 };
 use engine_states::State;
 use engine_targets::{put_homes, targets};
@@ -57,8 +57,7 @@ pub struct Turn {
 // A state and its part table for lending, beside the set of its top parts.
 #[derive(Drop)]
 pub struct LentState {
-    pub sets: [u64; SETS],
-    pub numbers: [u32; NUMBERS],
+    pub lent: StateArrays,
     pub top: u64,
 }
 
@@ -70,30 +69,30 @@ pub enum Step {
 }
 
 // Whether the part i is an ambient of that name.
-pub fn is_called(sets: &[u64; SETS], numbers: &[u32; NUMBERS], i: usize, name: u32) -> bool
-    ensures { i < 64 → result ≡ same_name (Some name) (name_in (get_or sets.now 129 0) (stretch 192 64 numbers.now) i) }
+pub fn is_called(lent: &StateArrays, i: usize, name: u32) -> bool
+    ensures { i < 64 → result ≡ same_name (Some name) (name_in (get_or lent.now.sets 129 0) (stretch 192 64 lent.now.numbers) i) }
 {
-    i < 64 && base_sets::has(sets[NAMED], i) && numbers[NAMES + i] == name
+    i < 64 && base_sets::has(lent.sets[NAMED], i) && lent.numbers[NAMES + i] == name
 }
 
 // The homes of all parts of the state that is lent; the targets of each actor below the limit are put into `found`, which is
 // lent since to hand it up would cost a copy.
-pub fn all_targets(
-    sets: &[u64; SETS],
-    numbers: &[u32; NUMBERS],
-    top: u64,
-    limit: usize,
-    found: &mut [u64; 64],
-) -> [usize; 64]
+pub fn all_targets(lent: &StateArrays, top: u64, limit: usize, found: &mut [u64; 64]) -> [usize; 64]
     requires { (limit ≤ 64) × (length found.old ≡ 64) }
-    ensures homes { Located (members (get_or sets.now 129 0)) (body_in (state_in sets.now numbers.now top).kids) (λ i. get_or result i 0) }
-    ensures targets { (a : ℕ) → a < limit → TargetsOf (body_in (state_in sets.now numbers.now top).kids) (get_or (state_in sets.now numbers.now top).notes.acts a 0) (members (get_or (state_in sets.now numbers.now top).notes.aims a 0)) (λ i. get_or result i 0) a (members (get_or found.new a 0)) }
+    ensures homes { Located (members (get_or lent.now.sets 129 0)) (body_in (state_in lent.now.sets lent.now.numbers top).kids) (λ i. get_or result i 0) }
+    ensures targets { (a : ℕ) → a < limit → TargetsOf (body_in (state_in lent.now.sets lent.now.numbers top).kids) (get_or (state_in lent.now.sets lent.now.numbers top).notes.acts a 0) (members (get_or (state_in lent.now.sets lent.now.numbers top).notes.aims a 0)) (λ i. get_or result i 0) a (members (get_or found.new a 0)) }
 {
-    let kids = bodies(sets, top);
+    let kids = bodies(&lent.sets, top);
     let mut homes: [usize; 64] = [65; 64];
-    put_homes(&mut homes, &kids, sets[NAMED]);
+    put_homes(&mut homes, &kids, lent.sets[NAMED]);
     for a in 0..limit {
-        found[a] = targets(&kids, numbers[ACTS + a], sets[AIMS + a], &homes, a);
+        found[a] = targets(
+            &kids,
+            lent.numbers[ACTS + a],
+            lent.sets[AIMS + a],
+            &homes,
+            a,
+        );
     }
     homes
 }
@@ -127,58 +126,44 @@ pub fn next_turn(inner: &[u64; 64], start: usize, left: u64, limit: usize) -> Tu
 // The state for lending.
 pub fn as_arrays(kinds: [u8; 64], starts: [u32; 64], state: State) -> LentState
     requires { state.bindings.first ≤ 32 }
-    ensures tables { (kinds_in result.numbers ≡ kinds) × (starts_in result.numbers ≡ starts) × Small result.numbers × (length result.sets ≡ 131) × (length result.numbers ≡ 481) }
-    ensures state { state_in result.sets result.numbers result.top ≡ state }
+    ensures tables { (kinds_in result.lent.numbers ≡ kinds) × (starts_in result.lent.numbers ≡ starts) × Small result.lent.numbers × (length result.lent.sets ≡ 131) × (length result.lent.numbers ≡ 481) }
+    ensures state { state_in result.lent.sets result.lent.numbers result.top ≡ state }
 {
-    let l = to_arrays(kinds, starts, state);
-    LentState {
-        sets: l.sets,
-        numbers: l.numbers,
-        top: l.sets[TOP],
-    }
+    let lent = to_arrays(kinds, starts, state);
+    let top = lent.sets[TOP];
+    LentState { lent, top }
 }
 
 // The top parts after the move of the actor a to its target t, which is made in the lent state, with top as its top parts.
 fn after_move(
     script: &[u32],
-    sets: &mut [u64; SETS],
-    numbers: &mut [u32; NUMBERS],
+    lent: &mut StateArrays,
     top: u64,
     homes: &[usize; 64],
     a: usize,
     t: usize,
 ) -> u64
-    requires { (a < 64) × (t < 64) × Lendable script.now sets.old numbers.old top }
-    ensures lends { Lendable script.now sets.new numbers.new result }
-    ensures table { (kinds_in numbers.new ≡ kinds_in numbers.old) × (starts_in numbers.new ≡ starts_in numbers.old) }
-    ensures made { Moves script.now (kinds_in numbers.old) (starts_in numbers.old) (state_in sets.old numbers.old top) (state_in sets.new numbers.new result) (λ i. get_or homes.now i 0) a t }
+    requires { (a < 64) × (t < 64) × Lendable script.now lent.old.sets lent.old.numbers top }
+    ensures lends { Lendable script.now lent.new.sets lent.new.numbers result }
+    ensures table { (kinds_in lent.new.numbers ≡ kinds_in lent.old.numbers) × (starts_in lent.new.numbers ≡ starts_in lent.old.numbers) }
+    ensures made { Moves script.now (kinds_in lent.old.numbers) (starts_in lent.old.numbers) (state_in lent.old.sets lent.old.numbers top) (state_in lent.new.sets lent.new.numbers result) (λ i. get_or homes.now i 0) a t }
 {
-    sets[TOP] = top;
-    make_move(script, sets, numbers, homes, a, t);
-    sets[TOP]
+    lent.sets[TOP] = top;
+    make_move(script, lent, homes, a, t);
+    lent.sets[TOP]
 }
 
 // The top parts where top is the body of a new part i, an ambient of that name, which is made in the lent state.
-fn place_within(
-    script: &[u32],
-    sets: &mut [u64; SETS],
-    numbers: &mut [u32; NUMBERS],
-    top: u64,
-    i: usize,
-    name: u32,
-) -> u64
-    requires { (i < 64) × (name < 536870912) × Lendable script.now sets.old numbers.old top }
-    ensures lends { Lendable script.now sets.new numbers.new result }
-    ensures bound { bound_in script.now (state_in sets.new numbers.new result) ≡ bound_in script.now (state_in sets.old numbers.old top) }
-    ensures placed { (weight spent : ℕ) (b : Closure) → Represents script.now (kinds_in numbers.old) (starts_in numbers.old) weight spent (state_in sets.old numbers.old top) b → times_in i b ≡ 0 → weight < 64 → Represents script.now (kinds_in numbers.new) (starts_in numbers.new) (weight + 1) spent (state_in sets.new numbers.new result) (part i (ambient (called name)) b close) }
+fn place_within(script: &[u32], lent: &mut StateArrays, top: u64, i: usize, name: u32) -> u64
+    requires { (i < 64) × (name < 536870912) × Lendable script.now lent.old.sets lent.old.numbers top }
+    ensures lends { Lendable script.now lent.new.sets lent.new.numbers result }
+    ensures bound { bound_in script.now (state_in lent.new.sets lent.new.numbers result) ≡ bound_in script.now (state_in lent.old.sets lent.old.numbers top) }
+    ensures placed { (weight spent : ℕ) (b : Closure) → Represents script.now (kinds_in lent.old.numbers) (starts_in lent.old.numbers) weight spent (state_in lent.old.sets lent.old.numbers top) b → times_in i b ≡ 0 → weight < 64 → Represents script.now (kinds_in lent.new.numbers) (starts_in lent.new.numbers) (weight + 1) spent (state_in lent.new.sets lent.new.numbers result) (part i (ambient (called name)) b close) }
 {
-    let b = from_arrays(sets, numbers, top);
+    let b = from_arrays(lent, top);
     let p = place_part(script, b.kinds, b.starts, b.state, i, name);
     let l = as_arrays(p.kinds, p.starts, p.state);
-    let new_sets = l.sets;
-    let new_numbers = l.numbers;
-    *sets = new_sets;
-    *numbers = new_numbers;
+    *lent = l.lent;
     l.top
 }
 
@@ -186,19 +171,18 @@ fn place_within(
 // that it is not put into the frames of a deep walk; to hand up a state would cost copies of it.
 pub fn next_state(
     script: &[u32],
-    sets: &mut [u64; SETS],
-    numbers: &mut [u32; NUMBERS],
+    lent: &mut StateArrays,
     top: u64,
     homes: &[usize; 64],
     step: Step,
 ) -> u64
-    requires { ((a t : ℕ) → step ≡ Move a t → (a < 64) × (t < 64)) × ((i n : ℕ) → step ≡ Place i n → (i < 64) × (n < 536870912)) × Lendable script.now sets.old numbers.old top }
-    ensures lends { Lendable script.now sets.new numbers.new result }
-    ensures made { (a t : ℕ) → step ≡ Move a t → (kinds_in numbers.new ≡ kinds_in numbers.old) × (starts_in numbers.new ≡ starts_in numbers.old) × Moves script.now (kinds_in numbers.old) (starts_in numbers.old) (state_in sets.old numbers.old top) (state_in sets.new numbers.new result) (λ i. get_or homes.now i 0) a t }
-    ensures placed { (i n : ℕ) → step ≡ Place i n → (bound_in script.now (state_in sets.new numbers.new result) ≡ bound_in script.now (state_in sets.old numbers.old top)) × ((weight spent : ℕ) (b : Closure) → Represents script.now (kinds_in numbers.old) (starts_in numbers.old) weight spent (state_in sets.old numbers.old top) b → times_in i b ≡ 0 → weight < 64 → Represents script.now (kinds_in numbers.new) (starts_in numbers.new) (weight + 1) spent (state_in sets.new numbers.new result) (part i (ambient (called n)) b close)) }
+    requires { ((a t : ℕ) → step ≡ Move a t → (a < 64) × (t < 64)) × ((i n : ℕ) → step ≡ Place i n → (i < 64) × (n < 536870912)) × Lendable script.now lent.old.sets lent.old.numbers top }
+    ensures lends { Lendable script.now lent.new.sets lent.new.numbers result }
+    ensures made { (a t : ℕ) → step ≡ Move a t → (kinds_in lent.new.numbers ≡ kinds_in lent.old.numbers) × (starts_in lent.new.numbers ≡ starts_in lent.old.numbers) × Moves script.now (kinds_in lent.old.numbers) (starts_in lent.old.numbers) (state_in lent.old.sets lent.old.numbers top) (state_in lent.new.sets lent.new.numbers result) (λ i. get_or homes.now i 0) a t }
+    ensures placed { (i n : ℕ) → step ≡ Place i n → (bound_in script.now (state_in lent.new.sets lent.new.numbers result) ≡ bound_in script.now (state_in lent.old.sets lent.old.numbers top)) × ((weight spent : ℕ) (b : Closure) → Represents script.now (kinds_in lent.old.numbers) (starts_in lent.old.numbers) weight spent (state_in lent.old.sets lent.old.numbers top) b → times_in i b ≡ 0 → weight < 64 → Represents script.now (kinds_in lent.new.numbers) (starts_in lent.new.numbers) (weight + 1) spent (state_in lent.new.sets lent.new.numbers result) (part i (ambient (called n)) b close)) }
 {
     match step {
-        Step::Move(a, t) => after_move(script, sets, numbers, top, homes, a, t),
-        Step::Place(i, name) => place_within(script, sets, numbers, top, i, name),
+        Step::Move(a, t) => after_move(script, lent, top, homes, a, t),
+        Step::Place(i, name) => place_within(script, lent, top, i, name),
     }
 }

@@ -6,8 +6,8 @@ use Rattle.engine_moves.proofs.carry.Goals as goal
 
 pub spend-requires : goal.spend-requires
 spend-requires c = let x = c.args in
-    let s = x.sets.now in
-    let n = x.numbers.now in
+    let s = x.lent.now.sets in
+    let n = x.lent.now.numbers in
     (c.requires.3, lends-set x.script.now (set s x.from c.without.result) n x.into c.with.result c.requires.2 (lends-set x.script.now s n x.from c.without.result c.requires.1 c.requires.4))
 
 pub returns : goal.returns
@@ -16,11 +16,11 @@ returns c =
     let L = c.requires.4 in
     let y = c.spend.ensures in
     let z = c.settle.ensures in
-    let s = x.sets.now in
-    let n = x.numbers.now in
+    let s = x.lent.now.sets in
+    let n = x.lent.now.numbers in
     let s₁ = set (set s x.from c.without.result) x.into c.with.result in
-    let s₂ = c.spend.new.sets in
-    let n₂ = c.spend.new.numbers in
+    let s₂ = c.spend.new.lent.sets in
+    let n₂ = c.spend.new.lent.numbers in
     let s₃ = c.settle.new.sets in record {
       lends = lends-bodies x.script.now s₂ s₃ n₂ y.lends z.kept z.same;
       table = y.table;

@@ -13,16 +13,16 @@ pub returns-then-has-clause-made : goal.returns-then-has-clause-made
 returns-then-has-clause-made c = (
   λ e. absurd (true≢false e),
   λ weight spent b few R.
-      let can : true ≡ is_some (closure_move (bound_in c.args.script.now (own_state c.args.sets.now c.args.numbers.now)) c.args.a c.args.t b) =
-      sym c.if-has.true ∙ c.has.ensures ∙ lent-targets c.args.script.now c.args.sets.now c.args.numbers.now c.requires.2 c.bodies-kids.result c.bodies-kids.ensures (λ i. get_or c.locate-homes.result i 0) c.locate-homes.ensures weight spent b few R c.args.a c.args.t c.targets-aimed.result c.requires.0 c.requires.1 c.targets-aimed.ensures in
-      (can, λ e. c.make_move.ensures.made weight spent b few R (lent-homes c.args.script.now c.args.sets.now c.args.numbers.now c.requires.2 c.bodies-kids.result c.bodies-kids.ensures (λ i. get_or c.locate-homes.result i 0) c.locate-homes.ensures weight spent b few R, sym can)),
+      let can : true ≡ is_some (closure_move (bound_in c.args.script.now (own_state c.args.lent.now.sets c.args.lent.now.numbers)) c.args.a c.args.t b) =
+      sym c.if-has.true ∙ c.has.ensures ∙ lent-targets c.args.script.now c.args.lent.now.sets c.args.lent.now.numbers c.requires.2 c.bodies-kids.result c.bodies-kids.ensures (λ i. get_or c.locate-homes.result i 0) c.locate-homes.ensures weight spent b few R c.args.a c.args.t c.targets-aimed.result c.requires.0 c.requires.1 c.targets-aimed.ensures in
+      (can, λ e. c.make_move.ensures.made weight spent b few R (lent-homes c.args.script.now c.args.lent.now.sets c.args.lent.now.numbers c.requires.2 c.bodies-kids.result c.bodies-kids.ensures (λ i. get_or c.locate-homes.result i 0) c.locate-homes.ensures weight spent b few R, sym can)),
 )
 
 pub returns-clause-made : goal.returns-clause-made
 returns-clause-made c = (
   λ e. refl,
   λ weight spent b few R.
-      let cannot : false ≡ is_some (closure_move (bound_in c.args.script.now (own_state c.args.sets.now c.args.numbers.now)) c.args.a c.args.t b) =
-      sym c.if-has.false ∙ c.has.ensures ∙ lent-targets c.args.script.now c.args.sets.now c.args.numbers.now c.requires.2 c.bodies-kids.result c.bodies-kids.ensures (λ i. get_or c.locate-homes.result i 0) c.locate-homes.ensures weight spent b few R c.args.a c.args.t c.targets-aimed.result c.requires.0 c.requires.1 c.targets-aimed.ensures in
+      let cannot : false ≡ is_some (closure_move (bound_in c.args.script.now (own_state c.args.lent.now.sets c.args.lent.now.numbers)) c.args.a c.args.t b) =
+      sym c.if-has.false ∙ c.has.ensures ∙ lent-targets c.args.script.now c.args.lent.now.sets c.args.lent.now.numbers c.requires.2 c.bodies-kids.result c.bodies-kids.ensures (λ i. get_or c.locate-homes.result i 0) c.locate-homes.ensures weight spent b few R c.args.a c.args.t c.targets-aimed.result c.requires.0 c.requires.1 c.targets-aimed.ensures in
       (cannot, λ e. absurd (true≢false (sym e))),
 )

@@ -24,44 +24,44 @@ act-kept numbers a low = get_or-stretch 256 64 a numbers low
 pub returns-then-p-gt-TOP-clause-made : goal.returns-then-p-gt-TOP-clause-made
 returns-then-p-gt-TOP-clause-made c weight spent b few R x =
     let y = c.args in
-    let s = own_state y.sets.now y.numbers.now in
+    let s = own_state y.lent.now.sets y.lent.now.numbers in
     let at : ℕ → ℕ = λ i. get_or y.homes.now i 0 in
-    absurd (true≢false (sym (can y.script.now (kinds_in y.numbers.now) (starts_in y.numbers.now) weight spent s b R c.requires.2.ready few at x.0 y.a y.t c.requires.0 x.1) ∙ nowhere _ _ _ _ _ _ _ c.if-p-gt-TOP.true))
+    absurd (true≢false (sym (can y.script.now (kinds_in y.lent.now.numbers) (starts_in y.lent.now.numbers) weight spent s b R c.requires.2.ready few at x.0 y.a y.t c.requires.0 x.1) ∙ nowhere _ _ _ _ _ _ _ c.if-p-gt-TOP.true))
 
 pub returns-then-act-clause-made : goal.returns-then-act-clause-made
 returns-then-act-clause-made c weight spent b few R x =
     let y = c.args in
-    let s = own_state y.sets.now y.numbers.now in
+    let s = own_state y.lent.now.sets y.lent.now.numbers in
     let at : ℕ → ℕ = λ i. get_or y.homes.now i 0 in
-    c.open_part.ensures.made weight spent b few R (sym (x.0 y.a c.requires.0), to-open y.script.now (kinds_in y.numbers.now) (starts_in y.numbers.now) weight spent s b R c.requires.2.ready few at x.0 y.a y.t c.requires.0 x.1 (act-kept y.numbers.now y.a c.requires.0 ∙ c.if-act.true))
+    c.open_part.ensures.made weight spent b few R (sym (x.0 y.a c.requires.0), to-open y.script.now (kinds_in y.lent.now.numbers) (starts_in y.lent.now.numbers) weight spent s b R c.requires.2.ready few at x.0 y.a y.t c.requires.0 x.1 (act-kept y.lent.now.numbers y.a c.requires.0 ∙ c.if-act.true))
 
 pub returns-then-act-2-clause-made : goal.returns-then-act-2-clause-made
 returns-then-act-2-clause-made c weight spent b few R x =
     let y = c.args in
-    let s = own_state y.sets.now y.numbers.now in
+    let s = own_state y.lent.now.sets y.lent.now.numbers in
     let at : ℕ → ℕ = λ i. get_or y.homes.now i 0 in
-    c.receive_part.ensures.made weight spent b few R (sym (x.0 y.a c.requires.0), to-receive y.script.now (kinds_in y.numbers.now) (starts_in y.numbers.now) weight spent s b R c.requires.2.ready few at x.0 y.a y.t c.requires.0 x.1 (act-kept y.numbers.now y.a c.requires.0 ∙ c.if-act-2.true))
+    c.receive_part.ensures.made weight spent b few R (sym (x.0 y.a c.requires.0), to-receive y.script.now (kinds_in y.lent.now.numbers) (starts_in y.lent.now.numbers) weight spent s b R c.requires.2.ready few at x.0 y.a y.t c.requires.0 x.1 (act-kept y.lent.now.numbers y.a c.requires.0 ∙ c.if-act-2.true))
 
 pub returns-then-p-eq-TOP-clause-made : goal.returns-then-p-eq-TOP-clause-made
 returns-then-p-eq-TOP-clause-made c weight spent b few R x =
     let y = c.args in
-    let s = own_state y.sets.now y.numbers.now in
+    let s = own_state y.lent.now.sets y.lent.now.numbers in
     let at : ℕ → ℕ = λ i. get_or y.homes.now i 0 in
-    let e = act-kept y.numbers.now y.a c.requires.0 in
-    absurd (let z : ⊥ = omega (arith, c.if-p-eq-TOP.true, inside-some y.script.now (kinds_in y.numbers.now) (starts_in y.numbers.now) weight spent s b R c.requires.2.ready few at x.0 y.a y.t c.requires.0 x.1 (λ u. c.if-act.false (sym e ∙ u)) (λ u. c.if-act-2.false (sym e ∙ u))) in z)
+    let e = act-kept y.lent.now.numbers y.a c.requires.0 in
+    absurd (let z : ⊥ = omega (arith, c.if-p-eq-TOP.true, inside-some y.script.now (kinds_in y.lent.now.numbers) (starts_in y.lent.now.numbers) weight spent s b R c.requires.2.ready few at x.0 y.a y.t c.requires.0 x.1 (λ u. c.if-act.false (sym e ∙ u)) (λ u. c.if-act-2.false (sym e ∙ u))) in z)
 
 pub returns-clause-made : goal.returns-clause-made
 returns-clause-made c weight spent b few R x =
     let y = c.args in
-    let k = kinds_in y.numbers.now in
-    let l = starts_in y.numbers.now in
-    let s = own_state y.sets.now y.numbers.now in
+    let k = kinds_in y.lent.now.numbers in
+    let l = starts_in y.lent.now.numbers in
+    let s = own_state y.lent.now.sets y.lent.now.numbers in
     let at : ℕ → ℕ = λ i. get_or y.homes.now i 0 in
-    let e = act-kept y.numbers.now y.a c.requires.0 in
+    let e = act-kept y.lent.now.numbers y.a c.requires.0 in
     let p : get_or y.homes.now y.a 0 < 64 = omega (arith, c.if-p-gt-TOP.false, c.if-p-eq-TOP.false) in
     let o : get_or s.notes.acts y.a 0 ≡ 1 → ⊥ = λ v. c.if-act.false (sym e ∙ v) in
     let r : get_or s.notes.acts y.a 0 ≡ 4 → ⊥ = λ v. c.if-act-2.false (sym e ∙ v) in
-    by_test (eqb (get_or y.numbers.now (256 + y.a) 0) 2)
+    by_test (eqb (get_or y.lent.now.numbers (256 + y.a) 0) 2)
     (λ u.
     let d : get_or s.notes.acts y.a 0 ≡ 2 = e ∙ eqb-true _ 2 u in
     c.carry_around.ensures.entered u (enter-from y.script.now k l weight spent s b R c.requires.2.ready few at x.0 y.a y.t c.requires.0 x.1 d) weight spent b few R (sym (x.0 y.a c.requires.0), sym (x.0 (get_or y.homes.now y.a 0) p), to-enter y.script.now k l weight spent s b R c.requires.2.ready few at x.0 y.a y.t c.requires.0 x.1 d))

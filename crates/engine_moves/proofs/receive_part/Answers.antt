@@ -17,7 +17,7 @@ returns c =
     let s₂ = c.settle.new.sets in
     let long : length l.sets ≡ 131 = search rules in
     let wide : length l.numbers ≡ 481 = search rules in record {
-      lends = lends-bodies x.script.now l.sets s₂ l.numbers (bound-lends x.script.now x.sets.now x.numbers.now l.sets l.numbers s₂ b.kinds b.starts b.state c.received-s.result L y.0 y.1 y.2 long wide z.tables.0 z.tables.1 z.tables.2 z.state c.received-s.ensures.ready) u.kept u.same;
+      lends = lends-bodies x.script.now l.sets s₂ l.numbers (bound-lends x.script.now x.lent.now.sets x.lent.now.numbers l.sets l.numbers s₂ b.kinds b.starts b.state c.received-s.result L y.0 y.1 y.2 long wide z.tables.0 z.tables.1 z.tables.2 z.state c.received-s.ensures.ready) u.kept u.same;
       table = (z.tables.0 ∙ y.0, z.tables.1 ∙ y.1);
-      made = receipt-made x.script.now x.sets.now x.numbers.now l.sets l.numbers s₂ b.kinds b.starts b.state c.received-s.result L y.0 y.1 y.2 long wide z.tables.0 z.tables.1 z.tables.2 z.state c.received-s.ensures.ready u.settled x.p x.a x.t c.requires.0 c.received-s.ensures.bound;
+      made = receipt-made x.script.now x.lent.now.sets x.lent.now.numbers l.sets l.numbers s₂ b.kinds b.starts b.state c.received-s.result L y.0 y.1 y.2 long wide z.tables.0 z.tables.1 z.tables.2 z.state c.received-s.ensures.ready u.settled x.p x.a x.t c.requires.0 c.received-s.ensures.bound;
     }

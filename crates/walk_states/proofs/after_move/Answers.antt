@@ -14,15 +14,15 @@ pub make_move-requires : goal.make_move-requires
 make_move-requires c =
     let x = c.args in
     let L = c.requires.2 in
-    let k = kinds_in x.numbers.now in
-    let l = starts_in x.numbers.now in (
+    let k = kinds_in x.lent.now.numbers in
+    let l = starts_in x.lent.now.numbers in (
       c.requires.0,
       c.requires.1,
-      lends-set x.script.now x.sets.now x.numbers.now 64 _ (omega arith) (record {
+      lends-set x.script.now x.lent.now.sets x.lent.now.numbers 64 _ (omega arith) (record {
         sets-long = L.sets-long;
         numbers-long = L.numbers-long;
         small = L.small;
-        ready = ready-same x.script.now k l (state_in x.sets.now x.numbers.now x.top) (own_state x.sets.now x.numbers.now) refl refl refl L.ready;
+        ready = ready-same x.script.now k l (state_in x.lent.now.sets x.lent.now.numbers x.top) (own_state x.lent.now.sets x.lent.now.numbers) refl refl refl L.ready;
       }),
     )
 
@@ -33,6 +33,6 @@ returns-clause-lends c =
 pub returns-clause-made : goal.returns-clause-made
 returns-clause-made c =
     let x = c.args in
-    let r = own_state c.make_move.new.sets c.make_move.new.numbers in
-    subst (λ (z : State). Moves x.script.now (kinds_in x.numbers.now) (starts_in x.numbers.now) z r (λ i. get_or x.homes.now i 0) x.a x.t)
-    (standing-top x.sets.now x.numbers.now x.top c.requires.2.sets-long) c.make_move.ensures.made
+    let r = own_state c.make_move.new.lent.sets c.make_move.new.lent.numbers in
+    subst (λ (z : State). Moves x.script.now (kinds_in x.lent.now.numbers) (starts_in x.lent.now.numbers) z r (λ i. get_or x.homes.now i 0) x.a x.t)
+    (standing-top x.lent.now.sets x.lent.now.numbers x.top c.requires.2.sets-long) c.make_move.ensures.made
