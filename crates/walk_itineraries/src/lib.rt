@@ -6,7 +6,7 @@ ghost use Rattle.std.specs.Prelude.{◌≡◌, ◌-◌, ◌≤◌, ◌<◌, leng
 ghost use Rattle.walk_stages.specs.Visits.{Visitable};
 ghost use Rattle.walk_itineraries.specs.Leading.{move_word, Begins, Leads as Guides};
 
-use engine_state_arrays::{NUMBERS, SETS};
+use engine_state_arrays::StateArrays;
 use read_messages::KIND_UNIT;
 use walk_rule_answers::next_count;
 use walk_stages::{Counts, DEPTHS, EARLY_END, NO_DEPTH, NO_VISIT, WORDS, Walked};
@@ -21,16 +21,9 @@ pub struct Led {
 }
 
 // A visit at SOMETIME up to its first move: its stop, or what the visit of the inner rule answers.
-fn begin(
-    walk: &Walk,
-    sets: &[u64; SETS],
-    numbers: &[u32; NUMBERS],
-    chosen: &[u32; 256],
-    spot: Spot,
-    c: Counts,
-) -> Walked
-    requires { (spot.left ≤ 256) × Visitable walk.now.script.now sets.now numbers.now spot.top spot.somes walk.now.limits }
-    ensures { Begins walk.now.program.now walk.now.script.now sets.now numbers.now chosen.now spot.top spot.somes spot.left spot.at walk.now.limits c result }
+fn begin(walk: &Walk, lent: &StateArrays, chosen: &[u32; 256], spot: Spot, c: Counts) -> Walked
+    requires { (spot.left ≤ 256) × Visitable walk.now.script.now lent.now.sets lent.now.numbers spot.top spot.somes walk.now.limits }
+    ensures { Begins walk.now.program.now walk.now.script.now lent.now.sets lent.now.numbers chosen.now spot.top spot.somes spot.left spot.at walk.now.limits c result }
 {
     let visits = c.visits;
     let at = spot.at;
@@ -48,7 +41,7 @@ fn begin(
     let mut below = spot;
     below.at = at + 1;
     below.left = left - 1;
-    visit(walk, sets, numbers, chosen, below, n)
+    visit(walk, lent, chosen, below, n)
 }
 
 // The word of the actor's move to its target, put into the list at the index of the visit that makes it: so many depths are
@@ -65,23 +58,22 @@ fn note_move(list: &mut [u32; 256], left: usize, actor: usize, target: usize)
 // that makes it.
 pub fn lead(
     walk: &Walk,
-    sets: &[u64; SETS],
-    numbers: &[u32; NUMBERS],
+    lent: &StateArrays,
     chosen: &[u32; 256],
     spot: Spot,
     c: Counts,
     list: &mut [u32; 256],
 ) -> Led
-    requires { (spot.left ≤ 256) × (length list.old ≡ 256) × Visitable walk.now.script.now sets.now numbers.now spot.top spot.somes walk.now.limits }
+    requires { (spot.left ≤ 256) × (length list.old ≡ 256) × Visitable walk.now.script.now lent.now.sets lent.now.numbers spot.top spot.somes walk.now.limits }
     ensures kept { length list.new ≡ 256 }
-    ensures guides { Guides walk.now.program.now walk.now.script.now sets.now numbers.now chosen.now spot.top spot.somes spot.left spot.at walk.now.limits c result.walked result.count list.new }
+    ensures guides { Guides walk.now.program.now walk.now.script.now lent.now.sets lent.now.numbers chosen.now spot.top spot.somes spot.left spot.at walk.now.limits c result.walked result.count list.new }
 {
-    let walked = begin(walk, sets, numbers, chosen, spot, c);
+    let walked = begin(walk, lent, chosen, spot, c);
     let Walked::No(begun) = walked else {
         return Led { walked, count: 0 };
     };
     let mut targets: [u64; 64] = [0; 64];
-    let homes = all_targets(sets, numbers, spot.top, walk.limits.limit, &mut targets);
+    let homes = all_targets(lent, spot.top, walk.limits.limit, &mut targets);
     let mut now = begun;
     // An iterator of turns would hold the same two numbers and lend the targets: no plainer.
     let mut turn = next_turn(&targets, 0, 0, walk.limits.limit);
@@ -90,12 +82,11 @@ pub fn lead(
         let t = base_sets::first(turn.rest);
         let step = Step::Move(a, t);
         // The move is made on a copy of the state.
-        let mut s = *sets;
-        let mut n = *numbers;
+        let mut next = *lent;
         let mut there = spot;
         there.left = spot.left - 1;
-        there.top = next_state(walk.script, &mut s, &mut n, spot.top, &homes, step);
-        let led = lead(walk, &s, &n, chosen, there, now, list);
+        there.top = next_state(walk.script, &mut next, spot.top, &homes, step);
+        let led = lead(walk, &next, chosen, there, now, list);
         let walked = led.walked;
         let Walked::No(c2) = walked else {
             note_move(list, spot.left, a, t);

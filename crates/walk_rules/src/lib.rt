@@ -67,8 +67,8 @@ pub fn walk_rule(
         left: DEPTHS,
     };
     if program[0] / KIND_UNIT == SOMETIME {
-        return lead(&walk, &s.sets, &s.numbers, &chosen, spot, counts, list);
+        return lead(&walk, &s.lent, &chosen, spot, counts, list);
     }
-    let walked = visit(&walk, &s.sets, &s.numbers, &chosen, spot, counts);
+    let walked = visit(&walk, &s.lent, &chosen, spot, counts);
     Led { walked, count: 0 }
 }

@@ -1,11 +1,11 @@
 // The walk of a rule over the process that a state represents (document 01, "The rule and its walk"): a visit at each
-// word met. A state is lent as two arrays, and made only where a move or PLACED changes it.
+// word met. A state is lent as one struct of two arrays, and made only where a move or PLACED changes it.
 #![tactic(auto)]
 
 ghost use Rattle.std.specs.Prelude.{◌+◌, ◌-◌, ◌≤◌, ◌<◌};
 ghost use Rattle.walk_stages.specs.Visits.{Visitable, Visits as Answers, Looks as Finds, Splits};
 
-use engine_state_arrays::{NAMED, NUMBERS, SETS};
+use engine_state_arrays::{NAMED, StateArrays};
 use read_messages::KIND_UNIT;
 use walk_rule_answers::{
     last_name, name_said, next_count, placing, right_rule, turned, void_rule, with_name,
@@ -24,16 +24,9 @@ const NAMES: u32 = 536870912;
 
 // A visit at the word of the spot, whose depth is among the depths left.
 #[cycle(at_name_beside_either_negation_placed_in_some_name_sometime_somewhere_split_visit)]
-pub fn visit(
-    walk: &Walk,
-    sets: &[u64; SETS],
-    numbers: &[u32; NUMBERS],
-    chosen: &[u32; 256],
-    spot: Spot,
-    c: Counts,
-) -> Walked
-    requires { (spot.left ≤ 256) × Visitable walk.now.script.now sets.now numbers.now spot.top spot.somes walk.now.limits }
-    ensures { Answers walk.now.program.now walk.now.script.now sets.now numbers.now chosen.now spot.top spot.somes spot.left spot.at walk.now.limits c result }
+pub fn visit(walk: &Walk, lent: &StateArrays, chosen: &[u32; 256], spot: Spot, c: Counts) -> Walked
+    requires { (spot.left ≤ 256) × Visitable walk.now.script.now lent.now.sets lent.now.numbers spot.top spot.somes walk.now.limits }
+    ensures { Answers walk.now.program.now walk.now.script.now lent.now.sets lent.now.numbers chosen.now spot.top spot.somes spot.left spot.at walk.now.limits c result }
 {
     let visits = c.visits;
     let at = spot.at;
@@ -53,85 +46,64 @@ pub fn visit(
     below.left = left - 1;
     match kind {
         0 => Walked::Yes(n),
-        1 => negation(walk, sets, numbers, chosen, below, n),
-        2 => either(walk, sets, numbers, chosen, below, n),
+        1 => negation(walk, lent, chosen, below, n),
+        2 => either(walk, lent, chosen, below, n),
         3 => void_rule(spot.top, n),
-        4 => at_name(walk, sets, numbers, chosen, below, n),
-        5 => beside(walk, sets, numbers, chosen, below, n),
-        6 => some_name(walk, sets, numbers, chosen, below, n),
-        7 => sometime(walk, sets, numbers, chosen, below, n),
-        8 => somewhere(walk, sets, numbers, chosen, below, n),
-        9 => placed_in(walk, sets, numbers, chosen, below, n),
+        4 => at_name(walk, lent, chosen, below, n),
+        5 => beside(walk, lent, chosen, below, n),
+        6 => some_name(walk, lent, chosen, below, n),
+        7 => sometime(walk, lent, chosen, below, n),
+        8 => somewhere(walk, lent, chosen, below, n),
+        9 => placed_in(walk, lent, chosen, below, n),
         10..=4294967295 => Walked::Stopped(ODD_WORD, at, visits),
     }
 }
 
 // NOT: the inner rule.
 #[cycle(at_name_beside_either_negation_placed_in_some_name_sometime_somewhere_split_visit)]
-fn negation(
-    walk: &Walk,
-    sets: &[u64; SETS],
-    numbers: &[u32; NUMBERS],
-    chosen: &[u32; 256],
-    spot: Spot,
-    c: Counts,
-) -> Walked
-    requires { (spot.at < 256) × (spot.left ≤ 255) × Visitable walk.now.script.now sets.now numbers.now spot.top spot.somes walk.now.limits }
-    ensures { Finds walk.now.program.now walk.now.script.now sets.now numbers.now chosen.now spot.top spot.somes spot.left spot.at walk.now.limits c result 1 }
+fn negation(walk: &Walk, lent: &StateArrays, chosen: &[u32; 256], spot: Spot, c: Counts) -> Walked
+    requires { (spot.at < 256) × (spot.left ≤ 255) × Visitable walk.now.script.now lent.now.sets lent.now.numbers spot.top spot.somes walk.now.limits }
+    ensures { Finds walk.now.program.now walk.now.script.now lent.now.sets lent.now.numbers chosen.now spot.top spot.somes spot.left spot.at walk.now.limits c result 1 }
 {
     let mut inner = spot;
     inner.at = spot.at + 1;
-    let w = visit(walk, sets, numbers, chosen, inner, c);
+    let w = visit(walk, lent, chosen, inner, c);
     turned(w)
 }
 
 // OR: left, and on no right.
 #[cycle(at_name_beside_either_negation_placed_in_some_name_sometime_somewhere_split_visit)]
-fn either(
-    walk: &Walk,
-    sets: &[u64; SETS],
-    numbers: &[u32; NUMBERS],
-    chosen: &[u32; 256],
-    spot: Spot,
-    c: Counts,
-) -> Walked
-    requires { (spot.at < 256) × (spot.left ≤ 255) × Visitable walk.now.script.now sets.now numbers.now spot.top spot.somes walk.now.limits }
-    ensures { Finds walk.now.program.now walk.now.script.now sets.now numbers.now chosen.now spot.top spot.somes spot.left spot.at walk.now.limits c result 2 }
+fn either(walk: &Walk, lent: &StateArrays, chosen: &[u32; 256], spot: Spot, c: Counts) -> Walked
+    requires { (spot.at < 256) × (spot.left ≤ 255) × Visitable walk.now.script.now lent.now.sets lent.now.numbers spot.top spot.somes walk.now.limits }
+    ensures { Finds walk.now.program.now walk.now.script.now lent.now.sets lent.now.numbers chosen.now spot.top spot.somes spot.left spot.at walk.now.limits c result 2 }
 {
     let mut inner = spot;
     inner.at = spot.at + 1;
-    let on_left = visit(walk, sets, numbers, chosen, inner, c);
+    let on_left = visit(walk, lent, chosen, inner, c);
     let Walked::No(c2) = on_left else {
         return on_left;
     };
     let mut right = spot;
     right.at = right_rule(walk.program, spot.at);
-    visit(walk, sets, numbers, chosen, right, c2)
+    visit(walk, lent, chosen, right, c2)
 }
 
 // AT: the inner rule inside the one top part, if that is an ambient of the name.
 #[cycle(at_name_beside_either_negation_placed_in_some_name_sometime_somewhere_split_visit)]
-fn at_name(
-    walk: &Walk,
-    sets: &[u64; SETS],
-    numbers: &[u32; NUMBERS],
-    chosen: &[u32; 256],
-    spot: Spot,
-    c: Counts,
-) -> Walked
-    requires { (spot.at < 256) × (spot.left ≤ 255) × Visitable walk.now.script.now sets.now numbers.now spot.top spot.somes walk.now.limits }
-    ensures { Finds walk.now.program.now walk.now.script.now sets.now numbers.now chosen.now spot.top spot.somes spot.left spot.at walk.now.limits c result 4 }
+fn at_name(walk: &Walk, lent: &StateArrays, chosen: &[u32; 256], spot: Spot, c: Counts) -> Walked
+    requires { (spot.at < 256) × (spot.left ≤ 255) × Visitable walk.now.script.now lent.now.sets lent.now.numbers spot.top spot.somes walk.now.limits }
+    ensures { Finds walk.now.program.now walk.now.script.now lent.now.sets lent.now.numbers chosen.now spot.top spot.somes spot.left spot.at walk.now.limits c result 4 }
 {
     let at = spot.at;
     let top = spot.top;
     if base_sets::is_single(top) {
         let i = base_sets::first(top);
         let name = name_said(walk.program[at], chosen);
-        if is_called(sets, numbers, i, name) {
+        if is_called(lent, i, name) {
             let mut inside = spot;
             inside.at = at + 1;
-            inside.top = sets[i];
-            return visit(walk, sets, numbers, chosen, inside, c);
+            inside.top = lent.sets[i];
+            return visit(walk, lent, chosen, inside, c);
         }
     }
     Walked::No(c)
@@ -141,46 +113,38 @@ fn at_name(
 #[cycle(at_name_beside_either_negation_placed_in_some_name_sometime_somewhere_split_visit)]
 fn split(
     walk: &Walk,
-    sets: &[u64; SETS],
-    numbers: &[u32; NUMBERS],
+    lent: &StateArrays,
     chosen: &[u32; 256],
     spot: Spot,
     c: Counts,
     share: u64,
 ) -> Walked
-    requires { (spot.at < 256) × (spot.left ≤ 255) × Visitable walk.now.script.now sets.now numbers.now spot.top spot.somes walk.now.limits }
-    ensures { Splits walk.now.program.now walk.now.script.now sets.now numbers.now chosen.now spot.top spot.somes spot.left spot.at walk.now.limits c result share }
+    requires { (spot.at < 256) × (spot.left ≤ 255) × Visitable walk.now.script.now lent.now.sets lent.now.numbers spot.top spot.somes walk.now.limits }
+    ensures { Splits walk.now.program.now walk.now.script.now lent.now.sets lent.now.numbers chosen.now spot.top spot.somes spot.left spot.at walk.now.limits c result share }
 {
     let mut side = spot;
     side.at = spot.at + 1;
     side.top = share;
-    let w = visit(walk, sets, numbers, chosen, side, c);
+    let w = visit(walk, lent, chosen, side, c);
     let Walked::Yes(c2) = w else {
         return w;
     };
     side.at = right_rule(walk.program, spot.at);
     side.top = base_sets::difference(spot.top, share);
-    visit(walk, sets, numbers, chosen, side, c2)
+    visit(walk, lent, chosen, side, c2)
 }
 
 // BESIDE: the shares in rising order of the sum of 2^number over their parts.
 #[cycle(at_name_beside_either_negation_placed_in_some_name_sometime_somewhere_split_visit)]
-fn beside(
-    walk: &Walk,
-    sets: &[u64; SETS],
-    numbers: &[u32; NUMBERS],
-    chosen: &[u32; 256],
-    spot: Spot,
-    c: Counts,
-) -> Walked
-    requires { (spot.at < 256) × (spot.left ≤ 255) × Visitable walk.now.script.now sets.now numbers.now spot.top spot.somes walk.now.limits }
-    ensures { Finds walk.now.program.now walk.now.script.now sets.now numbers.now chosen.now spot.top spot.somes spot.left spot.at walk.now.limits c result 5 }
+fn beside(walk: &Walk, lent: &StateArrays, chosen: &[u32; 256], spot: Spot, c: Counts) -> Walked
+    requires { (spot.at < 256) × (spot.left ≤ 255) × Visitable walk.now.script.now lent.now.sets lent.now.numbers spot.top spot.somes walk.now.limits }
+    ensures { Finds walk.now.program.now walk.now.script.now lent.now.sets lent.now.numbers chosen.now spot.top spot.somes spot.left spot.at walk.now.limits c result 5 }
 {
     let mut now = c;
     // An iterator of shares would hold this number and take the same step: no plainer.
     let mut share: u64 = 0;
     loop {
-        let w = split(walk, sets, numbers, chosen, spot, now, share);
+        let w = split(walk, lent, chosen, spot, now, share);
         if share == spot.top {
             return w;
         }
@@ -194,16 +158,9 @@ fn beside(
 
 // SOME: the names 1 to G + d in order.
 #[cycle(at_name_beside_either_negation_placed_in_some_name_sometime_somewhere_split_visit)]
-fn some_name(
-    walk: &Walk,
-    sets: &[u64; SETS],
-    numbers: &[u32; NUMBERS],
-    chosen: &[u32; 256],
-    spot: Spot,
-    c: Counts,
-) -> Walked
-    requires { (spot.at < 256) × (spot.left ≤ 255) × Visitable walk.now.script.now sets.now numbers.now spot.top spot.somes walk.now.limits }
-    ensures { Finds walk.now.program.now walk.now.script.now sets.now numbers.now chosen.now spot.top spot.somes spot.left spot.at walk.now.limits c result 6 }
+fn some_name(walk: &Walk, lent: &StateArrays, chosen: &[u32; 256], spot: Spot, c: Counts) -> Walked
+    requires { (spot.at < 256) × (spot.left ≤ 255) × Visitable walk.now.script.now lent.now.sets lent.now.numbers spot.top spot.somes walk.now.limits }
+    ensures { Finds walk.now.program.now walk.now.script.now lent.now.sets lent.now.numbers chosen.now spot.top spot.somes spot.left spot.at walk.now.limits c result 6 }
 {
     let somes = spot.somes;
     if SOMES <= somes {
@@ -216,7 +173,7 @@ fn some_name(
         let mut inner = spot;
         inner.at = spot.at + 1;
         inner.somes = spot.somes + 1;
-        let w = visit(walk, sets, numbers, &names, inner, now);
+        let w = visit(walk, lent, &names, inner, now);
         let Walked::No(c2) = w else {
             return w;
         };
@@ -227,26 +184,19 @@ fn some_name(
 
 // SOMETIME: the inner rule; on no, SOMETIME after each move by rising actor, then target.
 #[cycle(at_name_beside_either_negation_placed_in_some_name_sometime_somewhere_split_visit)]
-fn sometime(
-    walk: &Walk,
-    sets: &[u64; SETS],
-    numbers: &[u32; NUMBERS],
-    chosen: &[u32; 256],
-    spot: Spot,
-    c: Counts,
-) -> Walked
-    requires { (spot.at < 256) × (spot.left ≤ 255) × Visitable walk.now.script.now sets.now numbers.now spot.top spot.somes walk.now.limits }
-    ensures { Finds walk.now.program.now walk.now.script.now sets.now numbers.now chosen.now spot.top spot.somes spot.left spot.at walk.now.limits c result 7 }
+fn sometime(walk: &Walk, lent: &StateArrays, chosen: &[u32; 256], spot: Spot, c: Counts) -> Walked
+    requires { (spot.at < 256) × (spot.left ≤ 255) × Visitable walk.now.script.now lent.now.sets lent.now.numbers spot.top spot.somes walk.now.limits }
+    ensures { Finds walk.now.program.now walk.now.script.now lent.now.sets lent.now.numbers chosen.now spot.top spot.somes spot.left spot.at walk.now.limits c result 7 }
 {
     // One spot for the visits: each more is one in the frame of a deep walk.
     let mut there = spot;
     there.at = spot.at + 1;
-    let w = visit(walk, sets, numbers, chosen, there, c);
+    let w = visit(walk, lent, chosen, there, c);
     let Walked::No(c2) = w else {
         return w;
     };
     let mut targets: [u64; 64] = [0; 64];
-    let homes = all_targets(sets, numbers, spot.top, walk.limits.limit, &mut targets);
+    let homes = all_targets(lent, spot.top, walk.limits.limit, &mut targets);
     let mut now = c2;
     // An iterator of turns would hold the same two numbers and lend the targets: no plainer.
     let mut turn = next_turn(&targets, 0, 0, walk.limits.limit);
@@ -255,11 +205,10 @@ fn sometime(
         let t = base_sets::first(turn.rest);
         let step = Step::Move(a, t);
         // The move is made on a copy of the state.
-        let mut s = *sets;
-        let mut n = *numbers;
+        let mut next = *lent;
         there = spot;
-        there.top = next_state(walk.script, &mut s, &mut n, spot.top, &homes, step);
-        let w2 = visit(walk, &s, &n, chosen, there, now);
+        there.top = next_state(walk.script, &mut next, spot.top, &homes, step);
+        let w2 = visit(walk, &next, chosen, there, now);
         let Walked::No(c3) = w2 else {
             return w2;
         };
@@ -271,32 +220,25 @@ fn sometime(
 
 // SOMEWHERE: the inner rule; on no, SOMEWHERE inside each named top ambient by rising number.
 #[cycle(at_name_beside_either_negation_placed_in_some_name_sometime_somewhere_split_visit)]
-fn somewhere(
-    walk: &Walk,
-    sets: &[u64; SETS],
-    numbers: &[u32; NUMBERS],
-    chosen: &[u32; 256],
-    spot: Spot,
-    c: Counts,
-) -> Walked
-    requires { (spot.at < 256) × (spot.left ≤ 255) × Visitable walk.now.script.now sets.now numbers.now spot.top spot.somes walk.now.limits }
-    ensures { Finds walk.now.program.now walk.now.script.now sets.now numbers.now chosen.now spot.top spot.somes spot.left spot.at walk.now.limits c result 8 }
+fn somewhere(walk: &Walk, lent: &StateArrays, chosen: &[u32; 256], spot: Spot, c: Counts) -> Walked
+    requires { (spot.at < 256) × (spot.left ≤ 255) × Visitable walk.now.script.now lent.now.sets lent.now.numbers spot.top spot.somes walk.now.limits }
+    ensures { Finds walk.now.program.now walk.now.script.now lent.now.sets lent.now.numbers chosen.now spot.top spot.somes spot.left spot.at walk.now.limits c result 8 }
 {
     let mut inner = spot;
     inner.at = spot.at + 1;
-    let w = visit(walk, sets, numbers, chosen, inner, c);
+    let w = visit(walk, lent, chosen, inner, c);
     let Walked::No(c2) = w else {
         return w;
     };
     let mut now = c2;
     // A set is held in a number: no iterator of base_sets, which would hold this number and take the same two steps.
-    let mut rest = base_sets::intersection(spot.top, sets[NAMED]);
+    let mut rest = base_sets::intersection(spot.top, lent.sets[NAMED]);
     while rest != 0 {
         let i = base_sets::first(rest);
         let others = base_sets::rest(rest);
         let mut inside = spot;
-        inside.top = sets[i];
-        let w2 = visit(walk, sets, numbers, chosen, inside, now);
+        inside.top = lent.sets[i];
+        let w2 = visit(walk, lent, chosen, inside, now);
         let Walked::No(c3) = w2 else {
             return w2;
         };
@@ -308,16 +250,9 @@ fn somewhere(
 
 // PLACED: the inner rule on the process as the inside of one new ambient.
 #[cycle(at_name_beside_either_negation_placed_in_some_name_sometime_somewhere_split_visit)]
-fn placed_in(
-    walk: &Walk,
-    sets: &[u64; SETS],
-    numbers: &[u32; NUMBERS],
-    chosen: &[u32; 256],
-    spot: Spot,
-    c: Counts,
-) -> Walked
-    requires { (spot.at < 256) × (spot.left ≤ 255) × Visitable walk.now.script.now sets.now numbers.now spot.top spot.somes walk.now.limits }
-    ensures { Finds walk.now.program.now walk.now.script.now sets.now numbers.now chosen.now spot.top spot.somes spot.left spot.at walk.now.limits c result 9 }
+fn placed_in(walk: &Walk, lent: &StateArrays, chosen: &[u32; 256], spot: Spot, c: Counts) -> Walked
+    requires { (spot.at < 256) × (spot.left ≤ 255) × Visitable walk.now.script.now lent.now.sets lent.now.numbers spot.top spot.somes walk.now.limits }
+    ensures { Finds walk.now.program.now walk.now.script.now lent.now.sets lent.now.numbers chosen.now spot.top spot.somes spot.left spot.at walk.now.limits c result 9 }
 {
     let at = spot.at;
     let number = placing(walk.program, at);
@@ -334,10 +269,9 @@ fn placed_in(
     }
     let nowhere: [usize; 64] = [65; 64];
     let step = Step::Place(i, name);
-    let mut s = *sets;
-    let mut n = *numbers;
+    let mut next = *lent;
     let mut inner = spot;
     inner.at = at + 1;
-    inner.top = next_state(walk.script, &mut s, &mut n, spot.top, &nowhere, step);
-    visit(walk, &s, &n, chosen, inner, c)
+    inner.top = next_state(walk.script, &mut next, spot.top, &nowhere, step);
+    visit(walk, &next, chosen, inner, c)
 }

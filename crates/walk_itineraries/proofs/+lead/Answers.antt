@@ -20,7 +20,7 @@ pub returns-in_default : goal.returns-in_default
 returns-in_default t c =
     let x = c.args in record {
       kept = c.requires.1;
-      guides = leads-first x.walk.now.program.now x.walk.now.script.now x.sets.now x.numbers.now x.chosen.now x.spot.top x.spot.somes x.spot.left x.spot.at x.walk.now.limits x.c _ _ c.begin-walked.ensures c.in_default.not-No;
+      guides = leads-first x.walk.now.program.now x.walk.now.script.now x.lent.now.sets x.lent.now.numbers x.chosen.now x.spot.top x.spot.somes x.spot.left x.spot.at x.walk.now.limits x.c _ _ c.begin-walked.ensures c.in_default.not-No;
     }
 
 pub loop-turn-init : goal.loop-turn-init
@@ -28,7 +28,7 @@ loop-turn-init t c =
     let x = c.args in record {
       long = c.requires.1;
       small = search (c.next_turn-turn.type_inv, rules);
-      trying = trying-holds x.walk.now.program.now x.walk.now.script.now x.sets.now x.numbers.now x.chosen.now x.spot.top x.spot.somes (x.spot.left - 1) x.spot.at x.walk.now.limits c.all_targets-homes.result _ c.all_targets-homes.ensures.homes c.all_targets-homes.ensures.targets _ _ _ c.next_turn-turn.ensures;
+      trying = trying-holds x.walk.now.program.now x.walk.now.script.now x.lent.now.sets x.lent.now.numbers x.chosen.now x.spot.top x.spot.somes (x.spot.left - 1) x.spot.at x.walk.now.limits c.all_targets-homes.result _ c.all_targets-homes.ensures.homes c.all_targets-homes.ensures.targets _ _ _ c.next_turn-turn.ensures;
     }
 
 -- ---- a move
@@ -52,7 +52,7 @@ returns-in_default-walked t c =
     let x = c.args in
     let z = c.next_state.ensures in record {
       kept = c.note_move.ensures.kept ∙ c.lead-led.ensures.kept;
-      guides = leads-move x.walk.now.program.now x.walk.now.script.now x.sets.now x.numbers.now x.chosen.now x.spot.top x.spot.somes x.spot.left x.spot.at x.walk.now.limits x.c _ c.begin-walked.ensures _ c.in-No.is
+      guides = leads-move x.walk.now.program.now x.walk.now.script.now x.lent.now.sets x.lent.now.numbers x.chosen.now x.spot.top x.spot.somes x.spot.left x.spot.at x.walk.now.limits x.c _ c.begin-walked.ensures _ c.in-No.is
           c.all_targets-homes.result _ c.all_targets-homes.ensures.homes c.all_targets-homes.ensures.targets _ _ _ _ c.loop-turn.invariant.trying c.loop-turn.invariant.small c.loop-turn-test.true c.first-t.ensures _ _ _
           z.lends (z.made _ _ refl).0 (z.made _ _ refl).1 (z.made _ _ refl).2 _ _ _ c.lead-led.ensures.guides c.in_default-walked.not-No c.requires.0 c.lead-led.ensures.kept _ _ c.note_move.ensures.noted (omega arith);
     }
@@ -62,7 +62,7 @@ returns-in_default-walked t c =
 pub loop-turn-smaller : goal.loop-turn-smaller
 loop-turn-smaller t c =
     let x = c.args in
-    trying-less x.walk.now.program.now x.walk.now.script.now x.sets.now x.numbers.now x.chosen.now x.spot.top x.spot.somes (x.spot.left - 1) x.spot.at x.walk.now.limits _ _ _ _ _ c.loop-turn.invariant.trying c.loop-turn.invariant.small c.loop-turn-test.true _ _ c.next_turn-turn-in-loop-turn.ensures
+    trying-less x.walk.now.program.now x.walk.now.script.now x.lent.now.sets x.lent.now.numbers x.chosen.now x.spot.top x.spot.somes (x.spot.left - 1) x.spot.at x.walk.now.limits _ _ _ _ _ c.loop-turn.invariant.trying c.loop-turn.invariant.small c.loop-turn-test.true _ _ c.next_turn-turn-in-loop-turn.ensures
 
 pub loop-turn-preserved : goal.loop-turn-preserved
 loop-turn-preserved t c =
@@ -70,7 +70,7 @@ loop-turn-preserved t c =
     let z = c.next_state.ensures in record {
       long = c.lead-led.ensures.kept;
       small = search (c.next_turn-turn-in-loop-turn.type_inv, rules);
-      trying = turn-again x.walk.now.program.now x.walk.now.script.now x.sets.now x.numbers.now x.chosen.now x.spot.top x.spot.somes (x.spot.left - 1) x.spot.at x.walk.now.limits c.all_targets-homes.result _ c.all_targets-homes.ensures.homes c.all_targets-homes.ensures.targets _ _ _ _ _ c.loop-turn.invariant.trying c.loop-turn.invariant.small c.loop-turn-test.true c.first-t.ensures _ _ _
+      trying = turn-again x.walk.now.program.now x.walk.now.script.now x.lent.now.sets x.lent.now.numbers x.chosen.now x.spot.top x.spot.somes (x.spot.left - 1) x.spot.at x.walk.now.limits c.all_targets-homes.result _ c.all_targets-homes.ensures.homes c.all_targets-homes.ensures.targets _ _ _ _ _ c.loop-turn.invariant.trying c.loop-turn.invariant.small c.loop-turn-test.true c.first-t.ensures _ _ _
           z.lends (z.made _ _ refl).0 (z.made _ _ refl).1 (z.made _ _ refl).2 _ (leads-there c.lead-led.ensures.guides) _ c.in-No-walked.is _ _ c.next_turn-turn-in-loop-turn.ensures;
     }
 
@@ -78,4 +78,4 @@ loop-turn-preserved t c =
 pub returns-clause-guides : goal.returns-clause-guides
 returns-clause-guides t c =
     let x = c.args in
-    leads-none x.walk.now.program.now x.walk.now.script.now x.sets.now x.numbers.now x.chosen.now x.spot.top x.spot.somes x.spot.left x.spot.at x.walk.now.limits x.c _ c.begin-walked.ensures _ c.in-No.is _ _ _ _ c.loop-turn.invariant.trying c.loop-turn-test.false _
+    leads-none x.walk.now.program.now x.walk.now.script.now x.lent.now.sets x.lent.now.numbers x.chosen.now x.spot.top x.spot.somes x.spot.left x.spot.at x.walk.now.limits x.c _ c.begin-walked.ensures _ c.in-No.is _ _ _ _ c.loop-turn.invariant.trying c.loop-turn-test.false _

@@ -13,7 +13,7 @@ abbrev pub invariant-loop-turn : goal.invariant-loop-turn
 invariant-loop-turn l = record {
   long : length l.list ≡ 256;
   small : l.turn.rest < 2 ^ 64;
-  trying : Trying l.walk.program.now l.walk.script.now l.sets l.numbers l.chosen l.spot.top l.spot.somes (l.spot.left - 1) l.spot.at l.walk.limits l.targets l.initial.now l.now l.turn.from l.turn.rest;
+  trying : Trying l.walk.program.now l.walk.script.now l.lent.sets l.lent.numbers l.chosen l.spot.top l.spot.somes (l.spot.left - 1) l.spot.at l.walk.limits l.targets l.initial.now l.now l.turn.from l.turn.rest;
 }
 
 abbrev pub decreases-loop-turn : goal.decreases-loop-turn

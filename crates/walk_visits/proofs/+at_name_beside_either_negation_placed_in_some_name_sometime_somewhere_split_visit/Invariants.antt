@@ -43,22 +43,22 @@ decreases-visit l = 3 * l.spot.left
 -- ---- the loops
 
 abbrev pub invariant-beside-loop-share : goal.invariant-beside-loop-share
-invariant-beside-loop-share l = (l.share < 2 ^ 64) × Dividing l.walk.program.now l.walk.script.now l.sets l.numbers l.chosen l.spot.top l.spot.somes l.spot.left l.spot.at l.walk.limits l.initial.now l.now l.share
+invariant-beside-loop-share l = (l.share < 2 ^ 64) × Dividing l.walk.program.now l.walk.script.now l.lent.sets l.lent.numbers l.chosen l.spot.top l.spot.somes l.spot.left l.spot.at l.walk.limits l.initial.now l.now l.share
 
 abbrev pub decreases-beside-loop-share : goal.decreases-beside-loop-share
 decreases-beside-loop-share l = 2 ^ 64 - l.share
 
 abbrev pub invariant-some_name-loop-n : goal.invariant-some_name-loop-n
-invariant-some_name-loop-n l = (l.last ≡ l.walk.limits.greatest + l.spot.somes + 1) × Naming l.walk.program.now l.walk.script.now l.sets l.numbers l.chosen l.spot.top l.spot.somes l.spot.left l.spot.at l.walk.limits l.initial.now l.now l.n
+invariant-some_name-loop-n l = (l.last ≡ l.walk.limits.greatest + l.spot.somes + 1) × Naming l.walk.program.now l.walk.script.now l.lent.sets l.lent.numbers l.chosen l.spot.top l.spot.somes l.spot.left l.spot.at l.walk.limits l.initial.now l.now l.n
 
 abbrev pub invariant-sometime-loop-turn : goal.invariant-sometime-loop-turn
-invariant-sometime-loop-turn l = (l.turn.rest < 2 ^ 64) × Trying l.walk.program.now l.walk.script.now l.sets l.numbers l.chosen l.spot.top l.spot.somes l.spot.left l.spot.at l.walk.limits l.targets l.initial.now l.now l.turn.from l.turn.rest
+invariant-sometime-loop-turn l = (l.turn.rest < 2 ^ 64) × Trying l.walk.program.now l.walk.script.now l.lent.sets l.lent.numbers l.chosen l.spot.top l.spot.somes l.spot.left l.spot.at l.walk.limits l.targets l.initial.now l.now l.turn.from l.turn.rest
 
 abbrev pub decreases-sometime-loop-turn : goal.decreases-sometime-loop-turn
 decreases-sometime-loop-turn l = length (pairs_left l.targets l.walk.limits.limit l.turn.from l.turn.rest)
 
 abbrev pub invariant-somewhere-loop-rest : goal.invariant-somewhere-loop-rest
-invariant-somewhere-loop-rest l = (l.rest < 2 ^ 64) × Seeking l.walk.program.now l.walk.script.now l.sets l.numbers l.chosen l.spot.top l.spot.somes l.spot.left l.spot.at l.walk.limits l.initial.now l.now l.rest
+invariant-somewhere-loop-rest l = (l.rest < 2 ^ 64) × Seeking l.walk.program.now l.walk.script.now l.lent.sets l.lent.numbers l.chosen l.spot.top l.spot.somes l.spot.left l.spot.at l.walk.limits l.initial.now l.now l.rest
 
 abbrev pub decreases-somewhere-loop-rest : goal.decreases-somewhere-loop-rest
 decreases-somewhere-loop-rest l = length (members l.rest)
