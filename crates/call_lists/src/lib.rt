@@ -40,10 +40,10 @@ fn move_fits(w: u32, parts: usize) -> bool
 }
 
 // The moves of the list, one by one, made on the state that is lent.
-pub fn run_list<'a, 'b>(
-    script: &'a [u32],
-    lent: &'b mut StateArrays,
-    moves: &'a [u32],
+pub fn run_list(
+    script: &[u32],
+    lent: &mut StateArrays,
+    moves: &[u32],
     parts: usize,
 ) -> Result<(), Refusal>
     requires { Runnable script.now lent.old.sets lent.old.numbers moves.now parts }

@@ -11,7 +11,7 @@ use engine_states::{ENTER, OPEN, RECEIVE};
 use engine_targets::{locate, targets};
 
 // OPEN: the part t goes from the body of p, in which the actor stands, and its body stays.
-fn open_part<'a, 'b>(script: &'a [u32], lent: &'b mut StateArrays, p: usize, a: usize, t: usize)
+fn open_part(script: &[u32], lent: &mut StateArrays, p: usize, a: usize, t: usize)
     requires { (p < 65) × (a < 64) × (t < 64) × LentReady script.now lent.old.sets lent.old.numbers }
     ensures lends { LentReady script.now lent.new.sets lent.new.numbers }
     ensures table { (kinds_in lent.new.numbers ≡ kinds_in lent.old.numbers) × (starts_in lent.new.numbers ≡ starts_in lent.old.numbers) }
@@ -25,14 +25,7 @@ fn open_part<'a, 'b>(script: &'a [u32], lent: &'b mut StateArrays, p: usize, a: 
 }
 
 // IN and EXIT: the part p goes from one body into another.
-fn carry<'a, 'b>(
-    script: &'a [u32],
-    lent: &'b mut StateArrays,
-    p: usize,
-    from: usize,
-    into: usize,
-    a: usize,
-)
+fn carry(script: &[u32], lent: &mut StateArrays, p: usize, from: usize, into: usize, a: usize)
     requires { (p < 64) × (from < 65) × (into < 65) × (a < 64) × LentReady script.now lent.old.sets lent.old.numbers }
     ensures lends { LentReady script.now lent.new.sets lent.new.numbers }
     ensures table { (kinds_in lent.new.numbers ≡ kinds_in lent.old.numbers) × (starts_in lent.new.numbers ≡ starts_in lent.old.numbers) }
@@ -48,7 +41,7 @@ fn carry<'a, 'b>(
 }
 
 // A receipt: the receipt a and the output t go from the body of p.
-fn receive_part<'a, 'b>(script: &'a [u32], lent: &'b mut StateArrays, p: usize, a: usize, t: usize)
+fn receive_part(script: &[u32], lent: &mut StateArrays, p: usize, a: usize, t: usize)
     requires { (p < 65) × (a < 64) × (t < 64) × LentReady script.now lent.old.sets lent.old.numbers }
     ensures lends { LentReady script.now lent.new.sets lent.new.numbers }
     ensures table { (kinds_in lent.new.numbers ≡ kinds_in lent.old.numbers) × (starts_in lent.new.numbers ≡ starts_in lent.old.numbers) }
@@ -62,10 +55,10 @@ fn receive_part<'a, 'b>(script: &'a [u32], lent: &'b mut StateArrays, p: usize, 
 }
 
 // IN, or where it is none EXIT, of the actor a in the body of p.
-fn carry_around<'a, 'b>(
-    script: &'a [u32],
-    lent: &'b mut StateArrays,
-    homes: &'a [usize; 64],
+fn carry_around(
+    script: &[u32],
+    lent: &mut StateArrays,
+    homes: &[usize; 64],
     p: usize,
     a: usize,
     t: usize,
@@ -92,13 +85,7 @@ fn carry_around<'a, 'b>(
 }
 
 // The move of the actor a to t, one of its targets, homes being those of all parts.
-pub fn make_move<'a, 'b>(
-    script: &'a [u32],
-    lent: &'b mut StateArrays,
-    homes: &'a [usize; 64],
-    a: usize,
-    t: usize,
-)
+pub fn make_move(script: &[u32], lent: &mut StateArrays, homes: &[usize; 64], a: usize, t: usize)
     requires { (a < 64) × (t < 64) × LentReady script.now lent.old.sets lent.old.numbers }
     ensures lends { LentReady script.now lent.new.sets lent.new.numbers }
     ensures table { (kinds_in lent.new.numbers ≡ kinds_in lent.old.numbers) × (starts_in lent.new.numbers ≡ starts_in lent.old.numbers) }
@@ -122,12 +109,7 @@ pub fn make_move<'a, 'b>(
 }
 
 // The move (a, t) where the machine can make it, and whether it can.
-pub fn make_if_possible<'a, 'b>(
-    script: &'a [u32],
-    lent: &'b mut StateArrays,
-    a: usize,
-    t: usize,
-) -> bool
+pub fn make_if_possible(script: &[u32], lent: &mut StateArrays, a: usize, t: usize) -> bool
     requires { (a < 64) × (t < 64) × LentReady script.now lent.old.sets lent.old.numbers }
     ensures lends { LentReady script.now lent.new.sets lent.new.numbers }
     ensures table { (kinds_in lent.new.numbers ≡ kinds_in lent.old.numbers) × (starts_in lent.new.numbers ≡ starts_in lent.old.numbers) }
@@ -136,13 +118,8 @@ pub fn make_if_possible<'a, 'b>(
     let top = lent.sets[TOP];
     let kids = bodies(&lent.sets, top);
     let homes = locate(&kids, lent.sets[NAMED]);
-    let aimed = targets(
-        &kids,
-        lent.numbers[ACTS + a],
-        lent.sets[AIMS + a],
-        &homes,
-        a,
-    );
+    let aims = lent.sets[AIMS + a];
+    let aimed = targets(&kids, lent.numbers[ACTS + a], aims, &homes, a);
     if base_sets::has(aimed, t) {
         make_move(script, lent, &homes, a, t);
         return true;

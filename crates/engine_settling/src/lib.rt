@@ -87,7 +87,7 @@ fn item_under(script: &[u32], start: u32, offset: u32, numbers: &[u32; NUMBERS])
 }
 
 // What the action a does first, at the next offset.
-pub fn spend<'a, 'b>(script: &'a [u32], lent: &'b mut StateArrays, a: usize)
+pub fn spend(script: &[u32], lent: &mut StateArrays, a: usize)
     requires { (a < 64) × LentReady script.now lent.old.sets lent.old.numbers }
     ensures lends { LentReady script.now lent.new.sets lent.new.numbers }
     ensures table { (kinds_in lent.new.numbers ≡ kinds_in lent.old.numbers) × (starts_in lent.new.numbers ≡ starts_in lent.old.numbers) }

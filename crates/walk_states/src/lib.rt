@@ -86,13 +86,8 @@ pub fn all_targets(lent: &StateArrays, top: u64, limit: usize, found: &mut [u64;
     let mut homes: [usize; 64] = [65; 64];
     put_homes(&mut homes, &kids, lent.sets[NAMED]);
     for a in 0..limit {
-        found[a] = targets(
-            &kids,
-            lent.numbers[ACTS + a],
-            lent.sets[AIMS + a],
-            &homes,
-            a,
-        );
+        let aims = lent.sets[AIMS + a];
+        found[a] = targets(&kids, lent.numbers[ACTS + a], aims, &homes, a);
     }
     homes
 }
