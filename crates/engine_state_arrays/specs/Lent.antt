@@ -1,4 +1,4 @@
--- A state and its part table as two arrays, so that the walk lends two and not twenty: which numbers stand where.
+-- A state and its part table as two arrays, which the walk lends as one in place of twenty: which numbers stand where.
 -- Assumes nothing: these are definitions.
 use Rattle.std.specs.Prelude.{ℕ, zero, suc, ◌+◌, ◌<◌, List, [], ◌∷◌, ◌≡◌, get_or, set, length}
 use Rattle.base_arrays.specs.Stretches.{stretch}

@@ -1,5 +1,5 @@
 // What the words of a rule ask of the process that a state represents (document 01, "The rule and its walk"), a state
-// being lent as two arrays and made only where a move or PLACED changes it.
+// being lent as the arrays that hold it, and made only where a move or PLACED changes it.
 #![tactic(auto)]
 
 ghost use Rattle.std.specs.Prelude.{◌≡◌, ℕ, ◌+◌, ◌-◌, ◌≤◌, ◌<◌, length, get_or, Some};
