@@ -94,7 +94,8 @@ pub fn count(m: u64) -> usize
     m.count_ones() as usize
 }
 
-// The least member of m, and 64 where m is empty.
+// The least member of m, and 64 where m is empty. It answers a number and no Option: document 01 asks for trailing zeros, which
+// are that number, and who calls it has asked for an empty set.
 pub fn first(m: u64) -> usize
     ensures { result ≡ head_or 64 (members m) }
 {

@@ -4,7 +4,7 @@
 ghost use Rattle.std.specs.Prelude.{◌≡◌, ◌+◌, take, drop};
 ghost use Rattle.base_slices.specs.Sums.{capped};
 
-// A word as an index.
+// A word as an index. The library has no conversion for it that can't fail, since an index may have fewer digits elsewhere.
 pub fn wide(x: u32) -> usize
     ensures { result ≡ x }
 {

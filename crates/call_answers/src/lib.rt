@@ -92,7 +92,7 @@ pub fn ask_terms(patience: u32, moves: usize, list: usize) -> Result<(), Refusal
 }
 
 // "G the greatest name in script and rule (0 if none)"
-pub fn greatest<'a>(script: &'a [u32], rule: &'a [u32]) -> u32
+pub fn greatest(script: &[u32], rule: &[u32]) -> u32
     ensures { Greatest script.now rule.now result }
 {
     greatest_name(script).max(greatest_rule_name(rule))

@@ -7,12 +7,7 @@ use call_answers::{Answer, Verdict};
 
 // The answer with the itinerary, whose moves are the array's first words: where it is yes they are put into the list and
 // counted; else none is shown.
-pub fn with_itinerary<'a, 'b>(
-    a: Answer,
-    count: usize,
-    moves: &'a [u32; 256],
-    list: &'b mut [u32],
-) -> Answer
+pub fn with_itinerary(a: Answer, count: usize, moves: &[u32; 256], list: &mut [u32]) -> Answer
     requires { Listable count moves.now list.old }
     ensures { ShowsMoves a count moves.now list.old result list.new }
 {

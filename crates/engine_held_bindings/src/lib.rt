@@ -30,7 +30,7 @@ const FREE: Binding = Binding {
     bulk: 0,
 };
 
-// The bindings: the rows from first on, newest first.
+// The bindings: the rows from first on, newest first. No heap: so an array that is filled from its end, and no Vec.
 #[derive(Clone, Copy)]
 pub struct Bindings {
     pub rows: [Binding; 32],

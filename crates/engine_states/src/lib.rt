@@ -112,11 +112,11 @@ fn with_name(t: NameTable, i: usize, name: Option<u32>) -> NameTable
 }
 
 // The names of all parts under the bindings.
-fn name_parts<'a>(
-    script: &'a [u32],
-    kinds: &'a [u8; 64],
-    starts: &'a [u32; 64],
-    bindings: &'a [Binding],
+fn name_parts(
+    script: &[u32],
+    kinds: &[u8; 64],
+    starts: &[u32; 64],
+    bindings: &[Binding],
 ) -> NameTable
     ensures { (offsets : List ℕ) (i : ℕ) → i < 64 → name_in result.named result.names i ≡ head_name (view_under (bindings_in script.now bindings.now)) (heads script.now kinds.now starts.now offsets i) }
 {
@@ -215,14 +215,14 @@ fn kind_deed(kind: u8, item: First, outs: u64, names: &NameTable) -> Deed
 }
 
 // What a part of that kind, start and offset does under the bindings.
-fn deed_at<'a>(
-    script: &'a [u32],
+fn deed_at(
+    script: &[u32],
     kind: u8,
     start: u32,
     offset: u32,
-    bindings: &'a [Binding],
+    bindings: &[Binding],
     outs: u64,
-    names: &'a NameTable,
+    names: &NameTable,
 ) -> Deed
     requires { KeptCounts script.now bindings.now }
     ensures { (w : ℕ → ClosureHead) → offset < 4294967295 → ((j : ℕ) → j < 64 → elem j (members outs) ≡ is_output (w j)) → ((j : ℕ) → j < 64 → name_in names.now.named names.now.names j ≡ head_name (view_under (bindings_in script.now bindings.now)) (w j)) → Does (bindings_in script.now bindings.now) w (head_of script.now kind start offset) result }
@@ -246,12 +246,12 @@ fn with_deed(l: PartNotes, i: usize, d: Deed) -> PartNotes
 }
 
 // What is kept of all parts, under the bindings.
-fn note_deeds<'a>(
-    script: &'a [u32],
-    kinds: &'a [u8; 64],
-    starts: &'a [u32; 64],
-    offsets: &'a [u32; 64],
-    bindings: &'a [Binding],
+fn note_deeds(
+    script: &[u32],
+    kinds: &[u8; 64],
+    starts: &[u32; 64],
+    offsets: &[u32; 64],
+    bindings: &[Binding],
 ) -> PartNotes
     requires { KeptCounts script.now bindings.now }
     ensures { ((i : ℕ) → get_or offsets.now i 0 < 4294967295) → Seen (bindings_in script.now bindings.now) (heads script.now kinds.now starts.now offsets.now) result }
@@ -273,10 +273,10 @@ fn note_deeds<'a>(
 }
 
 // The state of those bodies, offsets and bindings.
-pub fn noted<'a>(
-    script: &'a [u32],
-    kinds: &'a [u8; 64],
-    starts: &'a [u32; 64],
+pub fn noted(
+    script: &[u32],
+    kinds: &[u8; 64],
+    starts: &[u32; 64],
     kids: [u64; 65],
     offsets: [u32; 64],
     bindings: Bindings,
@@ -297,7 +297,7 @@ pub fn noted<'a>(
 // ---- The weight.
 
 // The number of the parts of left and those inside them, at any depth; 65 where there are more than 64.
-fn count_below<'a>(kids: &'a [u64; 65], left: u64, fuel: usize) -> usize
+fn count_below(kids: &[u64; 65], left: u64, fuel: usize) -> usize
     ensures most { result ≤ 65 }
     ensures counted { fuel ≤ 64 → CountsParts (body_in kids.now) (members left) fuel result }
 {

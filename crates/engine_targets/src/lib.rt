@@ -10,9 +10,9 @@ ghost use Rattle.engine_targets.specs.Targets.{is_within, is_beside, is_around, 
 
 // Writes the homes of the parts of left, which stand in the body of the part at, and of those in the bodies of the named
 // ambients among them, at any depth.
-fn locate_below<'a, 'b>(
-    found: &'b mut [usize; 64],
-    kids: &'a [u64; 65],
+fn locate_below(
+    found: &mut [usize; 64],
+    kids: &[u64; 65],
     named: u64,
     left: u64,
     at: usize,
@@ -36,7 +36,7 @@ fn locate_below<'a, 'b>(
 
 // For every part the part in whose body it stands, put into an array that has 65 for each: 64 for the top, 65 where there is
 // none, or an ambient around it has no name. These are numbers and no Option: Located says so of them.
-pub fn put_homes<'a, 'b>(homes: &'b mut [usize; 64], kids: &'a [u64; 65], named: u64)
+pub fn put_homes(homes: &mut [usize; 64], kids: &[u64; 65], named: u64)
     requires { homes.old ≡ replicate 64 65 }
     ensures { Located (members named) (body_in kids.now) (λ i. get_or homes.new i 0) }
 {
@@ -63,7 +63,7 @@ fn aimed_within(kids: &[u64; 65], aim: u64, p: usize) -> u64
 }
 
 // Those of aim in the body in which the part p stands, but for p.
-fn aimed_beside<'a>(kids: &'a [u64; 65], aim: u64, homes: &'a [usize; 64], p: usize) -> u64
+fn aimed_beside(kids: &[u64; 65], aim: u64, homes: &[usize; 64], p: usize) -> u64
     ensures { (t : ℕ) → elem t (members result) ≡ is_beside (body_in kids.now) p (get_or homes.now p 0) t (elem t (members aim)) }
 {
     if p >= 64 {
@@ -87,7 +87,7 @@ fn aimed_around(aim: u64, homes: &[usize; 64], p: usize) -> u64
 }
 
 // The targets of the actor a's moves, by where it stands and its act, as it is lent: 1 OPEN, 2 IN, 3 EXIT, 4 it receives.
-pub fn targets<'a>(kids: &'a [u64; 65], act: u32, aim: u64, homes: &'a [usize; 64], a: usize) -> u64
+pub fn targets(kids: &[u64; 65], act: u32, aim: u64, homes: &[usize; 64], a: usize) -> u64
     requires { a < 64 }
     ensures { TargetsOf (body_in kids.now) act (members aim) (λ i. get_or homes.now i 0) a (members result) }
 {

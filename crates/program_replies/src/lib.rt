@@ -25,13 +25,7 @@ fn read_count(s: &[u32]) -> Option<(&[u32], &[u32])>
 }
 
 // The text of the call's answer.
-fn put_call<'a>(
-    script: &'a [u32],
-    moves: &'a [u32],
-    rule: &'a [u32],
-    patience: u32,
-    text: &mut [u8],
-) -> usize
+fn put_call(script: &[u32], moves: &[u32], rule: &[u32], patience: u32, text: &mut [u8]) -> usize
     ensures { Puts text.old text.new 0 result (call_reply script.now moves.now rule.now patience) }
 {
     let mut out = [0u32; OUT_WORDS];
@@ -42,13 +36,7 @@ fn put_call<'a>(
 
 // What stands behind the rule: "patience, filling the input exactly".
 #[tactic(auto, unfolding(crate::specs::Reply::rule_reply))]
-fn reply_with_rule<'a>(
-    script: &'a [u32],
-    moves: &'a [u32],
-    rule: &'a [u32],
-    s: &'a [u32],
-    text: &mut [u8],
-) -> usize
+fn reply_with_rule(script: &[u32], moves: &[u32], rule: &[u32], s: &[u32], text: &mut [u8]) -> usize
     ensures { Puts text.old text.new 0 result (rule_reply script.now moves.now rule.now s.now) }
 {
     let [patience] = s else {
@@ -59,7 +47,7 @@ fn reply_with_rule<'a>(
 
 // "rule count, rule"
 #[tactic(auto, unfolding(crate::specs::Reply::replied))]
-fn reply_with_moves<'a>(script: &'a [u32], moves: &'a [u32], s: &'a [u32], text: &mut [u8]) -> usize
+fn reply_with_moves(script: &[u32], moves: &[u32], s: &[u32], text: &mut [u8]) -> usize
     ensures { Puts text.old text.new 0 result (moves_reply script.now moves.now s.now) }
 {
     let Some((rule, rest)) = read_count(s) else {
@@ -70,7 +58,7 @@ fn reply_with_moves<'a>(script: &'a [u32], moves: &'a [u32], s: &'a [u32], text:
 
 // "move count, moves"
 #[tactic(auto, unfolding(crate::specs::Reply::replied))]
-fn reply_with_script<'a>(script: &'a [u32], s: &'a [u32], text: &mut [u8]) -> usize
+fn reply_with_script(script: &[u32], s: &[u32], text: &mut [u8]) -> usize
     ensures { Puts text.old text.new 0 result (script_reply script.now s.now) }
 {
     let Some((moves, rest)) = read_count(s) else {

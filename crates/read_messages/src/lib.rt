@@ -53,7 +53,8 @@ pub enum Arity {
     Two,
 }
 
-// The first question that is answered by no: its number in document 01, and the index of the word of which it was asked.
+// The first question that is answered by no: its number in document 01, and the index of the word of which it was asked. The
+// number stays a number: a host is told it (skycorbel_call), and refuse and refusal of the definitions have it.
 #[derive(Clone, Copy, Debug, PartialEq, Eq)]
 pub struct Refusal {
     pub question: u32,
@@ -138,7 +139,7 @@ pub fn greatest<F: Fn(u32) -> u32>(words: &[u32], name: F) -> u32
 }
 
 // The indices of the words around a word, innermost first, from first on: of the receipts around a message, or of the SOMEs
-// around a rule.
+// around a rule. No heap: so an array that is filled from its end, and no Vec.
 #[derive(Clone, Copy)]
 pub struct Innermost<const N: usize> {
     pub indices: [u16; N],

@@ -14,7 +14,7 @@ use Rattle.engine_targets.specs.Targets.{is_some}
 use Rattle.theory_decision.specs.Walk.{Count, first_yes, keep, moves_to, moves_from, in_order}
 use Rattle.theory_decision.specs.Walk as spec
 use Rattle.theory_decision.specs.ClosureWalk.{nexts}
-use Rattle.walk_stages.specs.Order.{paired, pairs_from, pairs_left, pairs_behind, Turns}
+use Rattle.walk_stages.specs.Order.{paired, pairs_from, pairs_left, pairs_behind, TurnWithin, Turns}
 use Rattle.walk_stages.specs.Visits.{count_of, walked_of}
 use Rattle.walk_stages.specs.declared.Counts.{Counts}
 use Rattle.walk_stages.specs.declared.Walked.{Walked}
@@ -32,50 +32,56 @@ paired_none : (o : ℕ) (k : List (ℕ × ℕ)) → paired o (members 0) ++ k �
 unfolding paired
 paired_none o k = ap (λ (l : List ℕ). paired o l ++ k) members-empty
 
--- no inner one is left behind an empty set
-pub behind-none : (inner : List ℕ) (limit from : ℕ) → pairs_behind inner limit from 0 ≡ pairs_from inner from (limit - from)
+-- behind an empty set all is left
+behind-none : (inner : List ℕ) (limit from : ℕ) → pairs_behind inner limit from 0 ≡ pairs_from inner from (limit - from)
 unfolding paired
 behind-none inner limit from = ap (λ (l : List ℕ). paired (from - 1) (tail l) ++ pairs_from inner from (limit - from)) members-empty
 
--- nor behind the last member of a set
-pub behind-last : (inner : List ℕ) (limit from rest others : ℕ) → members others ≡ tail (members rest) → others ≡ 0 → pairs_behind inner limit from rest ≡ pairs_from inner from (limit - from)
-behind-last inner limit from rest others e z = ap (λ (l : List ℕ). paired (from - 1) l ++ pairs_from inner from (limit - from)) (sym e ∙ ap members z) ∙ paired_none (from - 1) (pairs_from inner from (limit - from))
+-- What is left while the next turn is sought, of the pairs l: the inner ones that are left, then the outer numbers from `from` on.
+pub record Seeks (inner : List ℕ) (limit from rest : ℕ) (l : List (ℕ × ℕ)) : Type 0 where
+  pub pairs : l ≡ pairs_left inner limit from rest
+  pub within : TurnWithin limit from rest
 
--- the next turn is sought among the outer numbers from `from` on, whose pairs l are
-module _ (inner : List ℕ) (limit from : ℕ) (l : List (ℕ × ℕ)) (e : l ≡ pairs_from inner from (limit - from)) where
-  next-pairs : from < limit → l ≡ paired from (members (get_or inner from 0)) ++ pairs_from inner (from + 1) (limit - (from + 1))
+pub within_none : (limit from : ℕ) → TurnWithin limit from 0
+within_none limit from = record { begun = λ n. absurd (n refl); low = λ n. absurd (n refl) }
+
+-- it begins with what is behind the first move of the turn before
+pub seeks-all : (inner : List ℕ) (limit from rest r : ℕ) → rest ≡ 0 → r ≡ rest → Seeks inner limit from r (pairs_behind inner limit from rest)
+seeks-all inner limit from rest r z e = rw (e, z) record {
+  pairs = behind-none inner limit from ∙ sym (paired_none (from - 1) (pairs_from inner from (limit - from)));
+  within = within_none limit from;
+}
+
+pub seeks-others : (inner : List ℕ) (limit from rest others r : ℕ) → TurnWithin limit from rest → (rest ≡ 0 → ⊥) → members others ≡ tail (members rest) → r ≡ others → Seeks inner limit from r (pairs_behind inner limit from rest)
+seeks-others inner limit from rest others r w n e x = rw x record {
+  pairs = ap (λ (l : List ℕ). paired (from - 1) l ++ pairs_from inner from (limit - from)) (sym e);
+  within = record { begun = λ m. w.begun n; low = λ m. w.low n };
+}
+
+module _ (inner : List ℕ) (limit from rest : ℕ) (l : List (ℕ × ℕ)) (S : Seeks inner limit from rest l) where
+  -- some are left
+  pub seeks-here : (rest ≡ 0 → ⊥) → Turns inner limit from rest l
+  seeks-here n = record { pairs = S.pairs; within = S.within; ends = λ z. absurd (n z) }
+
+  -- none is left, and the next outer number's set is looked at
+  pub seeks-on : from < limit → rest ≡ 0 → Seeks inner limit (from + 1) (get_or inner from 0) l
   unfolding pairs_from
-  next-pairs h =
-      let n : limit - from ≡ suc (limit - suc from) = omega arith in
-      let s : suc from ≡ from + 1 = omega arith in
-      e ∙ ap (pairs_from inner from) n ∙ ap (λ (k : ℕ). paired from (members (get_or inner from 0)) ++ pairs_from inner k (limit - k)) s
-
-  -- this one has inner ones
-  pub seeks-here : from < limit → (get_or inner from 0 ≡ 0 → ⊥) → Turns inner limit (from + 1) (get_or inner from 0) l
-  seeks-here h n =
+  seeks-on h z =
+      let e : limit - from ≡ suc (limit - suc from) = omega arith in
       let o : from + 1 - 1 ≡ from = omega arith in
+      let s : suc from ≡ from + 1 = omega arith in
       record {
-        pairs = next-pairs h ∙ ap (λ (m : ℕ). paired m (members (get_or inner from 0)) ++ pairs_from inner (from + 1) (limit - (from + 1))) (sym o);
-        within = record { begun = λ m. omega arith; low = λ m. omega arith };
-        ends = λ z. absurd (n z);
+        pairs = S.pairs ∙ ap (λ (m : ℕ). pairs_left inner limit from m) z ∙ paired_none (from - 1) (pairs_from inner from (limit - from)) ∙ ap (pairs_from inner from) e
+            ∙ ap₂ (λ (m : ℕ) (k : ℕ). paired m (members (get_or inner from 0)) ++ pairs_from inner k (limit - k)) (sym o) s;
+        within = record { begun = λ n. omega arith; low = λ n. omega arith };
       }
-
-  -- it has none
-  pub seeks-on : from < limit → get_or inner from 0 ≡ 0 → l ≡ pairs_from inner (from + 1) (limit - (from + 1))
-  seeks-on h z = next-pairs h ∙ ap (λ (m : ℕ). paired from (members m) ++ pairs_from inner (from + 1) (limit - (from + 1))) z ∙ paired_none from (pairs_from inner (from + 1) (limit - (from + 1)))
 
   -- no outer number is left
-  pub seeks-last : limit ≤ from → Turns inner limit limit 0 l
+  pub seeks-last : limit ≤ from → Turns inner limit from rest l
   unfolding pairs_from
   seeks-last h =
-      let n : limit - from ≡ 0 = omega arith in
-      let m : limit - limit ≡ 0 = omega arith in
-      let none : l ≡ [] = e ∙ ap (pairs_from inner from) n in
-      record {
-        pairs = none ∙ sym (paired_none (limit - 1) (pairs_from inner limit (limit - limit)) ∙ ap (pairs_from inner limit) m);
-        within = record { begun = λ x. absurd (x refl); low = λ x. absurd (x refl) };
-        ends = λ z. none;
-      }
+      let e : limit - from ≡ 0 = omega arith in
+      record { pairs = S.pairs; within = S.within; ends = λ z. S.pairs ∙ ap (λ (m : ℕ). pairs_left inner limit from m) z ∙ paired_none (from - 1) (pairs_from inner from (limit - from)) ∙ ap (pairs_from inner from) e }
 
 -- the turn's first move, and what is behind it
 pub turns-first : {inner : List ℕ} {limit from rest : ℕ} {l : List (ℕ × ℕ)} → Turns inner limit from rest l → rest < 2 ^ 64 → (rest ≡ 0 → ⊥) → (t : ℕ) → t ≡ head_or 64 (members rest)

@@ -97,25 +97,20 @@ pub fn next_turn(inner: &[u64; 64], start: usize, left: u64, limit: usize) -> Tu
     requires { (limit ≤ 64) × TurnWithin limit start left }
     ensures { Turns inner.now limit result.from result.rest (pairs_behind inner.now limit start left) }
 {
-    if left != 0 {
-        let rest = base_sets::rest(left);
+    let mut from = start;
+    let mut rest = left;
+    if rest != 0 {
+        rest = base_sets::rest(rest);
+    }
+    // As a for loop each number that is passed over costs eight instructions in place of six: a walk of SOMETIME gets 1 % dearer.
+    while from < limit {
         if rest != 0 {
-            return Turn { from: start, rest };
+            return Turn { from, rest };
         }
+        rest = inner[from];
+        from += 1;
     }
-    for from in start..limit {
-        let rest = inner[from];
-        if rest != 0 {
-            return Turn {
-                from: from + 1,
-                rest,
-            };
-        }
-    }
-    Turn {
-        from: limit,
-        rest: 0,
-    }
+    Turn { from, rest }
 }
 
 // The state for lending.

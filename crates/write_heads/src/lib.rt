@@ -32,7 +32,8 @@ const OUTPUT_WORD: u32 = 0x40000000;
 // How many receipts can be around a part: as many as there are parts.
 const MOST_AROUND: usize = 64;
 
-// The receipts around what is written: the rows from first on, innermost first.
+// The receipts around what is written: the rows from first on, innermost first. No heap: so an array that is filled from its
+// end, and no Vec.
 #[derive(Clone, Copy)]
 pub struct Around {
     pub rows: [Receipt; 64],
