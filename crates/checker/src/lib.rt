@@ -169,14 +169,12 @@ fn with_terms(
 {
     let script = request.script;
     let begun = first_state(script, &parts.kinds, &parts.starts, parts.kids);
-    let l = to_arrays(parts.kinds, parts.starts, begun);
-    let mut sets = l.sets;
-    let mut numbers = l.numbers;
-    if let Err(first_no) = run_list(script, &mut sets, &mut numbers, request.moves, parts.count) {
+    let mut lent = to_arrays(parts.kinds, parts.starts, begun);
+    if let Err(first_no) = run_list(script, &mut lent, request.moves, parts.count) {
         return refused(first_no, first_no.place, 0);
     }
-    let top = sets[TOP];
-    let after = from_arrays(&sets, &numbers, top);
+    let top = lent.sets[TOP];
+    let after = from_arrays(&lent, top);
     let mut found: [u32; 256] = [0; 256];
     let led = walk_standing(request, parts, &after.state, table, &mut found);
     conclude(
