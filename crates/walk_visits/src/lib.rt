@@ -1,5 +1,5 @@
 // The walk of a rule over the process that a state represents (document 01, "The rule and its walk"): a visit at each
-// word met. A state is lent as one struct of two arrays, and made only where a move or PLACED changes it.
+// word met. A state is lent as `StateArrays`, and made only where a move or PLACED changes it.
 #![tactic(auto)]
 
 ghost use Rattle.std.specs.Prelude.{◌+◌, ◌-◌, ◌≤◌, ◌<◌};
