@@ -34,9 +34,11 @@ unfoldable pub asked_of : Reading (Unit {0}) → Result (Unit {0}) Refusal
 asked_of (refuse q i) = Err (record { question = q; place = i })
 asked_of (got u) = Ok u
 
--- "The first no ends the call with its number and place": a reader's refusal as the call's answer, before any move
-abbrev pub refused_by : Refusal → (buffer : List ℕ) → plain.Answer
-refused_by r b = plain.refusal r.question r.place 0 0 b
+-- "The first no ends the call with its number and place": a reader's refusal as the call's answer, before any move; what is
+-- read to its end is refused by no question, 0
+unfoldable pub refused_by : Result ℕ Refusal → (buffer : List ℕ) → plain.Answer
+refused_by (Err r) b = plain.refusal r.question r.place 0 0 b
+refused_by (Ok n) b = plain.refusal 0 0 0 0 b
 
 -- an answer that is a refusal, whatever the buffer, and counts no move of an itinerary
 pub record Refusing (a : Answer) (refused : (buffer : List ℕ) → plain.Answer) : Type 0 where

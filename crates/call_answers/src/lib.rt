@@ -52,11 +52,22 @@ pub fn refused(first_no: Refusal, moves: usize, visits: u32) -> Answer
     }
 }
 
-// A reader's refusal, handed up as the call's: no move is made, and no visit.
-pub fn handed_up(first_no: Refusal) -> Answer
-    ensures { Refusing result (refused_by first_no) }
+// A reader's refusal, handed up as the call's: no move is made, and no visit. What was read to its end is no refusal, and
+// would be told as one by no question.
+pub fn handed_up(outcome: Result<usize, Refusal>) -> Answer
+    ensures { Refusing result (refused_by outcome) }
 {
-    refused(first_no, 0, 0)
+    match outcome {
+        Err(first_no) => refused(first_no, 0, 0),
+        Ok(_) => refused(
+            Refusal {
+                question: 0,
+                place: 0,
+            },
+            0,
+            0,
+        ),
+    }
 }
 
 // Yes or no.

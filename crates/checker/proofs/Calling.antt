@@ -26,7 +26,7 @@ use Rattle.theory_call.specs.Call as plain
 use Rattle.theory_call.specs.Call.{Call, refusal, start_of, asking, terms, door, answer}
 use Rattle.theory_call.specs.ClosureCall.{ClosureRan, halted, completed, closure_run, begun}
 use Rattle.call_lists.specs.Running.{Ended, ended_of, made_of, Left, Runs, Runnable, ListRan}
-use Rattle.call_answers.specs.Answering.{Refusing, refused_by, call_of, CallGives}
+use Rattle.call_answers.specs.Answering.{Refusing, call_of, CallGives}
 use Rattle.call_answers.specs.declared.Answer.{Answer}
 use Rattle.call_answers.proofs.Terms.{Asked, ok≢err, asked-refused}
 use Rattle.call_answers.proofs.Refusals.{gives-refusal}
@@ -72,7 +72,7 @@ module _ {script : List ℕ} {t : Table} (H : ScriptHeld script t) (words : List
     c = call_of script moves words patience buffer list
 
     abbrev refused-so : plain.Answer
-    refused-so = refused_by r buffer
+    refused-so = refusal r.question r.place 0 0 buffer
 
     pub says-rule : read_whole_rule t.count words ≡ refuse r.question r.place → answer c ≡ refused-so
     says-rule e = answers-door c H.read H.reads r.question r.place (door-unread c (start_of script H.read) r.question r.place (reads-rule (refuse r.question r.place) e))

@@ -201,7 +201,7 @@ fn with_rule(
     ensures { CallGives (call_by request.now out.old list.old) result out.new list.new }
 {
     match ask_terms(request.patience, request.moves.len(), list.len()) {
-        Err(first_no) => handed_up(first_no),
+        Err(first_no) => handed_up(Err(first_no)),
         Ok(()) => with_terms(request, parts, table, out, list),
     }
 }
@@ -212,7 +212,7 @@ fn with_script(request: &Request, parts: &Table, out: &mut [u32], list: &mut [u3
     ensures { CallGives (call_by request.now out.old list.old) result out.new list.new }
 {
     match read_whole_rule(request.rule, parts.count) {
-        Err(first_no) => handed_up(first_no),
+        Err(first_no) => handed_up(Err(first_no)),
         Ok(table) => with_rule(request, parts, table, out, list),
     }
 }
@@ -243,7 +243,7 @@ pub fn call(
         patience,
     };
     match read_script(script) {
-        Err(first_no) => handed_up(first_no),
+        Err(first_no) => handed_up(Err(first_no)),
         Ok(parts) => with_script(&request, &parts, out, list),
     }
 }

@@ -1,7 +1,7 @@
 -- `call` meets its contract: questions 1 to 6, and what is promised of the answer. Assumes nothing.
 use Rattle.theory_call.proofs.Called.{answers-script}
 use Rattle.call_answers.specs.Answering.{call_of, CallGives}
-use Rattle.call_answers.proofs.Refusals.{gives-refusal}
+use Rattle.call_answers.proofs.Refusals.{handed}
 use Rattle.read_scripts.proofs.Tabled.{script-refuses}
 use Rattle.checker.proofs.Calling.{script-held}
 use Rattle.checker.proofs.Concluding.{call_kept}
@@ -12,7 +12,7 @@ pub returns-in-Err : goal.returns-in-Err
 returns-in-Err c =
     let x = c.args in
     let asked = call_of x.script.now x.moves.now x.rule.now x.patience x.out.now x.list.now in
-    let gives : CallGives asked c.handed_up.result x.out.now x.list.now = search (gives-refusal, answers-script, script-refuses, rules) in
+    let gives : CallGives asked c.handed_up.result x.out.now x.list.now = search (handed, answers-script, script-refuses, rules) in
     let k = call_kept asked c.handed_up.result x.out.now x.list.now gives in
     record {
       answered = k.0;
