@@ -17,7 +17,8 @@ const MOST_MOVES: usize = 4096;
 
 const LEAST_LIST: usize = 256;
 
-// Yes or no, or the question that refuses the call, and its place. A verdict is one of three, so it stays an enum of its own.
+// Yes or no, or the question that refuses the call, and its place. Three cases, as the definition has them
+// (verdict_of): as a Result of yes or no it would read no plainer.
 #[derive(Clone, Copy)]
 pub enum Verdict {
     Yes,

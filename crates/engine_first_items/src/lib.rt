@@ -59,6 +59,7 @@ pub fn first_item(script: &[u32], at: usize, offset: u32, bindings: &[Binding]) 
         ahead: offset,
         bindings,
     };
+    // No index is counted here: at a variable the search goes on in another message, so no iterator of words says where it goes.
     while 0 < s.pending {
         let m = first_word(s.words);
         if let Some(k) = bound(m, s.bindings) {

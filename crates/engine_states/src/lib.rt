@@ -34,8 +34,8 @@ pub const RECEIVE: u8 = 4;
 
 // What is kept of the parts: the set of those that have a name, and their names; what each does first, its act, and the set
 // of the parts to which that can be done; the set of those that settling has to do with.
-// Kinds and acts are numbers and no enums: a state is lent as two arrays of numbers (engine_state_arrays), of which they are
-// entries.
+// Kinds and acts are numbers and no enums, and each stands in an array and no row: a state is lent as two arrays of numbers
+// (engine_state_arrays: Small, state_in), of which these are stretches.
 #[derive(Clone, Copy)]
 pub struct PartNotes {
     pub named: u64,

@@ -44,6 +44,7 @@ pub fn visit(walk: &Walk, lent: &StateArrays, chosen: &[u32; 256], spot: Spot, c
     let n = next_count(c, left);
     let mut below = spot;
     below.left = left - 1;
+    // Document 01 names this form: a match over the ten kinds, the rest refused as a range.
     match kind {
         0 => Walked::Yes(n),
         1 => negation(walk, lent, chosen, below, n),

@@ -54,7 +54,8 @@ pub fn write_word(w: u32, out: &mut [u32]) -> usize
     1
 }
 
-// The word of VAR for the variable of a receipt: its new index.
+// The word of VAR for the variable of a receipt: its new index. By a for: behind the library's find the proof lacked what was
+// found.
 fn variable_word(v: u32, receipts: &[Receipt]) -> u32
     requires { Indexed receipts.now }
     ensures { result ≡ word 9 (new_index (indices_in receipts.now) v) }
