@@ -20,7 +20,9 @@ pub struct Led {
     pub count: usize,
 }
 
-// A visit at SOMETIME up to its first move: its stop, or what the visit of the inner rule answers.
+// A visit at SOMETIME up to its first move: its stop, or what the visit of the inner rule answers. It stays a call: with it
+// inlined, `lead` clears the room for its copy of the state at each visit, though the copy is written over it.
+#[inline(never)]
 fn begin(walk: &Walk, lent: &StateArrays, chosen: &[u32; 256], spot: Spot, c: Counts) -> Walked
     requires { (spot.left ≤ 256) × Visitable walk.now.script.now lent.now.sets lent.now.numbers spot.top spot.somes walk.now.limits }
     ensures { Begins walk.now.program.now walk.now.script.now lent.now.sets lent.now.numbers chosen.now spot.top spot.somes spot.left spot.at walk.now.limits c result }
