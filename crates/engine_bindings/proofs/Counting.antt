@@ -4,25 +4,29 @@ use Prim.Native.Nat.{ℕ, zero, suc, ◌+◌, ◌-◌, ◌*◌, ◌^◌, ◌≤�
 use mathlib.Core.List.{List, [], ◌∷◌, ◌++◌}
 use mathlib.Core.Path.{◌≡◌, refl, sym, ap, ◌∙◌}
 use native.Mathlib.Omega.{arith}
+use lib.Dec.{eqb}
 use lib.ListN.{length, drop, length-append, length-drop}
 use lib.Seq.{drop-drop, drop-nil, drop-append-le, drop-append-add, get_or-drop}
 use Rattle.read_messages.specs.Message.{Message, items, asks, first_item}
 use Rattle.read_messages.specs.Spelling.{spelled, message_at}
 use Rattle.read_messages.specs.declared.MessageWord.{MessageWord}
+use Rattle.read_messages.specs.declared.MessageWord.TheVariants.{Name, Variable, Enter, Exit, Open, Empty, Path, Unfit}
 use Rattle.read_messages.specs.declared.First.TheVariants.{Nothing}
+use Rattle.base_slices.proofs.Tests.{by_test}
 use Rattle.base_slices.proofs.Capping.{capped-sum, below-count, whole-count}
 use Rattle.theory_closures.specs.Resolve.{resolve}
 use Rattle.engine_bindings.specs.Bindings.{bindings_in, binding_message}
 use Rattle.base_slices.specs.Sums.{capped}
-use Rattle.engine_bindings.specs.Measures.{Kept, Counted}
-use Rattle.engine_message_words.specs.Words.{binding_at, first_word, shape_of, bound_at}
+use Rattle.engine_bindings.specs.Measures.{Kept, Counted, with_sources}
+use Rattle.engine_message_words.specs.Words.{binding_at, first_word, shape_of, bound_at, newest_binding}
 use Rattle.engine_message_words.specs.declared.Binding.{Binding}
 use Rattle.engine_message_words.specs.declared.Shape.{Shape}
-use Rattle.std.specs.Prelude.{Some, None}
+use Rattle.std.specs.Prelude.{Some, None, option_map}
 use Rattle.engine_bindings.specs.Passes.{firsts, all_items, own_items, Passed}
 use Rattle.engine_bindings.specs.declared.Behind.{Behind}
 use Rattle.engine_bindings.proofs.Bindings.{binding-message-next}
 use Rattle.engine_message_words.proofs.FirstWords.{items-small}
+use Rattle.engine_message_words.proofs.Variables.{newest-hit, newest-miss}
 use Rattle.engine_bindings.proofs.Passing.{one-message, first-bound, Free, unbound-free, own-free, given-items}
 
 -- numbers of items
@@ -70,6 +74,57 @@ module _ (script words : List ℕ) (bs : List Binding) (m : MessageWord) (first 
   pub count-unbound : None ≡ bound_at m bs → (f : Shape) → f ≡ shape_of m → f.items ≡ capped (length (own_items (bindings_in script bs) words))
   count-unbound looked f e = rw (e, first) (capped-shape _ words (unbound-free script bs _ (first-bound words bs first looked)))
 
+-- other sources leave how many bindings there are, whose they are and what is counted
+
+length-sources : (ss : List ℕ) (bs : List Binding) → length (with_sources ss bs) ≡ length bs
+unfolding with_sources
+length-sources [] bs = refl
+length-sources (s ∷ ss) [] = refl
+length-sources (s ∷ ss) (b ∷ bs) = ap suc (length-sources ss bs)
+
+count-sources : (ss : List ℕ) (bs : List Binding) (k : ℕ) → (binding_at (with_sources ss bs) k).count ≡ (binding_at bs k).count
+unfolding with_sources
+count-sources [] bs k = refl
+count-sources (s ∷ ss) [] k = refl
+count-sources (s ∷ ss) (b ∷ bs) zero = refl
+count-sources (s ∷ ss) (b ∷ bs) (suc k) = count-sources ss bs k
+
+newest-sources : (ss : List ℕ) (bs : List Binding) (u : ℕ) → newest_binding (with_sources ss bs) u ≡ newest_binding bs u
+unfolding with_sources
+newest-sources [] bs u = refl
+newest-sources (s ∷ ss) [] u = refl
+newest-sources (s ∷ ss) (b ∷ bs) u =
+    by_test (eqb u b.variable) (λ e. newest-hit _ u (with_sources ss bs) e ∙ sym (newest-hit b u bs e))
+    (λ e. newest-miss _ u (with_sources ss bs) e ∙ ap (option_map suc) (newest-sources ss bs u) ∙ sym (newest-miss b u bs e))
+
+bound-sources : (ss : List ℕ) (bs : List Binding) (m : MessageWord) → bound_at m (with_sources ss bs) ≡ bound_at m bs
+unfolding bound_at
+bound-sources ss bs (Name n) = refl
+bound-sources ss bs (Variable v) = newest-sources ss bs v
+bound-sources ss bs Enter = refl
+bound-sources ss bs Exit = refl
+bound-sources ss bs Open = refl
+bound-sources ss bs Empty = refl
+bound-sources ss bs Path = refl
+bound-sources ss bs Unfit = refl
+
+-- so that a word's own items are counted whatever the sources are
+module _ (script sources words : List ℕ) (bs : List Binding) (m : MessageWord) (first : m ≡ first_word words) where
+  pub own-bound : Counted script (with_sources sources bs) → (k : ℕ) → k < length bs → Some k ≡ bound_at m bs → (binding_at bs k).count ≡ capped (length (own_items (bindings_in script (with_sources sources bs)) words))
+  own-bound ok k h looked =
+      sym (count-sources sources bs k) ∙ count-bound script words (with_sources sources bs) m first ok k (omega (arith, length-sources sources bs)) (looked ∙ sym (bound-sources sources bs m))
+
+  pub own-unbound : None ≡ bound_at m bs → (f : Shape) → f ≡ shape_of m → f.items ≡ capped (length (own_items (bindings_in script (with_sources sources bs)) words))
+  own-unbound looked = count-unbound script words (with_sources sources bs) m first (looked ∙ sym (bound-sources sources bs m))
+
+-- what is said of the number of a word's own items, with the bindings' own sources
+abbrev pub OwnCount : (c : ℕ) (bs : List Binding) (words : List ℕ) → Type 0
+OwnCount c bs words = (script : List ℕ) → Counted script bs → c ≡ capped (length (own_items (bindings_in script bs) words))
+
+pub own-count : (c : ℕ) (bs : List Binding) (words : List ℕ) → ((script sources : List ℕ) → Counted script (with_sources sources bs) → c ≡ capped (length (own_items (bindings_in script (with_sources sources bs)) words))) → OwnCount c bs words
+unfolding with_sources
+own-count c bs words count script = count script []
+
 -- of messages: the first word's own, and those behind them
 pub count-sum : (words ws : List ℕ) (p : ℕ) (b : Behind) → Passed words p b → ws ≡ drop b.used words → (script : List ℕ) (bs : List Binding) → Counted script bs → (o r t : ℕ)
     → ((script : List ℕ) → Counted script bs → o ≡ capped (length (own_items (bindings_in script bs) words)))
@@ -111,10 +166,6 @@ item-here x a b o c e p h =
 pub item-only : (x : List Message) (m : Message) → x ≡ m ∷ [] → first_item x ≡ asks m
 unfolding first_item
 item-only x m e = rw e
-
--- what is said of the number of a word's own items
-abbrev pub OwnCount : (c : ℕ) (bs : List Binding) (words : List ℕ) → Type 0
-OwnCount c bs words = (script : List ℕ) → Counted script bs → c ≡ capped (length (own_items (bindings_in script bs) words))
 
 pub own-within : (c o : ℕ) (script : List ℕ) (bs : List Binding) (words : List ℕ) → OwnCount c bs words → Counted script bs → o < c → o < length (own_items (bindings_in script bs) words)
 own-within c o script bs words count ok h = below-count _ _ _ (count script ok) h

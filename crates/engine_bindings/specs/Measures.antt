@@ -1,6 +1,6 @@
 -- What is kept with the bindings: a count of each message, taken when it was bound, as of its items. The counts stop at
 -- 2^32 - 1. Assumes nothing: these are definitions.
-use Rattle.std.specs.Prelude.{ℕ, ◌<◌, List, ◌≡◌, length}
+use Rattle.std.specs.Prelude.{ℕ, ◌<◌, List, [], ◌∷◌, ◌≡◌, length}
 use Rattle.read_messages.specs.Message.{Message, items}
 use Rattle.base_slices.specs.Sums.{capped}
 use Rattle.engine_message_words.specs.Words.{binding_at}
@@ -17,3 +17,10 @@ pub record Kept (count : Message → ℕ) (value : Binding → ℕ) (script : Li
 -- the number of items is kept with each binding
 abbrev pub Counted : (script : List ℕ) → List Binding → Type 0
 Counted script bs = Kept item_count (λ (b : Binding). b.count) script bs
+
+-- The same bindings with other sources, one for each as long as there are sources: what is kept of the numbers of items fits the
+-- messages at any of these, and the bindings' own are only one choice.
+unfoldable pub with_sources : (sources : List ℕ) → List Binding → List Binding
+with_sources [] bs = bs
+with_sources (s ∷ ss) [] = []
+with_sources (s ∷ ss) (b ∷ bs) = record { variable = b.variable; source = s; count = b.count; size = b.size; bulk = b.bulk } ∷ with_sources ss bs

@@ -10,7 +10,7 @@ ghost use Rattle.read_messages.specs.Spelling.{spelled, message_at};
 ghost use Rattle.theory_closures.specs.Resolve.{resolve};
 ghost use Rattle.engine_bindings.specs.Bindings.{bindings_in, message_of};
 ghost use Rattle.base_slices.specs.Sums.{capped};
-ghost use Rattle.engine_bindings.specs.Measures.{Counted};
+ghost use Rattle.engine_bindings.specs.Measures.{Counted, with_sources};
 ghost use Rattle.engine_bindings.specs.Passes.{firsts, all_items, own_items, Skipped, Passed};
 ghost use Rattle.engine_bindings.specs.Asked.{AfterOwnAsked};
 
@@ -63,9 +63,9 @@ fn skip(words: &[u32], pending: usize) -> usize
     skip(tail(words, 1), pending - 1 + a) + 1
 }
 
-// The number of items that the first of the words has of its own.
+// The number of items that the first of the words has of its own, whatever sources the bindings have that the counts fit.
 pub fn own(words: &[u32], bindings: &[Binding]) -> u32
-    ensures { (script : List ℕ) → Counted script bindings.now → result ≡ capped (length (own_items (bindings_in script bindings.now) words.now)) }
+    ensures { (script sources : List ℕ) → Counted script (with_sources sources bindings.now) → result ≡ capped (length (own_items (bindings_in script (with_sources sources bindings.now)) words.now)) }
 {
     let m = first_word(words);
     match bound(m, bindings) {

@@ -4,7 +4,7 @@ use Prim.Native.Nat.{◌+◌}
 use borrow.Author.Rules.{rules}
 use Rattle.std.proofs.lemmas.List.{take_rest}
 use Rattle.engine_bindings.proofs.Passing.{none-pending, behind-room, part_room}
-use Rattle.engine_bindings.proofs.Counting.{own-within, rank-own, rank-behind}
+use Rattle.engine_bindings.proofs.Counting.{own-count, own-within, rank-own, rank-behind}
 use Rattle.engine_held_bindings.proofs.Sizing.{bulk-none, bulk-past, bulk-within, bulk-kept, bulk-older, bulk-single, cached-drop, rank-given}
 use Rattle.engine_held_bindings.proofs.+bulk_from_own_bulk.Goals as goal
 
@@ -15,16 +15,16 @@ pub bulk_from-bulk_from-requires : goal.bulk_from-bulk_from-requires
 bulk_from-bulk_from-requires t c = (search (rank-behind, rules), record { room = search (behind-room, rules); cached = search rules; below = search rules })
 
 pub bulk_from-returns-then-o-offset : goal.bulk_from-returns-then-o-offset
-bulk_from-returns-then-o-offset t c = search (bulk-past, c.requires.cached.counted, rules)
+bulk_from-returns-then-o-offset t c = search (bulk-past, own-count, c.requires.cached.counted, rules)
 
 pub bulk_from-own_bulk-requires : goal.bulk_from-own_bulk-requires
-bulk_from-own_bulk-requires t c = search (rank-own, own-within, rules)
+bulk_from-own_bulk-requires t c = search (rank-own, own-within, own-count, rules)
 
 pub bulk_from-bulk_from-requires-2 : goal.bulk_from-bulk_from-requires-2
 bulk_from-bulk_from-requires-2 t c = (search (rank-behind, rules), record { room = search (behind-room, rules); cached = search rules; below = search rules })
 
 pub bulk_from-returns : goal.bulk_from-returns
-bulk_from-returns t c = search (bulk-within, c.requires.cached.counted, rules)
+bulk_from-returns t c = search (bulk-within, own-count, c.requires.cached.counted, rules)
 
 pub own_bulk-returns-in_default : goal.own_bulk-returns-in_default
 own_bulk-returns-in_default t c = search (bulk-single, rules)

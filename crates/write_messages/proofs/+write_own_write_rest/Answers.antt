@@ -14,7 +14,7 @@ use Rattle.engine_bindings.specs.Bindings.{bindings_in}
 use Rattle.engine_bindings.specs.declared.Behind.{Behind}
 use Rattle.engine_bindings.specs.Passes.{Passed, firsts, all_items, own_items}
 use Rattle.engine_bindings.proofs.Passing.{none-pending, first-bound, unbound-free, single, given-own, part_room, older-less}
-use Rattle.engine_bindings.proofs.Counting.{kept-drop, drop_past, OwnCount, own-within, rank-own, rank-behind, rank-older}
+use Rattle.engine_bindings.proofs.Counting.{kept-drop, drop_past, OwnCount, own-count, own-within, rank-own, rank-behind, rank-older}
 use Rattle.theory_written_trees.specs.Write.{Indices}
 use Rattle.write_messages.specs.declared.Receipt.{Receipt}
 use Rattle.write_messages.specs.Indices.{indices_in}
@@ -86,14 +86,14 @@ write_rest-write_rest-requires t c = (search (rank-behind, rules), search (past-
 
 pub write_rest-returns-then-o-offset : goal.write_rest-returns-then-o-offset
 write_rest-returns-then-o-offset t c =
-    past-wrote _ _ _ _ _ _ _ _ _ c.requires c.after_own-b.ensures c.tail-behind.ensures _ c.own-o.ensures _ _ _ _ c.write_rest.ensures c.if-o-offset.true
+    past-wrote _ _ _ _ _ _ _ _ _ c.requires c.after_own-b.ensures c.tail-behind.ensures _ (own-count _ _ _ c.own-o.ensures) _ _ _ _ c.write_rest.ensures c.if-o-offset.true
 
 pub write_rest-write_own-m-requires : goal.write_rest-write_own-m-requires
-write_rest-write_own-m-requires t c = (search (rank-own, rules), record { asked = search rules; within = search (own-within, rules) })
+write_rest-write_own-m-requires t c = (search (rank-own, rules), record { asked = search rules; within = search (own-within, own-count, rules) })
 
 pub write_rest-write_rest-requires-2 : goal.write_rest-write_rest-requires-2
 write_rest-write_rest-requires-2 t c = (search (rank-behind, rules), search (behind-asked, rules))
 
 pub write_rest-returns : goal.write_rest-returns
 write_rest-returns t c =
-    behind-wrote _ _ _ _ _ _ _ _ _ c.requires c.after_own-b.ensures c.tail-behind.ensures _ c.own-o.ensures _ _ _ _ _ _ _ c.write_own-m.ensures c.write_rest-2.ensures (omega arith) c.if-o-offset.false c.saturating_sub-next.ensures
+    behind-wrote _ _ _ _ _ _ _ _ _ c.requires c.after_own-b.ensures c.tail-behind.ensures _ (own-count _ _ _ c.own-o.ensures) _ _ _ _ _ _ _ c.write_own-m.ensures c.write_rest-2.ensures (omega arith) c.if-o-offset.false c.saturating_sub-next.ensures
