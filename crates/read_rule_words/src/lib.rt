@@ -123,7 +123,7 @@ pub fn ask_rule(w: u32, place: usize, around: usize, somes: &[u16]) -> Result<Ru
         AT => ask_term(w, place, around, somes, RuleShape::One),
         6 => ask_plain(w, place, around, n + 1, RuleShape::Choice),
         PLACED => ask_term(w, place, around, somes, RuleShape::Place),
-        _ => Err(Refusal { question: 8, place }),
+        10.. => Err(Refusal { question: 8, place }),
     }
 }
 

@@ -41,5 +41,5 @@ greatest_name (w ∷ ws) = cond (eqb (kind w) 8) (max (operand w) (greatest_name
 
 -- To unfold this is to unfold every definition of this module: for a proof by computation.
 unfoldable pub computing : Unit {0}
-unfolding part_word part_fits asked_part greatest_name
+unfolding part_word part_fits asked_part script_name greatest_name
 computing = tt
