@@ -26,9 +26,9 @@ get_or-stretch i (suc n) zero l m = ap (λ (x : ℕ). get_or l x 0) (let e : i �
 get_or-stretch i (suc n) (suc j) l m = get_or-stretch (suc i) n j l (omega arith) ∙ ap (λ (x : ℕ). get_or l x 0) (let e : suc i + j ≡ i + suc j = omega arith in e)
 
 -- the first n elements of what stands from an index on
-pub stretch-is : {A : Type 0} (d : A) (at n : ℕ) (l r : List A) → at + n ≤ length l → r ≡ take n (take (length l - at) (drop at l)) → r ≡ stretch_or d at n l
+pub stretch_is : {A : Type 0} (d : A) (at n : ℕ) (l r : List A) → at + n ≤ length l → r ≡ take n (take (length l - at) (drop at l)) → r ≡ stretch_or d at n l
 unfolding stretch_or
-stretch-is {A = A} d at n l r m e = e ∙ ap (take n) (take_all (length l - at) (drop at l) (omega (arith, length-drop at l))) ∙ go n at m
+stretch_is {A = A} d at n l r m e = e ∙ ap (take n) (take_all (length l - at) (drop at l) (omega (arith, length-drop at l))) ∙ go n at m
   where
     go : (n at : ℕ) → at + n ≤ length l → take n (drop at l) ≡ stretch_or d at n l
     go zero at m = refl

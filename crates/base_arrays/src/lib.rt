@@ -16,6 +16,7 @@ pub fn put<T: Copy, const N: usize>(to: &mut [T; N], at: usize, from: &[T])
 }
 
 // The M elements from the index at on.
+#[tactic(auto, using(crate::proofs::Copying::stretch_is))]
 pub fn stretch<T: Copy, const N: usize, const M: usize>(from: &[T; N], at: usize) -> [T; M]
     requires { at + M ≤ N }
     ensures { (d : T) → result ≡ stretch_or d at M from.now }

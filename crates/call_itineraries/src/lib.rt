@@ -16,6 +16,7 @@ pub fn with_itinerary(a: Answer, count: usize, moves: &[u32; 256], list: &mut [u
             list[..count].copy_from_slice(&moves[..count]);
             Answer { count, ..a }
         }
-        Verdict::No | Verdict::Refused(_) => Answer { count: 0, ..a },
+        Verdict::No => Answer { count: 0, ..a },
+        Verdict::Refused(_) => Answer { count: 0, ..a },
     }
 }
