@@ -18,8 +18,8 @@ pub record Kept (count : Message → ℕ) (value : Binding → ℕ) (script : Li
 abbrev pub Counted : (script : List ℕ) → List Binding → Type 0
 Counted script bs = Kept item_count (λ (b : Binding). b.count) script bs
 
--- The same bindings with other sources, one for each as long as there are sources: what is kept of the numbers of items fits the
--- messages at any of these, and the bindings' own are only one choice.
+-- The same bindings with other sources, one for each as long as there are sources. Counts may fit the messages at some of these
+-- and not at others.
 unfoldable pub with_sources : (sources : List ℕ) → List Binding → List Binding
 with_sources [] bs = bs
 with_sources (s ∷ ss) [] = []

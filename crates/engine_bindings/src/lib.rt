@@ -63,7 +63,7 @@ fn skip(words: &[u32], pending: usize) -> usize
     skip(tail(words, 1), pending - 1 + a) + 1
 }
 
-// The number of items that the first of the words has of its own, whatever sources the bindings have that the counts fit.
+// The number of items that the first of the words has of its own, for any sources of the bindings that the counts fit.
 pub fn own(words: &[u32], bindings: &[Binding]) -> u32
     ensures { (script sources : List ℕ) → Counted script (with_sources sources bindings.now) → result ≡ capped (length (own_items (bindings_in script (with_sources sources bindings.now)) words.now)) }
 {
